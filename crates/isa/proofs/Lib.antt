@@ -1,0 +1,4 @@
+pub mod Arms
+pub mod Exact
+pub mod List
+pub mod RoundTrip

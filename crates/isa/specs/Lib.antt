@@ -1,0 +1,5 @@
+pub mod Code
+pub mod Fetching
+pub mod Reading
+pub mod Timing
+pub mod Writing

@@ -1,0 +1,447 @@
+"""Plain checks of the reference model against document 01's examples, and cases of
+our own for the trickier rules. Prints 'N checks passed'."""
+
+import random
+from dataclasses import fields, replace
+
+import isa_table as isa
+import reference as ref
+from isa_table import Refused
+from reference import Options
+
+checks = 0
+
+
+def same(got, want, what):
+    global checks
+    assert got == want, f'{what}: got {got!r}, want {want!r}'
+    checks += 1
+
+
+def hold(what, m, **want):
+    for field, value in want.items():
+        same(getattr(m, field), value, f'{what}: {field}')
+
+
+def mask(*parts, fill=0x3E):
+    """A mask of NOPs with hex text at addresses: mask((0, '75 30'), ...)."""
+    image = bytearray([fill] * 4096)
+    for address, text in parts:
+        for k, byte in enumerate(bytes.fromhex(text)):
+            image[(address + k) % 4096] = byte
+    return bytes(image)
+
+
+OPTIONS = Options(rate=13, commons=4, wake_pm=0, wake_ps=0, wake_pp=0)
+
+
+def machine(options=OPTIONS, **values):
+    """A powered-on machine with some fields set."""
+    return replace(ref.power_on(options, [0] * 166), **values)
+
+
+def one(text, at=0, m=None, **values):
+    """One step of hex text at an address."""
+    m = m or machine(**values)
+    return ref.step(mask((at, text)), replace(m, pc=at))
+
+
+# --- Instruction table ------------------------------------------------------
+
+def test_table():
+    same(len(isa.TABLE), 73, 'lines of the summary')
+    same([b for b in range(256) if isa.BY_FIRST[b] is None], [0x35], 'first bytes without a code')
+    same(isa.LENGTH_CYCLES[0x35], (0, 0), 'length and cycles of 35h')
+    # Each code fits itself alone, and write undoes read on all 65,536 byte pairs.
+    unread = 0
+    for first in range(256):
+        for second in range(256):
+            i = isa.read(first, second)
+            if i is None:
+                unread += 1
+                continue
+            both = bytes([first, second])
+            assert isa.write(i) == both[:i.code.length]
+    # 35h: 256; HALT: 255; 40-46h, 5dh, 6dh: 240 each.
+    same(unread, 256 + 255 + (7 + 32) * 240, 'unreadable byte pairs')
+    same(isa.line(0x40, 0x0F), '40 0F ADD A,FH 2 2 40 0F', 'ADD A')
+    same(isa.line(0x40, 0x10), '40 10 unreadable 2 2 -', 'ADD A, second byte 10h')
+    same(isa.line(0x35, 0x00), '35 00 unreadable 0 0 -', '35h')
+    same(isa.line(0x37, 0x3E), '37 3E HALT 2 2 37 3E', 'HALT')
+    same(isa.line(0x37, 0x0F), '37 0F unreadable 2 2 -', 'HALT, second byte 0Fh')
+    same(isa.line(0x53, 0x0F), '53 0F MOV R1R0,F3H 2 2 53 0F', 'MOV R1R0')
+    same(isa.line(0x16, 0xFF), '16 FF INC R3 1 1 16', 'INC R3')
+    same(isa.line(0x9F, 0xFF), '9F FF JA3 7FFH 2 2 9F FF', 'JA3')
+    same(isa.line(0xD8, 0x0F), 'D8 0F JNZ R4,00FH 2 2 D8 0F', 'JNZ R4')
+    same(isa.line(0xE1, 0xFF), 'E1 FF JMP 1FFH 2 2 E1 FF', 'JMP')
+    same(isa.line(0x4C, 0x00), '4C 00 READ R4A 1 2 4C', 'READ R4A')
+    same(isa.line(0x34, 0x00), '34 00 IN A,PP 1 1 34', 'IN A,PP')
+    same(isa.line(0x45, 0x0F), '45 0F SOUND FH 2 2 45 0F', 'SOUND n')
+    same(isa.line(0x47, 0x3E), '47 3E TIMER 3EH 2 2 47 3E', 'TIMER XXH')
+    inc_rn, jump = isa.BY_FIRST[0x10], isa.BY_FIRST[0xE0]
+    same(isa.write(isa.Instruction(inc_rn, (5,))), Refused(3), 'INC R5')
+    same(isa.write(isa.Instruction(jump, (4096,))), Refused(3), 'JMP 4096')
+    same(isa.write(isa.Instruction(jump, (4095,))), b'\xEF\xFF', 'JMP 4095')
+    # Document 01's own list of codes.
+    seen = {
+        '04': 'MOV A,[R1R0]', '05': 'MOV [R1R0],A', '06': 'MOV A,[R3R2]', '07': 'MOV [R3R2],A',
+        '08': 'ADC A,[R1R0]', '09': 'ADD A,[R1R0]', '0D': 'DEC [R1R0]', '0F': 'DEC [R3R2]',
+        '19': 'DEC R4', '1A': 'AND A,[R1R0]', '1C': 'OR A,[R1R0]', '1D': 'AND [R1R0],A',
+        '1F': 'OR [R1R0],A', '28': 'MOV R4,A', '29': 'MOV A,R4', '2A': 'CLC', '30': 'OUT PA,A',
+        '36': 'DAA', '3A': 'MOV A,TMRL', '3B': 'MOV A,TMRH', '3C': 'MOV TMRL,A',
+        '3D': 'MOV TMRH,A', '3E': 'NOP', '3F': 'DEC A', '40': 'ADD A,7H', '42': 'AND A,7H',
+        '44': 'OR A,7H', '46': 'MOV R4,7H', '4C': 'READ R4A', '4E': 'READ MR0A',
+        '52': 'MOV R1R0,72H', '62': 'MOV R3R2,72H', '72': 'MOV A,2H', 'A0': 'JNZ R0,007H',
+        'A8': 'JNZ R1,007H', 'B0': 'JZ A,007H', 'B8': 'JNZ A,007H', 'D0': 'JTMR 007H',
+        'D8': 'JNZ R4,007H', 'F0': 'CALL 007H', 'FF': 'CALL F07H',
+    }
+    for first, reading in seen.items():
+        same(isa.text(isa.read(int(first, 16), 7)), reading, f'code {first}')
+
+
+# --- Proved table -----------------------------------------------------------
+
+def test_proved_table():
+    hold('ADD 9+8', one('40 08', acc=9), acc=1, cf=1)
+    hold('ADC 15+15+1', one('08', acc=15, cf=1, data=[15] * 160), acc=15, cf=1)
+    hold('DAA 4 with CF 1', one('36', acc=4, cf=1), acc=10, cf=1)
+    hold('DAA 9 with CF 0', one('36', acc=9), acc=9, cf=0)
+    hold('DEC A of 0', one('3F'), acc=15, cf=0)
+    hold('Data address 80h', one('04', acc=7, r=[0, 8, 0, 0, 0], data=[15] * 160), acc=0)
+    hold('JZ at 7FEh', one('B0 10', at=0x7FE), pc=0x810)
+    hold('JZ at 7FDh', one('B0 10', at=0x7FD), pc=0x010)
+    m = replace(machine(), pc=0x1FF)
+    m = ref.step(mask((0x1FF, '4C'), (0x100, 'A1'), (0x200, 'B2')), m)
+    hold('READ R4A at 1FFh', m, r=[0, 0, 0, 0, 0xB], acc=2, pc=0x200, cycles=2)
+    m = machine(replace(OPTIONS, rate=2), running=1, timer=254)
+    m = ref.run(mask(), m, 2)
+    hold('Rate 2, two NOPs', m, timer=0, tf=1, cycles=2)
+    m = ref.step(mask(), machine(enable=1, held_edge=1, tf=1))
+    hold('Held edge with TF', m, pc=8, tf=1, held_edge=0, level=2, timer=0)
+    same(ref.checker(mask()), (bytes([1]) * 4096, 'passed'), 'all-3E mask')
+    same(ref.checker(mask((0, '40 15')))[1], (1, 0, 0), 'mask 40 15')
+    same(ref.checker(mask((0, 'F0 10')))[1], (2, 0, 1), 'mask F0 10')
+
+
+# --- Panel example ----------------------------------------------------------
+
+SCRIPT = bytes.fromhex('06 00 01 00 02 04 00 00 00 00  02 00 02 00 02 00')
+POWER_ON = SCRIPT[:10]
+RUN_2 = SCRIPT[10:]
+
+
+def refused(script, m=mask()):
+    return ref.panel(m, bytes.fromhex(script) if isinstance(script, str) else script)
+
+
+def test_panel():
+    same(ref.panel(mask((0, '75 30')), SCRIPT),
+         ['2C0010000000000000000000000F1000' + 64 * '0',
+          '2C001000020002000000000000051000' + 64 * '0'], 'panel example')
+    # Display nibbles, 4 and 3 commons: image filled with F.
+    for commons, shown in ((4, '0F'), (3, '07')):
+        script = bytes([6, 0, 1, 0, 2, commons, 0, 0, 0, 15])
+        same(ref.panel(mask(), script),
+             ['2C0010000000000000000000000F1000' + 32 * shown], f'{commons} commons')
+    # Halted: PC 2, 2 cycles, halted 1, display 0.
+    script = bytes([6, 0, 1, 0, 2, 4, 0, 0, 0, 15]) + RUN_2
+    same(ref.panel(mask((0, '37 3E')), script)[1],
+         '2C0010000200020000000001000F1000' + 64 * '0', 'halted report')
+    # Faulted: nothing else changes.
+    same(ref.panel(mask((0, '35')), SCRIPT)[1],
+         '2C0010000000000000000000010F1000' + 64 * '0', 'faulted report')
+
+
+# --- Refused inputs ---------------------------------------------------------
+
+def test_refusals():
+    m = machine()
+    same(ref.step(bytes(4095), m), Refused(1), 'mask of 4,095')
+    same(ref.run(bytes(4095), m, 0), Refused(1), 'Run with mask of 4,095')
+    same(ref.checker(bytes(4095)), Refused(1), 'checker, mask of 4,095')
+    same(ref.checker(bytes(4095), bytes(4097)), Refused(1), '1 before 2')
+    same(ref.panel(bytes(4095), b''), ['refused 1 at 0'], 'panel, mask of 4,095')
+    same(ref.panel(b'', b''), ['refused 1 at 0'], 'panel, both files missing')
+    same(ref.checker(mask(), bytes(4097)), Refused(2), 'marks of 4,097')
+    same(ref.report(m, bytes(47)), Refused(2), 'single report of 47')
+    same(ref.power_on(OPTIONS, [0] * 165), Refused(2), 'image of 165')
+    bad = replace(OPTIONS, rate=6)
+    same(ref.power_on(bad, [16] * 165), Refused(2), '2 before 3 and 4')
+    same(ref.power_on(bad, [0] * 165 + [16]), Refused(3), '3 before 4')
+    same(ref.power_on(bad, [0] * 166), Refused(4), 'rate 6')
+    same(ref.power_on(replace(OPTIONS, commons=2), [0] * 166), Refused(4), 'commons 2')
+    same(ref.power_on(replace(OPTIONS, rate=14), [0] * 166), Refused(4), 'rate 14')
+    same(ref.power_on(replace(OPTIONS, wake_pp=16), [0] * 166), Refused(4), 'wake nibble 16')
+    same(ref.event_pins(m, 16, 0, 0), Refused(3), 'PM 16')
+    same(ref.event_int(m, 2), Refused(3), 'INT 2')
+    broken = machine(pc=4096)
+    same(ref.step(mask(), broken), Refused(5), 'PC 4,096')
+    same(ref.event_pins(broken, 16, 0, 0), Refused(3), '3 before 5')
+    same(ref.event_power_on(broken, OPTIONS, [0] * 166), Refused(5), 'power-on over PC 4,096')
+    same(ref.event_power_on(broken, bad, [0] * 166), Refused(4), '4 before 5')
+    same(ref.event_res(machine(halted=1, fault=1)), Refused(5), 'halted with a fault')
+    same(ref.read_at(mask(), 4096), Refused(5), 'read at 4,096')
+    # Every field of the machine has a range.
+    limits = dict(acc=15, pc=4095, cf=1, tf=1, timer=255, running=1, enable=1, held_edge=1,
+                  level=2, stack_address=4095, stack_carry=1, halted=1, fault=3, pa=15,
+                  sound_channel=16, sound_mode=1, pm=15, ps=15, pp=15, int_pin=1,
+                  cycles=2 ** 32 - 1)
+    covered = set(limits) | {'r', 'data', 'options'}
+    same(covered, {f.name for f in fields(ref.Machine)}, 'fields of the machine')
+    for field, limit in limits.items():
+        same(ref.machine_ok(machine(**{field: limit})), True, f'{field} {limit}')
+        same(ref.event_res(machine(**{field: limit + 1})), Refused(5), f'{field} {limit + 1}')
+    same(ref.event_res(machine(r=[0, 0, 16, 0, 0])), Refused(5), 'R2 16')
+    same(ref.event_res(machine(data=[0] * 159 + [16])), Refused(5), 'data FFh 16')
+    same(ref.event_res(machine(options=OPTIONS, pm=3, pp=16)), Refused(5), 'PP 16')
+    same(ref.event_res(replace(m, options=bad)), Refused(5), 'machine with rate 6')
+    # Scripts.
+    same(refused('05 00 06'), ['refused 6 at 0'], '05 00 06')
+    same(refused('00 00 09 00'), ['refused 7 at 0'], '00 00 09 00')
+    same(refused(''), ['refused 8 at 0'], 'empty script')
+    same(refused('00 00 06 00'), ['refused 8 at 0'], 'first record RES')
+    same(refused(bytes(65536)), ['refused 6 at 0'], 'script of 65,536')
+    same(refused('01 00 09 00'), ['refused 6 at 0'], 'unknown kind, cut off')
+    same(refused('01 00 06 00 00'), ['refused 6 at 0'], 'RES with a payload')
+    same(refused(SCRIPT + bytes.fromhex('00 00 09 00 05')), ['refused 7 at 16'], '7, then 6')
+    same(refused('00 00 06 00 00 00 00 00'), ['refused 7 at 4'], '7 before 8')
+    bad_option = bytes([6, 0, 1, 0, 6, 4, 0, 0, 0, 0])
+    bad_pin = bytes([3, 0, 3, 0, 16, 0, 0])
+    same(refused(bad_option), ['refused 4 at 0'], 'script, rate 6')
+    same(refused(bad_option + bad_pin), ['refused 3 at 10'], '3 before 4 over all records')
+    same(refused(bad_pin), ['refused 8 at 0'], '8 before 3')
+    same(refused(POWER_ON + bytes([6, 0, 1, 0, 2, 4, 16, 0, 0, 0])), ['refused 4 at 10'],
+         'wake nibble 16 in a later power-on')
+    same(refused(bytes([6, 0, 1, 0, 2, 4, 0, 0, 0, 16])), ['refused 3 at 0'], 'fill nibble 16')
+    same(refused(POWER_ON + bytes([1, 0, 4, 0, 2])), ['refused 3 at 10'], 'script, INT 2')
+    same(ref.run_script(mask(), POWER_ON, bytes(47)), Refused(9), '47 for one')
+    out = ref.run_script(mask(), POWER_ON, bytes([170]) * 50)
+    same((len(out), out[:4], out[48:]), (50, b'\x2C\0\x10\0', b'\xAA\xAA'), 'longer buffer')
+
+
+# --- Power-on and RES -------------------------------------------------------
+
+def test_power_on():
+    image = [n % 16 for n in range(166)]
+    m = ref.power_on(OPTIONS, image)
+    hold('power-on', m, acc=0, r=[1, 2, 3, 4, 5], data=image[6:], pa=15, sound_channel=16,
+         sound_mode=0, pm=15, ps=15, pp=15, int_pin=1, cycles=0)
+    # Data: 7Fh is nibble 127, E0h nibble 128.
+    same([ref.data_read(m, a) for a in (0x7F, 0x80, 0xDF, 0xE0, 0xFF)],
+         [image[133], 0, 0, image[134], image[165]], 'data addresses')
+    busy = replace(m, pc=5, timer=9, tf=1, cf=1, enable=1, held_edge=1, level=2,
+                   stack_address=7, stack_carry=1, fault=3, running=1, pa=2, sound_channel=4,
+                   sound_mode=1, pm=1, ps=2, pp=3, int_pin=0, cycles=77)
+    same(ref.reset(busy), replace(m, pm=1, ps=2, pp=3, int_pin=0, cycles=77), 'RES')
+
+
+# --- Effects ----------------------------------------------------------------
+
+def test_effects():
+    hold('SUB 5-3', one('41 03', acc=5), acc=2, cf=1)
+    hold('SUB 3-5', one('41 05', acc=3, cf=1), acc=14, cf=0)
+    hold('SBC 5-5, CF 0', one('0A', acc=5, cf=0, data=[5] * 160), acc=15, cf=0)
+    hold('SBC 5-5, CF 1', one('0A', acc=5, cf=1, data=[5] * 160), acc=0, cf=1)
+    hold('ADD clears CF', one('40 01', acc=1, cf=1), acc=2, cf=0)
+    hold('DAA 12', one('36', acc=12), acc=2, cf=1)
+    hold('RL 1001', one('01', acc=9), acc=3, cf=1)
+    hold('RLC 1001, CF 0', one('03', acc=9), acc=2, cf=1)
+    hold('RR 0001', one('00', acc=1), acc=8, cf=1)
+    hold('RRC 0010, CF 1', one('02', acc=2, cf=1), acc=9, cf=0)
+    hold('INC R4 of 15 keeps CF', one('18', r=[0, 0, 0, 0, 15], cf=1), r=[0] * 5, cf=1)
+    hold('MOV R1R0,F3H', one('53 0F'), r=[3, 15, 0, 0, 0])
+    hold('MOV R3R2,F3H', one('63 0F'), r=[0, 0, 3, 15, 0])
+    hold('MOV TMRH,A', one('3D', acc=10, timer=0x35), timer=0xA5)
+    hold('MOV A,TMRH', one('3B', timer=0x35), acc=3)
+    hold('IN A,PS', one('33', pm=1, ps=2, pp=3), acc=2)
+    # A write to 80h is lost, INC [R1R0] there too.
+    m = machine(r=[0, 8, 0, 0, 0], acc=9)
+    same(one('05', m=m), replace(m, pc=1, cycles=1), 'write to 80h')
+    same(one('0C', m=m), replace(m, pc=1, cycles=1), 'INC at 80h')
+    hold('SOUND 3', one('45 03', sound_mode=1), sound_channel=3, sound_mode=1)
+    hold('SOUND OFF', one('4A', sound_channel=3, sound_mode=1), sound_channel=16, sound_mode=1)
+    hold('SOUND LOOP', one('49'), sound_channel=16, sound_mode=1)
+    # READ MR0A: ACC bits 4-7, R4 bits 0-3; high to M(R1,R0).
+    m = machine(acc=2, r=[0, 0, 0, 0, 3])
+    m = ref.step(mask((0, '4E'), (0x23, 'C7')), m)
+    hold('READ MR0A', m, acc=7)
+    same(m.data[0], 12, 'READ MR0A to memory')
+    # READF MR0A: page 15, whatever the PC.
+    m = ref.step(mask((0, '4F'), (0xF23, '5A')), machine(acc=2, r=[0, 0, 0, 0, 3]))
+    same((m.acc, m.data[0]), (10, 5), 'READF MR0A')
+    # READ at FFFh: the moved PC is 0, page 0.
+    m = ref.step(mask((0xFFF, '4C'), (0xF00, 'EE'), (0x000, '75')), machine(pc=0xFFF))
+    hold('READ R4A at FFFh', m, pc=0, acc=5, r=[0, 0, 0, 0, 7])
+
+
+def test_branches():
+    hold('JZ at FFEh', one('B7 FF', at=0xFFE), pc=0x7FF)    # moved PC 0
+    hold('JZ at FFFh', one('B0 10', at=0xFFF), pc=0x010)    # second byte at 0
+    hold('JZ at 7FFh', one('B0 10', at=0x7FF), pc=0x810)    # moved PC 801h
+    hold('JZ not taken', one('B0 10', at=0x7FE, acc=1), pc=0x800)
+    hold('JA2 on 0100', one('90 20', acc=4), pc=0x020)
+    hold('JA2 on 1011', one('90 20', acc=11), pc=2)
+    hold('JNC with CF 1', one('C8 20', cf=1), pc=2)
+    hold('JNZ R4', one('D8 20', r=[0, 0, 0, 0, 1]), pc=0x020)
+    hold('JMP crosses', one('EF FE'), pc=0xFFE)
+    hold('JTMR taken', one('D0 20', tf=1), pc=0x020, tf=0)
+    hold('JTMR not taken', one('D0 20'), pc=2, tf=0)
+    # TF cleared by JTMR, then the timer passes 255 in the same step: 2 cycles at rate 2.
+    m = machine(replace(OPTIONS, rate=2), tf=1, running=1, timer=254)
+    hold('JTMR and overflow', one('D0 20', m=m), pc=0x020, tf=1, timer=0)
+
+
+def test_subroutines():
+    # CALL keeps the stack carry, RET keeps CF, RETI loads it.
+    m = one('F1 23', at=0x10, cf=1, stack_carry=0)
+    hold('CALL', m, pc=0x123, level=1, stack_address=0x12, stack_carry=0, cf=1)
+    hold('RET', ref.step(mask((0x123, '2E')), m), pc=0x12, level=0, cf=1, stack_address=0x12)
+    hold('RETI', ref.step(mask((0x123, '2F')), m), pc=0x12, level=0, cf=0)
+    m = machine(replace(OPTIONS, rate=0), running=1, timer=5, level=2, stack_carry=1, cycles=3)
+    for text, level, fault in (('F0 10', 2, 2), ('F0 10', 1, 2), ('2E', 0, 3), ('2F', 0, 3),
+                               ('35', 0, 1), ('37 00', 1, 1), ('6F 10', 2, 1)):
+        before = replace(m, level=level, pc=0x40)
+        after = ref.step(mask((0x40, text)), before)
+        same(after, replace(before, fault=fault), f'fault {fault} of {text} in level {level}')
+        same(ref.run(mask(), after, 9), after, 'no step after a fault')
+    # A pending interrupt goes before an unreadable instruction.
+    m = ref.step(mask((0, '35')), machine(enable=1, tf=1))
+    hold('interrupt before fault', m, fault=0, pc=4)
+
+
+# --- Steps and events -------------------------------------------------------
+
+def test_interrupts():
+    # Both at once: the edge first, TF after RETI.
+    program = mask((4, '2F'), (8, '2F'))
+    m = machine(enable=1, held_edge=1, tf=1, pc=0x20, cf=1)
+    m = ref.step(program, m)
+    hold('edge first', m, pc=8, tf=1, held_edge=0, level=2, stack_address=0x20, stack_carry=1,
+         enable=1, cycles=2)
+    m = ref.step(program, m)
+    hold('RETI', m, pc=0x20, level=0, cf=1, cycles=3)
+    m = ref.step(program, m)
+    hold('then TF', m, pc=4, tf=0, level=2, stack_address=0x20, cycles=5)
+    for level in (1, 2):
+        m = ref.step(mask(), machine(enable=1, held_edge=1, tf=1, level=level))
+        hold(f'held in level {level}', m, pc=1, held_edge=1, tf=1, level=level)
+    # TF taken, and set again by the two cycles of the taking step.
+    m = ref.step(mask(), machine(replace(OPTIONS, rate=2), enable=1, tf=1, running=1, timer=254))
+    hold('TF again', m, pc=4, tf=1, timer=0)
+    # EI acts on the next step.
+    m = ref.run(mask((0, '2C')), machine(tf=1), 2)
+    hold('EI', m, pc=4, stack_address=1, level=2)
+
+
+def test_timer():
+    quick = replace(OPTIONS, rate=0)
+    hold('TIMER ON moves at once', one('38', m=machine(quick)), timer=4, running=1)
+    hold('TIMER OFF does not', one('39', m=machine(quick, running=1)), timer=0, running=0)
+    hold('TIMER XXH then 8', one('47 FC', m=machine(quick, running=1)), timer=4, tf=1)
+    hold('READ, 2 cycles', one('4C', m=machine(quick, running=1)), timer=8, cycles=2)
+    # Rate 13: one count in 2,048 cycles, at T = 8,192.
+    m = machine(running=1, cycles=2046)
+    hold('rate 13 before', one('3E', m=m), timer=0, cycles=2047)
+    hold('rate 13 at 2,048', one('47 00', m=m), timer=1, cycles=2048)
+    # The cycle count goes on past its largest value to zero.
+    m = machine(running=1, cycles=2 ** 32 - 1)
+    hold('cycle count wraps', one('37 3E', m=m), cycles=1, timer=1, halted=1)
+    external = machine(replace(OPTIONS, rate=255), running=1, timer=7)
+    hold('external clock, step', one('3E', m=external), timer=7)
+    hold('TMCLK 256', ref.event_tmclk(external, 256), timer=7, tf=1)
+    hold('TMCLK 248', ref.event_tmclk(external, 248), timer=255, tf=0)
+    hold('TMCLK 249', ref.event_tmclk(external, 249), timer=0, tf=1)
+    hold('TMCLK 65,535', ref.event_tmclk(external, 65535), timer=6, tf=1)
+    hold('TMCLK 0', ref.event_tmclk(replace(external, tf=1), 0), timer=7, tf=1)
+    for still in (replace(external, halted=1), replace(external, running=0), machine(running=1)):
+        same(ref.event_tmclk(still, 300), still, 'TMCLK without effect')
+
+
+def test_wake():
+    # HALT's cycles move the timer and can set TF; TF does not wake.
+    m = machine(replace(OPTIONS, rate=2), running=1, timer=254, enable=1)
+    m = one('37 3E', m=m)
+    hold('HALT', m, halted=1, pc=2, cycles=2, timer=0, tf=1)
+    same(ref.run(mask(), m, 5), m, 'halted stays')
+    # An edge held earlier does not wake, and HALT runs in level 1 with it held.
+    m = one('37 3E', level=1, enable=1, held_edge=1)
+    hold('edge held earlier', m, halted=1, held_edge=1)
+    same(ref.run(mask(), m, 5), m, 'an edge held earlier does not wake')
+    wake = replace(OPTIONS, wake_ps=2)
+    m = machine(wake, halted=1)
+    hold('PS bit 1 falls', ref.event_pins(m, 15, 13, 15), halted=0, held_edge=1, ps=13)
+    hold('PS bit 0 falls', ref.event_pins(m, 15, 14, 15), halted=1, held_edge=0, ps=14)
+    hold('PM bit 1 falls', ref.event_pins(m, 13, 15, 15), halted=1, held_edge=0, pm=13)
+    low = replace(m, ps=13)
+    hold('PS bit 1 rises', ref.event_pins(low, 15, 15, 15), halted=1, held_edge=0, ps=15)
+    hold('PS bit 1 stays low', ref.event_pins(low, 15, 13, 15), halted=1, held_edge=0)
+    hold('PS falls, not halted', ref.event_pins(machine(wake), 15, 13, 15), held_edge=0, ps=13)
+    hold('INT falls, halted', ref.event_int(m, 0), halted=0, held_edge=1, int_pin=0)
+    hold('INT falls, running', ref.event_int(machine(), 0), held_edge=1, int_pin=0)
+    hold('INT stays low', ref.event_int(machine(int_pin=0), 0), held_edge=0, int_pin=0)
+    hold('INT rises', ref.event_int(replace(m, int_pin=0), 1), halted=1, held_edge=0, int_pin=1)
+    # Woken with the enable flag on: the next step takes the edge.
+    m = ref.event_int(machine(enable=1, halted=1, pc=2), 0)
+    hold('woken', ref.step(mask(), m), pc=8, level=2, stack_address=2, held_edge=0)
+
+
+# --- Marks ------------------------------------------------------------------
+
+def test_marks():
+    marks, verdict = ref.checker(mask((0, '2C E0 01')))     # EI; JMP 001h
+    same(verdict, 'passed', 'EI')
+    same(marks, bytes([5, 5, 0, 0]) + bytes([4]) * 4092, 'EI: level 2 from 4 round to 1')
+    marks, verdict = ref.checker(mask((0, 'E0 00')))
+    same((marks[0], sum(marks), verdict), (1, 1, 'passed'), 'JMP alone, no marks at 4 and 8')
+    marks, verdict = ref.checker(mask((0, 'F0 10 E0 02'), (0x10, '2E')))
+    same((marks[0], marks[2], marks[0x10], sum(marks), verdict), (1, 1, 2, 4, 'passed'),
+         'CALL, RET')
+    marks, verdict = ref.checker(mask((0, 'E0 10'), (0x10, '2E')))
+    same((sum(marks), verdict), (2, (3, 0x10, 0)), 'RET in level 0')
+    marks, verdict = ref.checker(mask((0, 'E7 FE'), (0x7FE, 'B0 10 2F'), (0x810, '35')))
+    same((marks[0x810], marks[0x010], verdict), (1, 0, (3, 0x800, 0)), 'branch at 7FEh')
+
+
+def random_mask(rng):
+    """Main program at 010h, subroutine at 100h, timer and edge routines at 200h and 300h."""
+    anywhere = ['2C', '2D', '31', '36', '38', '39', '3A', '4C', '4F', '05', '08', '0B', '53 0F',
+                '47 FD', '45 03', '30', '2B', '03', '33', '37 3E']
+
+    def body(also, end):
+        parts = [rng.choice(anywhere + also) for _ in range(rng.randrange(20))]
+        return ' '.join(parts + [end])
+
+    return mask((0, 'E0 10'), (4, 'E2 00'), (8, 'E3 00'),
+                (0x010, body(['F1 00', 'F1 00', 'B0 10', 'D0 10', 'A0 10'], 'E0 10')),
+                (0x100, body([], '2E')), (0x200, body([], '2F')), (0x300, body([], '2E')))
+
+
+def test_event_lists():
+    # Property 3: fault 0, and the pair of PC and level is one that the checker marked.
+    rng = random.Random(1130)
+    levels = [0, 0, 0]
+    for _ in range(40):
+        program = random_mask(rng)
+        marks, verdict = ref.checker(program)
+        same(verdict, 'passed', 'random mask')
+        m = None
+        for k in range(60):
+            kind = 1 if k == 0 else rng.choice((1,) + 10 * (2,) + (3, 3, 4, 4, 5, 5, 6))
+            payload = bytes(rng.randrange(16) for _ in range(ref.PAYLOAD[kind]))
+            if kind == 1:
+                payload = bytes([rng.choice(ref.RATES), rng.choice((3, 4))]) + payload[2:]
+            elif kind == 2:
+                payload = bytes([rng.randrange(100), 0])
+            elif kind == 4:
+                payload = bytes([payload[0] % 2])
+            m = ref.apply_record(program, m, kind, payload)
+            assert ref.machine_ok(m) and m.fault == 0 and marks[m.pc] >> m.level & 1, m
+            levels[m.level] += 1
+    same(min(levels) > 20, True, 'all levels met')
+
+
+for test in (test_table, test_proved_table, test_panel, test_refusals, test_power_on,
+             test_effects, test_branches, test_subroutines, test_interrupts, test_timer,
+             test_wake, test_marks, test_event_lists):
+    test()
+print(f'{checks} checks passed')
