@@ -1,0 +1,48 @@
+-- `cpu::Cpu::table_mr0` meets its contract: the page is the definition's. Assumes nothing.
+use mathlib.Core.Path.{sym, ap, _∙_}
+use Prim.Native.Nat.{ℕ, _+_, _*_}
+use Rattle.isa.specs.Fetching.{byteAt}
+use borrow.Author.Needs.{needs}
+use Rattle.cpu.proofs.Cpu.table_mr0.Statement.{statement}
+use Rattle.cpu.proofs.Cpu.table_mr0.Tie as tie
+
+page-requires : tie.Need-page-requires
+page-requires c κs = search needs
+
+mul-byte-at : tie.Need-mul-byte-at
+mul-byte-at c = search needs
+
+cast-byte-at : tie.Need-cast-byte-at
+cast-byte-at c = search needs
+
+mul-byte-at-2 : tie.Need-mul-byte-at-2
+mul-byte-at-2 c = search needs
+
+add-byte-at : tie.Need-add-byte-at
+add-byte-at c = search needs
+
+cast-byte-at-2 : tie.Need-cast-byte-at-2
+cast-byte-at-2 c = search needs
+
+add-byte-at-2 : tie.Need-add-byte-at-2
+add-byte-at-2 c = search needs
+
+byte-at-requires : tie.Need-byte-at-requires
+byte-at-requires c κs = search needs
+
+returns : tie.Need-returns
+returns c = c .byte-at .ensures ∙ ap (λ (n : ℕ). byteAt (c .before .before .before .before .before .args .mask .now) (n * 256 + 16 * c .before .before .before .before .before .args .self .registers .acc + c .before .before .before .before .before .args .self .registers .r4)) (c .before .before .before .page .ensures .0)
+
+pub table-mr0-spec : {M : Type 1} → statement M
+table-mr0-spec =
+    tie.close
+    (tie.spec
+    page-requires
+    mul-byte-at
+    cast-byte-at
+    mul-byte-at-2
+    add-byte-at
+    cast-byte-at-2
+    add-byte-at-2
+    byte-at-requires
+    returns)

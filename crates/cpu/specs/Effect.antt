@@ -1,0 +1,242 @@
+-- Document 01, "Effects": what each instruction does, in the order of document 001's summary, on a processor whose PC has moved on
+-- by the length. A fault is set in the status here; `Step` says that it leaves all else as before. Assumes nothing.
+use Prim.Native.Nat.{ℕ, _+_, _-_, _*_, _/_, _%_}
+use mathlib.Core.Bool.{Bool, true, false, not}
+use mathlib.Core.List.{List}
+use lib.Dec.{eqb}
+use lib.Bits.{bitAnd, bitOr, bitXor}
+use Rattle.isa.specs.Fetching.{byteAt}
+use Rattle.datapath.specs.Alu.{summed, subtracted, adjusted, rotatedLeft, rotatedLeftThrough, rotatedRight, rotatedRightThrough, incremented, decremented, bitSet, notZero}
+use Rattle.datapath.specs.Memory.{pointed, loaded, stored}
+use Rattle.datapath.specs.declared.alu.Sum.{Sum}
+use Rattle.cpu.specs.State.{State, state, onCpu, withAcc, withR0, withR1, withR2, withR3, withR4, withPc, withCf, withTf, withCount, withRunning, withEnabled, withLevel, withStack, withHalted, withFault, withPa, withChannel, withMode}
+use Rattle.cpu.specs.declared.Cpu.{Cpu}
+use Rattle.isa.specs.declared.DataAddress.{DataAddress}
+use Rattle.isa.specs.declared.ProgramAddress.{ProgramAddress}
+use Rattle.isa.specs.declared.Pointer.{Pointer}
+use Rattle.isa.specs.declared.Pointer.the-variants.{R1R0, R3R2}
+use Rattle.isa.specs.declared.Port.{Port}
+use Rattle.isa.specs.declared.Port.the-variants.{Pm, Ps, Pp}
+use Rattle.isa.specs.declared.Page.{Page}
+use Rattle.isa.specs.declared.Page.the-variants.{Current, F}
+use Rattle.isa.specs.declared.Condition.{Condition}
+use Rattle.isa.specs.declared.Condition.the-variants.{Ja, JnzR0, JnzR1, JnzR4, Jz, JnzA, Jc, Jnc, Jtmr}
+use Rattle.isa.specs.declared.Instruction.{Instruction}
+use Rattle.isa.specs.declared.Instruction.the-variants.{
+  AddAM,
+  AdcAM,
+  SubAM,
+  SbcAM,
+  AddAX,
+  SubAX,
+  Daa,
+  AndAM,
+  OrAM,
+  XorAM,
+  AndMA,
+  OrMA,
+  XorMA,
+  AndAX,
+  OrAX,
+  XorAX,
+  IncA,
+  IncR,
+  IncM,
+  DecA,
+  DecR,
+  DecM,
+  MovAR,
+  MovRA,
+  MovAM,
+  MovMA,
+  MovAX,
+  MovPairXX,
+  MovR4X,
+  RlA,
+  RlcA,
+  RrA,
+  RrcA,
+  InA,
+  OutPaA,
+  Jmp,
+  Branch,
+  Call,
+  Ret,
+  Reti,
+  Clc,
+  Stc,
+  Ei,
+  Di,
+  Nop,
+  TimerXX,
+  TimerOn,
+  TimerOff,
+  MovATmrl,
+  MovATmrh,
+  MovTmrlA,
+  MovTmrhA,
+  ReadR4A,
+  ReadMr0A,
+  SoundN,
+  SoundA,
+  SoundOne,
+  SoundLoop,
+  SoundOff,
+  Halt,
+}
+
+abbrev pub pick : {A : Type 0} → Bool → A → A → A
+pick true x y = x
+pick false x y = y
+
+-- the address in a register pair: "M(R1,R0) is the nibble at 16 times R1 + R0, likewise M(R3,R2)"
+abbrev pub placeOf : Pointer → Cpu → DataAddress
+placeOf R1R0 c = pointed (c .registers .r1) (c .registers .r0)
+placeOf R3R2 c = pointed (c .registers .r3) (c .registers .r2)
+
+-- the nibble there, and the machine with another one there
+abbrev pub nibbleAt : Pointer → State → ℕ
+nibbleAt p s = loaded (s .memory) (placeOf p (s .cpu))
+
+abbrev pub withNibble : Pointer → ℕ → State → State
+withNibble p v s = state (s .cpu) (stored (s .memory) (placeOf p (s .cpu)) v)
+
+-- a sum goes to ACC and CF
+abbrev pub taking : Sum → Cpu → Cpu
+taking x c = withAcc (x .value) (withCf (x .carry) c)
+
+-- Rn, n being 0 to 4
+unfoldable pub registerOf : ℕ → Cpu → ℕ
+registerOf n c = pick (eqb n 0) (c .registers .r0) (pick (eqb n 1) (c .registers .r1) (pick (eqb n 2) (c .registers .r2) (pick (eqb n 3) (c .registers .r3) (c .registers .r4))))
+
+unfoldable pub withRegister : ℕ → ℕ → Cpu → Cpu
+withRegister n v c = pick (eqb n 0) (withR0 v c) (pick (eqb n 1) (withR1 v c) (pick (eqb n 2) (withR2 v c) (pick (eqb n 3) (withR3 v c) (withR4 v c))))
+
+abbrev pub portOf : Port → Cpu → ℕ
+portOf Pm c = c .pins .pm
+portOf Ps c = c .pins .ps
+portOf Pp c = c .pins .pp
+
+abbrev pub withPair : Pointer → ℕ → ℕ → Cpu → Cpu
+withPair R1R0 low high c = withR0 low (withR1 high c)
+withPair R3R2 low high c = withR2 low (withR3 high c)
+
+-- whether a conditional branch is taken
+abbrev pub holds : Condition → Cpu → Bool
+holds (Ja n) c = bitSet (c .registers .acc) n
+holds JnzR0 c = notZero (c .registers .r0)
+holds JnzR1 c = notZero (c .registers .r1)
+holds JnzR4 c = notZero (c .registers .r4)
+holds Jz c = eqb (c .registers .acc) 0
+holds JnzA c = notZero (c .registers .acc)
+holds Jc c = eqb (c .control .cf) 1
+holds Jnc c = eqb (c .control .cf) 0
+holds Jtmr c = eqb (c .control .tf) 1
+
+-- "JTMR clears TF, taken or not"
+abbrev pub tested : Condition → Cpu → Cpu
+tested (Ja n) c = c
+tested JnzR0 c = c
+tested JnzR1 c = c
+tested JnzR4 c = c
+tested Jz c = c
+tested JnzA c = c
+tested Jc c = c
+tested Jnc c = c
+tested Jtmr c = withTf 0 c
+
+-- "A conditional branch keeps bit 11 of that moved PC": bits 0 to 10 are the target's
+abbrev pub branchTarget : ProgramAddress → ProgramAddress → ProgramAddress
+branchTarget pc t = record { 0 = pc .0 / 2048 * 2048 + t .0 % 2048 }
+
+unfoldable pub branched : Condition → ProgramAddress → Cpu → Cpu
+branched k t c = pick (holds k c) (withPc (branchTarget (c .control .pc) t) (tested k c)) (tested k c)
+
+-- "CALL in level 0 stores the moved PC (the stack carry stays) and enters level 1; in level 1 or 2 it is fault 2"
+unfoldable pub called : ProgramAddress → Cpu → Cpu
+called t c =
+    pick (eqb (c .interrupts .level) 0)
+    (withStack (record { address = c .control .pc; carry = c .stack .carry }) (withLevel 1 (withPc t c)))
+    (withFault 2 c)
+
+-- "RET and RETI in level 0 are fault 3; elsewhere they load the stack address and enter level 0, and RETI sets CF from the stack carry"
+unfoldable pub returned : Cpu → Cpu
+returned c = pick (eqb (c .interrupts .level) 0) (withFault 3 c) (withLevel 0 (withPc (c .stack .address) c))
+
+unfoldable pub returnedWithCarry : Cpu → Cpu
+returnedWithCarry c = pick (eqb (c .interrupts .level) 0) (withFault 3 c) (withCf (c .stack .carry) (withLevel 0 (withPc (c .stack .address) c)))
+
+-- "READ uses the moved PC's bits 8-11 as its page, READF page 15"
+abbrev pub pageOf : Page → Cpu → ℕ
+pageOf Current c = c .control .pc .0 / 256 % 16
+pageOf F c = 15
+
+-- "R4A forms: ACC is bits 4-7 and M(R1,R0) bits 0-3; the high nibble goes to R4, the low to ACC"
+abbrev pub tableR4 : List ℕ → Page → State → ℕ
+tableR4 mask p s = byteAt mask (pageOf p (s .cpu) * 256 + 16 * s .cpu .registers .acc + nibbleAt R1R0 s)
+
+-- "MR0A forms: ACC bits 4-7, R4 bits 0-3; high to M(R1,R0), low to ACC"
+abbrev pub tableMr0 : List ℕ → Page → State → ℕ
+tableMr0 mask p s = byteAt mask (pageOf p (s .cpu) * 256 + 16 * s .cpu .registers .acc + s .cpu .registers .r4)
+
+unfoldable pub effect : List ℕ → Instruction → State → State
+effect mask AddAM s = onCpu (taking (summed (s .cpu .registers .acc) (nibbleAt R1R0 s) 0)) s
+effect mask AdcAM s = onCpu (taking (summed (s .cpu .registers .acc) (nibbleAt R1R0 s) (s .cpu .control .cf))) s
+effect mask SubAM s = onCpu (taking (subtracted (s .cpu .registers .acc) (nibbleAt R1R0 s) 1)) s
+effect mask SbcAM s = onCpu (taking (subtracted (s .cpu .registers .acc) (nibbleAt R1R0 s) (s .cpu .control .cf))) s
+effect mask (AddAX d) s = onCpu (taking (summed (s .cpu .registers .acc) d 0)) s
+effect mask (SubAX d) s = onCpu (taking (subtracted (s .cpu .registers .acc) d 1)) s
+effect mask Daa s = onCpu (taking (adjusted (s .cpu .registers .acc) (s .cpu .control .cf))) s
+effect mask AndAM s = onCpu (withAcc (bitAnd (s .cpu .registers .acc) (nibbleAt R1R0 s))) s
+effect mask OrAM s = onCpu (withAcc (bitOr (s .cpu .registers .acc) (nibbleAt R1R0 s))) s
+effect mask XorAM s = onCpu (withAcc (bitXor (s .cpu .registers .acc) (nibbleAt R1R0 s))) s
+effect mask AndMA s = withNibble R1R0 (bitAnd (nibbleAt R1R0 s) (s .cpu .registers .acc)) s
+effect mask OrMA s = withNibble R1R0 (bitOr (nibbleAt R1R0 s) (s .cpu .registers .acc)) s
+effect mask XorMA s = withNibble R1R0 (bitXor (nibbleAt R1R0 s) (s .cpu .registers .acc)) s
+effect mask (AndAX d) s = onCpu (withAcc (bitAnd (s .cpu .registers .acc) d)) s
+effect mask (OrAX d) s = onCpu (withAcc (bitOr (s .cpu .registers .acc) d)) s
+effect mask (XorAX d) s = onCpu (withAcc (bitXor (s .cpu .registers .acc) d)) s
+effect mask IncA s = onCpu (withAcc (incremented (s .cpu .registers .acc))) s
+effect mask (IncR n) s = onCpu (withRegister n (incremented (registerOf n (s .cpu)))) s
+effect mask (IncM p) s = withNibble p (incremented (nibbleAt p s)) s
+effect mask DecA s = onCpu (withAcc (decremented (s .cpu .registers .acc))) s
+effect mask (DecR n) s = onCpu (withRegister n (decremented (registerOf n (s .cpu)))) s
+effect mask (DecM p) s = withNibble p (decremented (nibbleAt p s)) s
+effect mask (MovAR n) s = onCpu (withAcc (registerOf n (s .cpu))) s
+effect mask (MovRA n) s = onCpu (withRegister n (s .cpu .registers .acc)) s
+effect mask (MovAM p) s = onCpu (withAcc (nibbleAt p s)) s
+effect mask (MovMA p) s = withNibble p (s .cpu .registers .acc) s
+effect mask (MovAX d) s = onCpu (withAcc d) s
+effect mask (MovPairXX p low high) s = onCpu (withPair p low high) s
+effect mask (MovR4X d) s = onCpu (withR4 d) s
+effect mask RlA s = onCpu (taking (rotatedLeft (s .cpu .registers .acc))) s
+effect mask RlcA s = onCpu (taking (rotatedLeftThrough (s .cpu .registers .acc) (s .cpu .control .cf))) s
+effect mask RrA s = onCpu (taking (rotatedRight (s .cpu .registers .acc))) s
+effect mask RrcA s = onCpu (taking (rotatedRightThrough (s .cpu .registers .acc) (s .cpu .control .cf))) s
+effect mask (InA p) s = onCpu (withAcc (portOf p (s .cpu))) s
+effect mask OutPaA s = onCpu (withPa (s .cpu .registers .acc)) s
+effect mask (Jmp t) s = onCpu (withPc t) s
+effect mask (Branch k t) s = onCpu (branched k t) s
+effect mask (Call t) s = onCpu (called t) s
+effect mask Ret s = onCpu returned s
+effect mask Reti s = onCpu returnedWithCarry s
+effect mask Clc s = onCpu (withCf 0) s
+effect mask Stc s = onCpu (withCf 1) s
+effect mask Ei s = onCpu (withEnabled 1) s
+effect mask Di s = onCpu (withEnabled 0) s
+effect mask Nop s = s
+effect mask (TimerXX x) s = onCpu (withCount x) s
+effect mask TimerOn s = onCpu (withRunning 1) s
+effect mask TimerOff s = onCpu (withRunning 0) s
+effect mask MovATmrl s = onCpu (withAcc (s .cpu .timer .count % 16)) s
+effect mask MovATmrh s = onCpu (withAcc (s .cpu .timer .count / 16)) s
+effect mask MovTmrlA s = onCpu (withCount (s .cpu .timer .count / 16 * 16 + s .cpu .registers .acc % 16)) s
+effect mask MovTmrhA s = onCpu (withCount (s .cpu .registers .acc % 16 * 16 + s .cpu .timer .count % 16)) s
+effect mask (ReadR4A p) s = onCpu (λ (c : Cpu). withR4 (tableR4 mask p s / 16) (withAcc (tableR4 mask p s % 16) c)) s
+effect mask (ReadMr0A p) s = onCpu (withAcc (tableMr0 mask p s % 16)) (withNibble R1R0 (tableMr0 mask p s / 16) s)
+effect mask (SoundN n) s = onCpu (withChannel n) s
+effect mask SoundA s = onCpu (withChannel (s .cpu .registers .acc)) s
+effect mask SoundOne s = onCpu (withMode 0) s
+effect mask SoundLoop s = onCpu (withMode 1) s
+effect mask SoundOff s = onCpu (withChannel 16) s
+effect mask Halt s = onCpu (withHalted 1) s

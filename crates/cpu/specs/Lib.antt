@@ -1,0 +1,3 @@
+pub mod Effect
+pub mod State
+pub mod Step

@@ -1,0 +1,268 @@
+// What each instruction does, in the order of the summary.
+ghost use mathlib.Core.Path.{_≡_};
+ghost use Rattle.cpu.specs.Effect.{effect};
+ghost use Rattle.cpu.specs.State.{state};
+use crate::Cpu;
+use datapath::alu::add;
+use datapath::alu::and;
+use datapath::alu::decimal_adjust;
+use datapath::alu::decrement;
+use datapath::alu::increment;
+use datapath::alu::or;
+use datapath::alu::rotate_left;
+use datapath::alu::rotate_left_through;
+use datapath::alu::rotate_right;
+use datapath::alu::rotate_right_through;
+use datapath::alu::subtract;
+use datapath::alu::xor;
+use isa::Instruction;
+use isa::Pointer;
+
+impl Cpu {
+    // The processor after an instruction, the PC having moved on. A fault is set in the status.
+    pub fn effect(mut self, instruction: Instruction, mask: &[u8], memory: &mut [u8; 160]) -> Cpu
+        ensures { λ r. ⌜ state r (now (memory .exit)) ≡ effect (now (mask .entry)) instruction (state self (now (memory .entry))) ⌝ }
+    {
+        match instruction {
+            Instruction::AddAM => {
+                let v = self.operand(Pointer::R1R0, memory);
+                let x = add(self.registers.acc, v, 0);
+                self.take(x)
+            }
+            Instruction::AdcAM => {
+                let v = self.operand(Pointer::R1R0, memory);
+                let x = add(self.registers.acc, v, self.control.cf);
+                self.take(x)
+            }
+            Instruction::SubAM => {
+                let v = self.operand(Pointer::R1R0, memory);
+                let x = subtract(self.registers.acc, v, 1);
+                self.take(x)
+            }
+            Instruction::SbcAM => {
+                let v = self.operand(Pointer::R1R0, memory);
+                let x = subtract(self.registers.acc, v, self.control.cf);
+                self.take(x)
+            }
+            Instruction::AddAX(d) => {
+                let x = add(self.registers.acc, d, 0);
+                self.take(x)
+            }
+            Instruction::SubAX(d) => {
+                let x = subtract(self.registers.acc, d, 1);
+                self.take(x)
+            }
+            Instruction::Daa => {
+                let x = decimal_adjust(self.registers.acc, self.control.cf);
+                self.take(x)
+            }
+            Instruction::AndAM => {
+                let v = self.operand(Pointer::R1R0, memory);
+                let x = and(self.registers.acc, v);
+                self.set_acc(x)
+            }
+            Instruction::OrAM => {
+                let v = self.operand(Pointer::R1R0, memory);
+                let x = or(self.registers.acc, v);
+                self.set_acc(x)
+            }
+            Instruction::XorAM => {
+                let v = self.operand(Pointer::R1R0, memory);
+                let x = xor(self.registers.acc, v);
+                self.set_acc(x)
+            }
+            Instruction::AndMA => {
+                let v = self.operand(Pointer::R1R0, memory);
+                let x = and(v, self.registers.acc);
+                self.put(Pointer::R1R0, memory, x);
+                self
+            }
+            Instruction::OrMA => {
+                let v = self.operand(Pointer::R1R0, memory);
+                let x = or(v, self.registers.acc);
+                self.put(Pointer::R1R0, memory, x);
+                self
+            }
+            Instruction::XorMA => {
+                let v = self.operand(Pointer::R1R0, memory);
+                let x = xor(v, self.registers.acc);
+                self.put(Pointer::R1R0, memory, x);
+                self
+            }
+            Instruction::AndAX(d) => {
+                let x = and(self.registers.acc, d);
+                self.set_acc(x)
+            }
+            Instruction::OrAX(d) => {
+                let x = or(self.registers.acc, d);
+                self.set_acc(x)
+            }
+            Instruction::XorAX(d) => {
+                let x = xor(self.registers.acc, d);
+                self.set_acc(x)
+            }
+            Instruction::IncA => {
+                let x = increment(self.registers.acc);
+                self.set_acc(x)
+            }
+            Instruction::IncR(n) => {
+                let v = self.register(n);
+                let x = increment(v);
+                self.set_register(n, x)
+            }
+            Instruction::IncM(p) => {
+                let v = self.operand(p, memory);
+                let x = increment(v);
+                self.put(p, memory, x);
+                self
+            }
+            Instruction::DecA => {
+                let x = decrement(self.registers.acc);
+                self.set_acc(x)
+            }
+            Instruction::DecR(n) => {
+                let v = self.register(n);
+                let x = decrement(v);
+                self.set_register(n, x)
+            }
+            Instruction::DecM(p) => {
+                let v = self.operand(p, memory);
+                let x = decrement(v);
+                self.put(p, memory, x);
+                self
+            }
+            Instruction::MovAR(n) => {
+                let v = self.register(n);
+                self.set_acc(v)
+            }
+            Instruction::MovRA(n) => self.set_register(n, self.registers.acc),
+            Instruction::MovAM(p) => {
+                let v = self.operand(p, memory);
+                self.set_acc(v)
+            }
+            Instruction::MovMA(p) => {
+                self.put(p, memory, self.registers.acc);
+                self
+            }
+            Instruction::MovAX(d) => self.set_acc(d),
+            Instruction::MovPairXX(p, low, high) => self.set_pair(p, low, high),
+            Instruction::MovR4X(d) => {
+                self.registers.r4 = d;
+                self
+            }
+            Instruction::RlA => {
+                let x = rotate_left(self.registers.acc);
+                self.take(x)
+            }
+            Instruction::RlcA => {
+                let x = rotate_left_through(self.registers.acc, self.control.cf);
+                self.take(x)
+            }
+            Instruction::RrA => {
+                let x = rotate_right(self.registers.acc);
+                self.take(x)
+            }
+            Instruction::RrcA => {
+                let x = rotate_right_through(self.registers.acc, self.control.cf);
+                self.take(x)
+            }
+            Instruction::InA(p) => {
+                let v = self.port(p);
+                self.set_acc(v)
+            }
+            Instruction::OutPaA => {
+                let x = self.registers.acc;
+                self.outputs.pa = x;
+                self
+            }
+            Instruction::Jmp(t) => {
+                let x = t.0;
+                self.control.pc.0 = x;
+                self
+            }
+            Instruction::Branch(k, t) => self.branch(k, t),
+            Instruction::Call(t) => self.call(t),
+            Instruction::Ret => self.ret(),
+            Instruction::Reti => self.reti(),
+            Instruction::Clc => {
+                self.control.cf = 0;
+                self
+            }
+            Instruction::Stc => {
+                self.control.cf = 1;
+                self
+            }
+            Instruction::Ei => {
+                self.interrupts.enabled = 1;
+                self
+            }
+            Instruction::Di => {
+                self.interrupts.enabled = 0;
+                self
+            }
+            Instruction::Nop => self,
+            Instruction::TimerXX(x) => {
+                self.timer.count = x;
+                self
+            }
+            Instruction::TimerOn => {
+                self.timer.running = 1;
+                self
+            }
+            Instruction::TimerOff => {
+                self.timer.running = 0;
+                self
+            }
+            Instruction::MovATmrl => self.set_acc(self.timer.count % 16),
+            Instruction::MovATmrh => self.set_acc(self.timer.count / 16),
+            Instruction::MovTmrlA => {
+                let x = self.timer.count / 16 * 16 + self.registers.acc % 16;
+                self.timer.count = x;
+                self
+            }
+            Instruction::MovTmrhA => {
+                let x = self.registers.acc % 16 * 16 + self.timer.count % 16;
+                self.timer.count = x;
+                self
+            }
+            Instruction::ReadR4A(p) => {
+                let x = self.table_r4(p, mask, memory);
+                let high = x / 16;
+                let low = x % 16;
+                self.registers.r4 = high;
+                self.registers.acc = low;
+                self
+            }
+            Instruction::ReadMr0A(p) => {
+                let x = self.table_mr0(p, mask, memory);
+                self.put(Pointer::R1R0, memory, x / 16);
+                self.set_acc(x % 16)
+            }
+            Instruction::SoundN(n) => {
+                self.outputs.channel = n;
+                self
+            }
+            Instruction::SoundA => {
+                let x = self.registers.acc;
+                self.outputs.channel = x;
+                self
+            }
+            Instruction::SoundOne => {
+                self.outputs.mode = 0;
+                self
+            }
+            Instruction::SoundLoop => {
+                self.outputs.mode = 1;
+                self
+            }
+            Instruction::SoundOff => {
+                self.outputs.channel = 16;
+                self
+            }
+            Instruction::Halt => {
+                self.status.halted = 1;
+                self
+            }
+        }
+    }
+}

@@ -1,0 +1,129 @@
+// What an instruction reads and writes: data memory, registers and ports.
+ghost use mathlib.Core.Path.{_≡_};
+ghost use Rattle.cpu.specs.Effect.{nibbleAt, placeOf, portOf, registerOf, taking, withNibble, withPair, withRegister};
+ghost use Rattle.cpu.specs.State.{state, withAcc};
+use crate::Cpu;
+use datapath::alu::Sum;
+use datapath::memory::load;
+use datapath::memory::pointer;
+use datapath::memory::store;
+use isa::DataAddress;
+use isa::Pointer;
+use isa::Port;
+
+impl Cpu {
+    // The address in a register pair.
+    pub fn place(self, p: Pointer) -> DataAddress
+        ensures { λ r. ⌜ r ≡ placeOf p self ⌝ }
+    {
+        match p {
+            Pointer::R1R0 => pointer(self.registers.r1, self.registers.r0),
+            Pointer::R3R2 => pointer(self.registers.r3, self.registers.r2),
+        }
+    }
+
+    // The nibble there.
+    pub fn operand(self, p: Pointer, memory: &[u8; 160]) -> u8
+        ensures { λ r. ⌜ r ≡ nibbleAt p (state self (now (memory .entry))) ⌝ }
+    {
+        let a = self.place(p);
+        load(memory, a)
+    }
+
+    // Writes the nibble there.
+    pub fn put(self, p: Pointer, memory: &mut [u8; 160], value: u8)
+        ensures { λ _. ⌜ state self (now (memory .exit)) ≡ withNibble p value (state self (now (memory .entry))) ⌝ }
+    {
+        let a = self.place(p);
+        store(memory, a, value);
+    }
+
+    // A sum goes to ACC and CF.
+    pub fn take(mut self, x: Sum) -> Cpu
+        ensures { λ r. ⌜ r ≡ taking x self ⌝ }
+    {
+        let value = x.value;
+        let carry = x.carry;
+        self.registers.acc = value;
+        self.control.cf = carry;
+        self
+    }
+
+    pub fn set_acc(mut self, value: u8) -> Cpu
+        ensures { λ r. ⌜ r ≡ withAcc value self ⌝ }
+    {
+        self.registers.acc = value;
+        self
+    }
+
+    // Rn.
+    pub fn register(self, n: u8) -> u8
+        ensures { λ r. ⌜ r ≡ registerOf n self ⌝ }
+    {
+        if n == 0 {
+            return self.registers.r0;
+        }
+        if n == 1 {
+            return self.registers.r1;
+        }
+        if n == 2 {
+            return self.registers.r2;
+        }
+        if n == 3 {
+            return self.registers.r3;
+        }
+        self.registers.r4
+    }
+
+    pub fn set_register(mut self, n: u8, value: u8) -> Cpu
+        ensures { λ r. ⌜ r ≡ withRegister n value self ⌝ }
+    {
+        if n == 0 {
+            self.registers.r0 = value;
+            return self;
+        }
+        if n == 1 {
+            self.registers.r1 = value;
+            return self;
+        }
+        if n == 2 {
+            self.registers.r2 = value;
+            return self;
+        }
+        if n == 3 {
+            self.registers.r3 = value;
+            return self;
+        }
+        self.registers.r4 = value;
+        self
+    }
+
+    // MOV R1R0,XXH and MOV R3R2,XXH.
+    pub fn set_pair(mut self, p: Pointer, low: u8, high: u8) -> Cpu
+        ensures { λ r. ⌜ r ≡ withPair p low high self ⌝ }
+    {
+        match p {
+            Pointer::R1R0 => {
+                self.registers.r0 = low;
+                self.registers.r1 = high;
+                self
+            }
+            Pointer::R3R2 => {
+                self.registers.r2 = low;
+                self.registers.r3 = high;
+                self
+            }
+        }
+    }
+
+    // IN A,Pi reads this.
+    pub fn port(self, p: Port) -> u8
+        ensures { λ r. ⌜ r ≡ portOf p self ⌝ }
+    {
+        match p {
+            Port::Pm => self.pins.pm,
+            Port::Ps => self.pins.ps,
+            Port::Pp => self.pins.pp,
+        }
+    }
+}

@@ -1,0 +1,131 @@
+// One step: an interrupt taken, or one instruction, and the cycles that it spends.
+ghost use mathlib.Core.Path.{_≡_};
+ghost use Prim.Native.Nat.{_+_, _%_};
+ghost use Rattle.cpu.specs.State.{state};
+ghost use Rattle.cpu.specs.Step.{entered, executed, step, ticked, timed, vectorOf};
+ghost use Rattle.isa.specs.Timing.{entries};
+use crate::Cpu;
+use datapath::timer::Count;
+use datapath::timer::advance;
+use datapath::timer::clock;
+use isa::decoder::Decoded;
+use isa::decoder::decode;
+use isa::reader::byte_at;
+use std::num::wrapping_add_u32;
+
+// The address `length` bytes on, modulo 4,096.
+pub fn address_after(pc: u16, length: u8) -> u16
+    ensures { λ r. ⌜ r ≡ (pc + length) % 4096 ⌝ }
+{
+    (pc % 4096 + length as u16) % 4096
+}
+
+impl Cpu {
+    // The timer's new count; passing 255 to 0 sets TF.
+    pub fn timed(mut self, k: Count) -> Cpu
+        ensures { λ r. ⌜ r ≡ timed k self ⌝ }
+    {
+        let count = k.count;
+        self.timer.count = count;
+        if k.passed == 1 {
+            self.control.tf = 1;
+            return self;
+        }
+        self
+    }
+
+    // `spent` cycles go by: a running timer moves on by the clocks since the old cycle count.
+    pub fn tick(mut self, spent: u8) -> Cpu
+        ensures { λ r. ⌜ r ≡ ticked spent self ⌝ }
+    {
+        let cycles = wrapping_add_u32(self.cycles, spent as u32);
+        if self.timer.running == 1 {
+            let n = clock(self.options.rate, self.cycles, spent);
+            let k = advance(self.timer.count, n);
+            let mut next = self.timed(k);
+            next.cycles = cycles;
+            return next;
+        }
+        self.cycles = cycles;
+        self
+    }
+
+    // An interrupt is taken: PC and CF go to the stack.
+    pub fn enter(mut self, vector: u16) -> Cpu
+        ensures { λ r. ⌜ r ≡ entered vector self ⌝ }
+    {
+        let pc = self.control.pc.0;
+        let cf = self.control.cf;
+        self.stack.address.0 = pc;
+        self.stack.carry = cf;
+        self.interrupts.level = 2;
+        self.control.pc.0 = vector;
+        self.tick(2)
+    }
+
+    // The vector of the interrupt to take, 0 for none: a held edge goes before TF.
+    pub fn pending(self) -> u16
+        ensures { λ r. ⌜ r ≡ vectorOf self ⌝ }
+    {
+        if self.interrupts.level != 0 {
+            return 0;
+        }
+        if self.interrupts.enabled != 1 {
+            return 0;
+        }
+        if self.interrupts.held == 1 {
+            return 8;
+        }
+        if self.control.tf == 1 {
+            return 4;
+        }
+        0
+    }
+
+    // One instruction, on a processor without a fault.
+    fn execute(mut self, mask: &[u8], list: &[u8; 256], memory: &mut [u8; 160]) -> Cpu
+        requires { ⌜ (self .status .fault ≡ 0) × (now list ≡ entries) ⌝ }
+        ensures { λ r. ⌜ state r (now (memory .exit)) ≡ executed (now (mask .entry)) (state self (now (memory .entry))) ⌝ }
+    {
+        let pc = self.control.pc.0 % 4096;
+        let first = byte_at(mask, pc);
+        let Decoded::Read(instruction) = decode(first, byte_at(mask, pc + 1)) else {
+            self.status.fault = 1;
+            return self;
+        };
+        let entry = list[first as usize];
+        let mut moved = self;
+        let next = address_after(pc, entry / 16);
+        moved.control.pc.0 = next;
+        let after = moved.effect(instruction, mask, memory);
+        let fault = after.status.fault;
+        if fault != 0 {
+            self.status.fault = fault;
+            return self;
+        }
+        after.tick(entry % 16)
+    }
+
+    // One step. `list` is the list of lengths and cycles, which the caller holds.
+    pub fn step(mut self, mask: &[u8], list: &[u8; 256], memory: &mut [u8; 160]) -> Cpu
+        requires { ⌜ now list ≡ entries ⌝ }
+        ensures { λ r. ⌜ state r (now (memory .exit)) ≡ step (now (mask .entry)) (state self (now (memory .entry))) ⌝ }
+    {
+        if self.status.halted != 0 {
+            return self;
+        }
+        if self.status.fault != 0 {
+            return self;
+        }
+        let vector = self.pending();
+        if vector == 8 {
+            self.interrupts.held = 0;
+            return self.enter(8);
+        }
+        if vector == 4 {
+            self.control.tf = 0;
+            return self.enter(4);
+        }
+        self.execute(mask, list, memory)
+    }
+}

@@ -1,0 +1,54 @@
+-- Document 01, "Effects". A carry is 0 or 1. Assumes nothing.
+use Prim.Native.Nat.{ℕ, _+_, _-_, _*_, _/_, _%_, _^_}
+use mathlib.Core.Bool.{Bool, true, false, not, _||_}
+use lib.Dec.{ltb, eqb}
+use Rattle.datapath.specs.declared.alu.Sum.{Sum}
+
+-- a test as a flag of the machine
+abbrev pub flag : Bool → ℕ
+flag true = 1
+flag false = 0
+
+-- "sums are modulo 16; ADD and ADC set CF to 1 when the sum is over 15, else 0"
+abbrev pub summed : ℕ → ℕ → ℕ → Sum
+summed a b c = record { value = (a + b + c) % 16; carry = flag (ltb 15 (a + b + c)) }
+
+-- "SUB adds 15 - operand and 1, SBC adds 15 - operand and CF; CF is then 1 when that sum is over 15, so 1 is no borrow"
+abbrev pub subtracted : ℕ → ℕ → ℕ → Sum
+subtracted a b c = summed a (15 - b) c
+
+abbrev pub pickSum : Bool → Sum → Sum → Sum
+pickSum true x y = x
+pickSum false x y = y
+
+-- "DAA: if ACC is over 9 or CF is 1, ACC + 6 and CF 1; else nothing"
+abbrev pub adjusted : ℕ → ℕ → Sum
+adjusted a c = pickSum (ltb 9 a || eqb c 1) (record { value = (a + 6) % 16; carry = 1 }) (record { value = a; carry = c })
+
+-- "RL and RR copy the bit that goes round into CF; RLC and RRC go through CF"
+abbrev pub rotatedLeft : ℕ → Sum
+rotatedLeft a = record { value = (a * 2 + a / 8) % 16; carry = a / 8 % 2 }
+
+abbrev pub rotatedLeftThrough : ℕ → ℕ → Sum
+rotatedLeftThrough a c = record { value = (a * 2 + c) % 16; carry = a / 8 % 2 }
+
+abbrev pub rotatedRight : ℕ → Sum
+rotatedRight a = record { value = (a / 2 + a % 2 * 8) % 16; carry = a % 2 }
+
+abbrev pub rotatedRightThrough : ℕ → ℕ → Sum
+rotatedRightThrough a c = record { value = (a / 2 + c * 8) % 16; carry = a % 2 }
+
+-- INC and DEC, modulo 16
+abbrev pub incremented : ℕ → ℕ
+incremented a = (a + 1) % 16
+
+abbrev pub decremented : ℕ → ℕ
+decremented a = (a + 15) % 16
+
+-- JAn: bit n of ACC is 1, n being 0 to 3
+abbrev pub bitSet : ℕ → ℕ → Bool
+bitSet a n = eqb (a / 2 ^ (n % 4) % 2) 1
+
+-- JNZ
+abbrev pub notZero : ℕ → Bool
+notZero a = not (eqb a 0)
