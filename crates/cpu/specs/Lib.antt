@@ -1,3 +1,4 @@
 pub mod Effect
+pub mod Range
 pub mod State
 pub mod Step
