@@ -1,0 +1,27 @@
+-- `machine::Machine::apply` meets its contract: the refusal and the machine are the definitions'. Assumes nothing.
+use Rattle.machine.proofs.Answers.{refused, done}
+use Rattle.machine.specs.Events.{applied, happened}
+use borrow.Author.Needs.{needs}
+use Rattle.machine.proofs.Machine.apply.Statement.{statement}
+use Rattle.machine.proofs.Machine.apply.Tie as tie
+
+refusal-requires : tie.Need-refusal-requires
+refusal-requires c κs = search needs
+
+returns : tie.Need-returns
+unfolding applied
+returns c =
+    let a = c .before .before .before .args in
+    refused (c .before .refusal .result) (happened (a .mask .now) (a .event) (a .self)) (a .self) (c .if1 .taken) (c .before .refusal .ensures)
+
+happened-requires : tie.Need-happened-requires
+happened-requires c κs = search needs
+
+returns-2 : tie.Need-returns-2
+unfolding applied
+returns-2 c =
+    let a = c .before .before .before .before .args in
+    done (c .before .before .refusal .result) (happened (a .mask .now) (a .event) (a .self)) (a .self) (c .before .if1 .left) (c .before .before .refusal .ensures) (c .happened .ensures)
+
+pub apply-spec : {M : Type 1} → statement M
+apply-spec = tie.close (tie.spec refusal-requires returns happened-requires returns-2)

@@ -1,0 +1,18 @@
+-- `machine::Machine::step` meets its contract: the processor's step, on the machine's own memory. Assumes nothing.
+use mathlib.Core.Path.{ap}
+use Rattle.machine.specs.Machine.{machineOf}
+use borrow.Author.Needs.{needs}
+use Rattle.machine.proofs.Machine.step.Statement.{statement}
+use Rattle.machine.proofs.Machine.step.Tie as tie
+
+list-requires : tie.Need-list-requires
+list-requires c κs = search needs
+
+step-requires : tie.Need-step-requires
+step-requires c κs = c .before .before .before .list .ensures
+
+returns : tie.Need-returns
+returns c = ap machineOf (c .step .ensures)
+
+pub step-spec : {M : Type 1} → statement M
+step-spec = tie.close (tie.spec list-requires step-requires returns)

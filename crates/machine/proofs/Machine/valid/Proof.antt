@@ -1,0 +1,45 @@
+-- `machine::Machine::valid` meets its contract: the processor's test and the memory's, whose length is the array's. Assumes nothing.
+use Prim.Native.Nat.{ℕ}
+use mathlib.Core.Path.{_≡_, refl, ap₂, _∙_}
+use mathlib.Core.Bool.{Bool, _&&_}
+use mathlib.Core.List.{List}
+use lib.ListN.{length}
+use borrow.Author.Tests.{eq-eqb}
+use Rattle.cpu.specs.Range.{valid, cpuOk, memoryOk, nibbles}
+use Rattle.cpu.specs.declared.Cpu.{Cpu}
+use Rattle.cpu.specs.State.{state}
+use borrow.Author.Needs.{needs}
+use Rattle.machine.proofs.Machine.valid.Statement.{statement}
+use Rattle.machine.proofs.Machine.valid.Tie as tie
+
+met : (k : Cpu) (m : List ℕ) (x y : Bool) {b : Bool} → b ≡ x && y → x ≡ cpuOk k → y ≡ nibbles m → length m ≡ 160 → b ≡ valid (state k m)
+unfolding valid memoryOk
+met k m x y e p q l = e ∙ ap₂ (λ (x y : Bool). x && y) p q ∙ rw (eq-eqb (length m) 160 l) refl
+
+cpu-ok-requires : tie.Need-cpu-ok-requires
+cpu-ok-requires c κs = search needs
+
+slice-aggregate-all-nibbles : tie.Need-slice-aggregate-all-nibbles
+slice-aggregate-all-nibbles c = search needs
+
+all-nibbles-requires : tie.Need-all-nibbles-requires
+all-nibbles-requires c κs = search needs
+
+both-requires : tie.Need-both-requires
+both-requires c κs = search needs
+
+returns : tie.Need-returns
+returns c =
+    let m = c .before .before .before .before .before .args .self in
+    let l : length (m .memory) ≡ 160 = search needs in
+    met (m .cpu) (m .memory) _ _ (c .both .ensures) (c .before .before .before .cpu-ok .ensures) (c .before .all-nibbles .ensures) l
+
+pub valid-spec : {M : Type 1} → statement M
+valid-spec =
+    tie.close
+    (tie.spec
+    cpu-ok-requires
+    slice-aggregate-all-nibbles
+    all-nibbles-requires
+    both-requires
+    returns)

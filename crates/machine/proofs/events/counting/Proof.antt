@@ -1,0 +1,37 @@
+-- `machine::events::counting` meets its contract: the test, the count and the flag are the definitions'. Assumes nothing.
+use mathlib.Core.Path.{_≡_, refl, sym, ap, _∙_}
+use mathlib.Core.Bool.{Bool, true, false}
+use Rattle.datapath.specs.declared.timer.Count.{Count}
+use Rattle.datapath.specs.Timer.{counted}
+use Rattle.cpu.specs.Effect.{pick}
+use Rattle.cpu.specs.Step.{timed}
+use Rattle.machine.specs.Events.{clocked, counting}
+use borrow.Author.Needs.{needs}
+use Rattle.machine.proofs.events.counting.Statement.{statement}
+use Rattle.machine.proofs.events.counting.Tie as tie
+
+clocked-requires : tie.Need-clocked-requires
+clocked-requires c κs = search needs
+
+advance-requires : tie.Need-advance-requires
+advance-requires c κs = search needs
+
+timed-requires : tie.Need-timed-requires
+timed-requires c κs = search needs
+
+returns : tie.Need-returns
+unfolding counting
+returns c =
+    let a = c .before .before .before .before .args in
+    c .timed .ensures ∙ ap (λ (k : Count). timed k (a .c)) (c .before .advance .ensures)
+    ∙ ap (λ (b : Bool). pick b (timed (counted (a .c .timer .count) (a .n)) (a .c)) (a .c)) (sym (c .before .before .if1 .taken) ∙ c .before .before .before .clocked .ensures)
+
+returns-2 : tie.Need-returns-2
+unfolding counting
+returns-2 c =
+    let a = c .before .before .args in
+    ap (λ (b : Bool). pick b (timed (counted (a .c .timer .count) (a .n)) (a .c)) (a .c)) (sym (c .if1 .left) ∙ c .before .clocked .ensures)
+
+pub counting-spec : {M : Type 1} → statement M
+counting-spec =
+    tie.close (tie.spec clocked-requires advance-requires timed-requires returns returns-2)

@@ -1,0 +1,15 @@
+-- `machine::ranges::stack_ok` meets its contract: the tests, joined as the definition joins them. Assumes nothing.
+use Rattle.cpu.specs.Range.{stackOk}
+use borrow.Author.Needs.{needs}
+use Rattle.machine.proofs.ranges.stack_ok.Statement.{statement}
+use Rattle.machine.proofs.ranges.stack_ok.Tie as tie
+
+both-requires : tie.Need-both-requires
+both-requires c κs = search needs
+
+returns : tie.Need-returns
+unfolding stackOk
+returns c = cc
+
+pub stack-ok-spec : {M : Type 1} → statement M
+stack-ok-spec = tie.close (tie.spec both-requires returns)

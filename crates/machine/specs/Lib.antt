@@ -1,0 +1,4 @@
+pub mod Events
+pub mod Machine
+pub mod Power
+pub mod Run

@@ -1,0 +1,221 @@
+// The events other than power-on, applied to a machine by value.
+ghost use mathlib.Core.Path.{_≡_};
+ghost use Rattle.machine.specs.Events.{applied, clocked, counting, eventRefusal, fallen, happened, interrupted, onCpuOf, pinned, refusalOf, wakes, withInt, withPorts, woken};
+use crate::Answer;
+use crate::Machine;
+use cpu::Cpu;
+use datapath::timer::advance;
+
+// Kinds 2 to 6 of document 01's records.
+pub enum Event {
+    // Run: at most this many steps.
+    Run(u16),
+    // The levels of PM, PS and PP.
+    Pins(u8, u8, u8),
+    // The level of INT.
+    Int(u8),
+    // Rising edges of TMCLK.
+    Tmclk(u16),
+    // RES.
+    Res,
+}
+
+// The bits that fall and whose wake bit is 1.
+fn fallen(old: u8, new: u8, wake: u8) -> u8
+    ensures { λ r. ⌜ r ≡ fallen old new wake ⌝ }
+{
+    old & (new ^ 15) & wake
+}
+
+// Whether these levels wake a halted processor.
+fn wakes(pm: u8, ps: u8, pp: u8, c: Cpu) -> bool
+    ensures { λ r. ⌜ r ≡ wakes pm ps pp c ⌝ }
+{
+    if c.status.halted != 1 {
+        return false;
+    }
+    if fallen(c.pins.pm, pm, c.options.pm) != 0 {
+        return true;
+    }
+    if fallen(c.pins.ps, ps, c.options.ps) != 0 {
+        return true;
+    }
+    fallen(c.pins.pp, pp, c.options.pp) != 0
+}
+
+// An edge is held, and the processor wakes.
+fn woken(mut c: Cpu) -> Cpu
+    ensures { λ r. ⌜ r ≡ woken c ⌝ }
+{
+    c.interrupts.held = 1;
+    c.status.halted = 0;
+    c
+}
+
+// Whether TMCLK moves the timer.
+fn clocked(c: Cpu) -> bool
+    ensures { λ r. ⌜ r ≡ clocked c ⌝ }
+{
+    if c.options.rate != 255 {
+        return false;
+    }
+    if c.timer.running != 1 {
+        return false;
+    }
+    c.status.halted == 0
+}
+
+fn set_ports(mut c: Cpu, pm: u8, ps: u8, pp: u8) -> Cpu
+    ensures { λ r. ⌜ r ≡ withPorts pm ps pp c ⌝ }
+{
+    c.pins.pm = pm;
+    c.pins.ps = ps;
+    c.pins.pp = pp;
+    c
+}
+
+fn set_int(mut c: Cpu, level: u8) -> Cpu
+    ensures { λ r. ⌜ r ≡ withInt level c ⌝ }
+{
+    c.pins.int = level;
+    c
+}
+
+// New levels of the ports: a falling wake bit wakes a halted processor.
+fn pinned(c: Cpu, pm: u8, ps: u8, pp: u8) -> Cpu
+    ensures { λ r. ⌜ r ≡ pinned pm ps pp c ⌝ }
+{
+    if wakes(pm, ps, pp, c) {
+        return set_ports(woken(c), pm, ps, pp);
+    }
+    set_ports(c, pm, ps, pp)
+}
+
+// A new level of INT: a falling edge is always held and wakes.
+fn interrupted(c: Cpu, level: u8) -> Cpu
+    ensures { λ r. ⌜ r ≡ interrupted level c ⌝ }
+{
+    if c.pins.int != 1 {
+        return set_int(c, level);
+    }
+    if level != 0 {
+        return set_int(c, level);
+    }
+    set_int(woken(c), level)
+}
+
+// Rising edges of TMCLK.
+fn counting(c: Cpu, n: u16) -> Cpu
+    ensures { λ r. ⌜ r ≡ counting n c ⌝ }
+{
+    if clocked(c) {
+        let k = advance(c.timer.count, n);
+        return c.timed(k);
+    }
+    c
+}
+
+// Refusal 1 or 3 of an event, 0 for none.
+fn event_refusal(event: Event, mask: &[u8]) -> u8
+    ensures { λ r. ⌜ r ≡ eventRefusal (now (mask .entry)) event ⌝ }
+{
+    match event {
+        Event::Run(_) => {
+            if mask.len() != 4096 {
+                return 1;
+            }
+            0
+        }
+        Event::Pins(pm, ps, pp) => {
+            if 15 < pm {
+                return 3;
+            }
+            if 15 < ps {
+                return 3;
+            }
+            if 15 < pp {
+                return 3;
+            }
+            0
+        }
+        Event::Int(level) => {
+            if 1 < level {
+                return 3;
+            }
+            0
+        }
+        Event::Tmclk(_) => 0,
+        Event::Res => 0,
+    }
+}
+
+impl Machine {
+    pub fn pins(mut self, pm: u8, ps: u8, pp: u8) -> Machine
+        ensures { λ r. ⌜ r ≡ onCpuOf (pinned pm ps pp) self ⌝ }
+    {
+        let c = pinned(self.cpu, pm, ps, pp);
+        self.cpu = c;
+        self
+    }
+
+    pub fn int(mut self, level: u8) -> Machine
+        ensures { λ r. ⌜ r ≡ onCpuOf (interrupted level) self ⌝ }
+    {
+        let c = interrupted(self.cpu, level);
+        self.cpu = c;
+        self
+    }
+
+    pub fn tmclk(mut self, n: u16) -> Machine
+        ensures { λ r. ⌜ r ≡ onCpuOf (counting n) self ⌝ }
+    {
+        let c = counting(self.cpu, n);
+        self.cpu = c;
+        self
+    }
+
+    // The refusal of an event, 0 for none: the lowest number wins.
+    fn refusal(self, event: Event, mask: &[u8]) -> u8
+        ensures { λ r. ⌜ r ≡ refusalOf (now (mask .entry)) event self ⌝ }
+    {
+        let first = event_refusal(event, mask);
+        if first != 0 {
+            return first;
+        }
+        if self.valid() {
+            return 0;
+        }
+        5
+    }
+
+    // What an event makes of the machine.
+    fn happened(self, event: Event, mask: &[u8]) -> Machine
+        ensures { λ r. ⌜ r ≡ happened (now (mask .entry)) event self ⌝ }
+    {
+        match event {
+            Event::Run(n) => self.run(mask, n),
+            Event::Pins(pm, ps, pp) => self.pins(pm, ps, pp),
+            Event::Int(level) => self.int(level),
+            Event::Tmclk(n) => self.tmclk(n),
+            Event::Res => self.reset(),
+        }
+    }
+
+    // An event. A refused one leaves the machine as it was.
+    pub fn apply(self, event: Event, mask: &[u8]) -> Answer
+        ensures { λ r. ⌜ r ≡ applied (now (mask .entry)) event self ⌝ }
+    {
+        let refusal = self.refusal(event, mask);
+        if refusal != 0 {
+            return Answer {
+                refusal,
+                machine: self,
+            };
+        }
+        let machine = self.happened(event, mask);
+        Answer {
+            refusal: 0,
+            machine,
+        }
+    }
+}

@@ -1,0 +1,175 @@
+// Power-on and RES.
+ghost use mathlib.Core.Path.{_≡_};
+ghost use lib.ListN.{drop, length};
+ghost use Prim.Native.Nat.{_≤_};
+ghost use Rattle.machine.specs.Power.{afterRes, blank, powerOn, powerRefusal, powered, reset};
+use crate::Answer;
+use crate::Machine;
+use crate::ranges::all_nibbles;
+use crate::ranges::options_ok;
+use cpu::Control;
+use cpu::Cpu;
+use cpu::Interrupts;
+use cpu::Options;
+use cpu::Outputs;
+use cpu::Pins;
+use cpu::Registers;
+use cpu::Stack;
+use cpu::Status;
+use cpu::Timer;
+use isa::ProgramAddress;
+
+// The refusal of a power-on, 0 for none.
+fn power_refusal(options: Options, image: &[u8]) -> u8
+    ensures { λ r. ⌜ r ≡ powerRefusal options (now (image .entry)) ⌝ }
+{
+    if image.len() != 166 {
+        return 2;
+    }
+    if all_nibbles(image) {
+        if options_ok(options) {
+            return 0;
+        }
+        return 4;
+    }
+    3
+}
+
+// The data memory of an image: all after ACC and R0-R4.
+fn image_memory(image: &[u8]) -> [u8; 160]
+    requires { ⌜ length (now image) ≡ 166 ⌝ }
+    ensures { λ r. ⌜ r ≡ drop 6 (now (image .entry)) ⌝ }
+{
+    let mut memory = [0u8; 160];
+    let mut i = 0;
+    while i < 160 {
+        memory[i] = image[i + 6];
+        i += 1;
+    }
+    memory
+}
+
+// The processor after RES, with what RES keeps.
+fn after_res(registers: Registers, pins: Pins, options: Options, cycles: u32) -> Cpu
+    ensures { λ r. ⌜ r ≡ afterRes registers pins options cycles ⌝ }
+{
+    Cpu {
+        registers,
+        control: Control {
+            pc: ProgramAddress(0),
+            cf: 0,
+            tf: 0,
+        },
+        timer: Timer {
+            count: 0,
+            running: 0,
+        },
+        interrupts: Interrupts {
+            enabled: 0,
+            held: 0,
+            level: 0,
+        },
+        stack: Stack {
+            address: ProgramAddress(0),
+            carry: 0,
+        },
+        status: Status {
+            halted: 0,
+            fault: 0,
+        },
+        outputs: Outputs {
+            pa: 15,
+            channel: 16,
+            mode: 0,
+        },
+        pins,
+        options,
+        cycles,
+    }
+}
+
+// The machine that a power-on makes of options and an image.
+fn powered(options: Options, image: &[u8]) -> Machine
+    requires { ⌜ length (now image) ≡ 166 ⌝ }
+    ensures { λ r. ⌜ r ≡ powered options (now (image .entry)) ⌝ }
+{
+    let registers = Registers {
+        acc: image[0],
+        r0: image[1],
+        r1: image[2],
+        r2: image[3],
+        r3: image[4],
+        r4: image[5],
+    };
+    let pins = Pins {
+        pm: 15,
+        ps: 15,
+        pp: 15,
+        int: 1,
+    };
+    let cpu = after_res(registers, pins, options, 0);
+    let memory = image_memory(image);
+    Machine { cpu, memory }
+}
+
+impl Machine {
+    // A machine before its first power-on: all 0. Every event on it is refused.
+    pub fn blank() -> Machine
+        ensures { λ r. ⌜ r ≡ blank ⌝ }
+    {
+        let registers = Registers {
+            acc: 0,
+            r0: 0,
+            r1: 0,
+            r2: 0,
+            r3: 0,
+            r4: 0,
+        };
+        let pins = Pins {
+            pm: 0,
+            ps: 0,
+            pp: 0,
+            int: 0,
+        };
+        let options = Options {
+            rate: 0,
+            commons: 0,
+            pm: 0,
+            ps: 0,
+            pp: 0,
+        };
+        let cpu = after_res(registers, pins, options, 0);
+        Machine {
+            cpu,
+            memory: [0; 160],
+        }
+    }
+
+    // Power-on. A refused one leaves the machine as it was.
+    pub fn power_on(self, options: Options, image: &[u8]) -> Answer
+        ensures { λ r. ⌜ r ≡ powerOn options (now (image .entry)) self ⌝ }
+    {
+        let refusal = power_refusal(options, image);
+        if refusal != 0 {
+            return Answer {
+                refusal,
+                machine: self,
+            };
+        }
+        let machine = powered(options, image);
+        Answer {
+            refusal: 0,
+            machine,
+        }
+    }
+
+    // RES.
+    pub fn reset(mut self) -> Machine
+        ensures { λ r. ⌜ r ≡ reset self ⌝ }
+    {
+        let cpu = self.cpu;
+        let next = after_res(cpu.registers, cpu.pins, cpu.options, cpu.cycles);
+        self.cpu = next;
+        self
+    }
+}
