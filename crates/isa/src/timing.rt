@@ -2,7 +2,7 @@
 ghost use mathlib.Core.Path.{_≡_};
 ghost use Rattle.isa.specs.Timing.{cyclesOf, entries, lengthOf};
 
-// The list of document 01: the length in the high nibble, the cycles in the low one, 0 where no pattern fits. Sixteen first bytes a line.
+// The list of document 01: the length in the high nibble, the cycles in the low one, 0 where no pattern fits.
 const ENTRIES: [u8; 256] = [
     0x11,
     0x11,
