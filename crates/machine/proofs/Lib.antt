@@ -1,2 +1,4 @@
 pub mod Answers
+pub mod Fill
+pub mod Reports
 pub mod Runs

@@ -1,4 +1,5 @@
 pub mod Events
 pub mod Machine
 pub mod Power
+pub mod Report
 pub mod Run

@@ -1,0 +1,33 @@
+-- `machine::Machine::report` meets its contract: each return rewrites with the tests that led there. Assumes nothing.
+use mathlib.Core.Path.{refl, sym, ap, _∙_}
+use borrow.Author.Tests.{eq-eqb, ne-eqb}
+use Rattle.machine.specs.Report.{report, reporting}
+use borrow.Author.Needs.{needs}
+use Rattle.machine.proofs.Machine.report.Statement.{statement}
+use Rattle.machine.proofs.Machine.report.Tie as tie
+
+returns : tie.Need-returns
+unfolding report
+returns c = rw (ne-eqb _ 48 (c .if1 .taken)) refl
+
+valid-requires : tie.Need-valid-requires
+valid-requires c κs = search needs
+
+write-report-requires : tie.Need-write-report-requires
+write-report-requires c κs = search needs
+
+same-length : tie.Need-same-length
+same-length c = search needs
+
+returns-2 : tie.Need-returns-2
+unfolding report
+returns-2 c = ap (reporting 0) (c .before .before .write-report .ensures) ∙ rw (eq-eqb _ 48 (c .before .before .before .before .before .before .before .before .if1 .left), sym (c .before .before .before .before .before .before .before .valid .ensures) ∙ c .before .before .before .before .before .before .if2 .taken) refl
+
+returns-3 : tie.Need-returns-3
+unfolding report
+returns-3 c = rw (eq-eqb _ 48 (c .before .before .if1 .left), sym (c .before .valid .ensures) ∙ c .if2 .left) refl
+
+pub report-spec : {M : Type 1} → statement M
+report-spec =
+    tie.close
+    (tie.spec returns valid-requires write-report-requires same-length returns-2 returns-3)

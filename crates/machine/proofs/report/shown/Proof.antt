@@ -1,0 +1,29 @@
+-- `machine::report::shown` meets its contract: each return rewrites with the tests that led there. Assumes nothing.
+use Prim.Native.Nat.{ℕ, _%_}
+use mathlib.Core.Path.{refl, ap, _∙_}
+use borrow.Author.Tests.{eq-eqb, ne-eqb}
+use Rattle.machine.specs.Report.{shown}
+use borrow.Author.Needs.{needs}
+use Rattle.machine.proofs.report.shown.Statement.{statement}
+use Rattle.machine.proofs.report.shown.Tie as tie
+
+returns : tie.Need-returns
+unfolding shown
+returns c = rw (eq-eqb _ 1 (c .if1 .taken)) refl
+
+add-t6 : tie.Need-add-t6
+add-t6 c = search needs
+
+load-requires : tie.Need-load-requires
+load-requires c κs = search needs
+
+returns-2 : tie.Need-returns-2
+unfolding shown
+returns-2 c = ap (λ (x : ℕ). x % 8) (c .before .before .load .ensures) ∙ rw (ne-eqb _ 1 (c .before .before .before .if1 .left), eq-eqb _ 3 (c .if2 .taken)) refl
+
+returns-3 : tie.Need-returns-3
+unfolding shown
+returns-3 c = c .before .before .load .ensures ∙ rw (ne-eqb _ 1 (c .before .before .before .if1 .left), ne-eqb _ 3 (c .if2 .left)) refl
+
+pub shown-spec : {M : Type 1} → statement M
+shown-spec = tie.close (tie.spec returns add-t6 load-requires returns-2 returns-3)

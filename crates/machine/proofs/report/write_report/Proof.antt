@@ -1,0 +1,60 @@
+-- `machine::report::write_report` meets its contract. The loop's invariant: the first `k` bytes are the report's. Assumes nothing.
+use Prim.Native.Nat.{ℕ, _-_, _≤_}
+use mathlib.Core.Path.{_≡_, refl, _∙_}
+use native.Mathlib.Omega.{arith}
+use lib.ListN.{length, take, length-set}
+use Rattle.cpu.specs.State.{state}
+use Rattle.machine.specs.Machine.{machineOf}
+use Rattle.machine.specs.Report.{reported}
+use Rattle.machine.proofs.Fill.{fill-more, fill-all}
+use Rattle.machine.proofs.Reports.{report-length}
+use Rattle.machine.proofs.report.write_report.Statement.{statement}
+use Rattle.machine.proofs.report.write_report.Tie as tie
+
+abbrev Inv-loop : tie.InvT-loop
+Inv-loop cpu memory out₀ k₀ out k = (k ≤ 48) × (length out ≡ length out₀) × (take k out ≡ take k (reported (machineOf (state cpu memory))))
+
+abbrev μ-loop : tie.MeasureT-loop
+μ-loop cpu memory out₀ k₀ out k = 48 - k
+
+loop-holds : tie.Need-loop-holds Inv-loop μ-loop
+loop-holds c = (omega arith, refl, refl)
+
+report-byte-requires : tie.Need-report-byte-requires Inv-loop μ-loop
+report-byte-requires c κs = omega arith
+
+cast-out : tie.Need-cast-out Inv-loop μ-loop
+cast-out c = omega arith
+
+slice-write-out : tie.Need-slice-write-out Inv-loop μ-loop
+slice-write-out c = omega arith
+
+add-k : tie.Need-add-k Inv-loop μ-loop
+add-k c = omega arith
+
+loop-less : tie.Need-loop-less Inv-loop μ-loop
+loop-less c = omega arith
+
+loop-again : tie.Need-loop-again Inv-loop μ-loop
+loop-again c =
+    let l = c .before .before in
+    let a = l .before .before .args in
+    let target = reported (machineOf (state (a .cpu) (a .memory .now))) in (
+      omega arith,
+      length-set (l .loop .out) (l .loop .k) (c .report-byte .result) ∙ l .loop .inv .1,
+      fill-more target (l .loop .out) (l .loop .k) (c .report-byte .result) (omega arith) (omega (arith, report-length (a .cpu) (a .memory .now)))
+          (c .report-byte .ensures) (l .loop .inv .2),
+    )
+
+same-length : tie.Need-same-length Inv-loop μ-loop
+same-length c = c .before .loop .inv .1
+
+returns : tie.Need-returns Inv-loop μ-loop
+returns c =
+    let l = c .before in
+    let a = l .before .before .args in
+    fill-all (reported (machineOf (state (a .cpu) (a .memory .now)))) (l .loop .out) (l .loop .k) (omega arith) (omega (arith, report-length (a .cpu) (a .memory .now))) (l .loop .inv .2)
+
+pub write-report-spec : {M : Type 1} → statement M
+write-report-spec =
+    tie.close (tie.spec Inv-loop μ-loop loop-holds report-byte-requires cast-out slice-write-out add-k loop-less loop-again same-length returns)
