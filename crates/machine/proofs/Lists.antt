@@ -24,7 +24,7 @@ use Rattle.cpu.proofs.Ranges.{Valid, CpuIn, RegistersIn, PinsIn, StatusIn, from
 use Rattle.cpu.proofs.Kept.{Bytes, step-valid}
 use Rattle.machine.specs.Machine.{stateOf, machineOf}
 use Rattle.machine.specs.Power.{afterRes, reset, powered, powerRefusal, answered, powerOn}
-use Rattle.machine.specs.Run.{ran}
+use Rattle.cpu.specs.Run.{ran}
 use Rattle.machine.specs.Events.{woken, wakes, withPorts, withInt, pinned, interrupted, clocked, counting, happened, eventRefusal, refusalOf, applied, Input, power, event, answerTo, after}
 use Rattle.machine.specs.declared.Machine.{Machine}
 use Rattle.machine.specs.declared.Answer.{Answer}
