@@ -1,20 +1,19 @@
 -- Chains and the pairs that they reach. The start is reached, and so is each successor of a reached pair, since a chain can be made longer
 -- at its end. What holds of the start and passes to successors holds of every reached pair, by induction along the chain. So every
 -- reached pair is in range: an instruction that was read names only targets that are addresses. Assumes nothing.
-use Prim.Native.Nat.{ℕ, _+_, _*_, _/_, _%_, _<_}
+use Prim.Native.Nat.{ℕ, _+_, _%_, _<_}
 use native.Mathlib.Omega.{arith}
-use mathlib.Core.Path.{_≡_, refl, sym, ap, subst}
-use mathlib.Core.Bool.{Bool, true, false}
+use mathlib.Core.Path.{_≡_, refl}
+use mathlib.Core.Bool.{Bool, true}
 use mathlib.Core.List.{List, [], _∷_}
 use lib.Dec.{eqb}
 use lib.ListN.{getD}
 use borrow.Author.Tests.{ltb-true}
 use Rattle.isa.specs.Code.{inRange}
-use Rattle.isa.specs.Reading.{decoded, Reads}
 use Rattle.isa.specs.Fetching.{byteAt}
 use Rattle.isa.proofs.Exact.{sound}
 use Rattle.isa.specs.declared.decoder.Decoded.{Decoded}
-use Rattle.isa.specs.declared.decoder.Decoded.the-variants.{Read, Unreadable}
+use Rattle.isa.specs.declared.decoder.Decoded.the-variants.{Read}
 use Rattle.isa.specs.declared.Instruction.{Instruction}
 use Rattle.isa.specs.declared.Instruction.the-variants.{
   AddAM,
@@ -80,7 +79,7 @@ use Rattle.isa.specs.declared.Instruction.the-variants.{
 }
 use Rattle.checker.specs.declared.flow.Flow.{Flow}
 use Rattle.checker.specs.declared.flow.Flow.the-variants.{On, Enable, Jump, To, Sub, Back}
-use Rattle.checker.specs.Marks.{Pair, pair, pickPairs, flowOf, readAt, movedFrom, branchTo, handed, handedBy, fault, successors, Member, here, there, Chain, one, more, Reached}
+use Rattle.checker.specs.Marks.{Pair, pair, pickPairs, flowOf, readAt, movedFrom, handed, handedBy, fault, successors, Member, here, there, Chain, one, more, Reached}
 
 -- ---- chains
 pub reached-start : (mask : List ℕ) → Reached mask (pair 0 0)
