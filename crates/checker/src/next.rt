@@ -10,6 +10,11 @@ use isa::decoder::decode;
 use isa::reader::byte_at;
 use isa::timing::length;
 
+// The vectors 4 and 8 in level 2, where EI lets an interrupt go.
+const TIMER: u16 = 4 * 3 + 2;
+
+const EDGE: u16 = 8 * 3 + 2;
+
 // The codes of a pair's successors.
 pub enum Codes {
     Nothing,
@@ -60,7 +65,7 @@ pub fn next_codes(mask: &[u8], code: u16) -> Codes
     let flow = flow_of(instruction);
     match flow {
         Flow::On => Codes::One(moved * 3 + level),
-        Flow::Enable => Codes::Three(moved * 3 + level, 14, 26),
+        Flow::Enable => Codes::Three(moved * 3 + level, TIMER, EDGE),
         Flow::Jump(t) => Codes::One(t.0 * 3 + level),
         Flow::To(t) => Codes::Two(
             moved * 3 + level,
