@@ -1,0 +1,36 @@
+-- Property 3 of document 01, one claim about the whole list. It speaks of what the exported functions promise: `checker::check` promises
+-- `Answers`, `Machine::power_on` promises `powerOn` and `Machine::apply` promises `applied`, and a `Session` is a list of such calls, each on
+-- the machine that the one before answered. Assumes nothing.
+use Prim.Native.Nat.{ℕ, _<_}
+use mathlib.Core.Path.{_≡_}
+use mathlib.Core.List.{List}
+use lib.ListN.{getD}
+use Rattle.cpu.specs.declared.Options.{Options}
+use Rattle.machine.specs.Power.{powerOn}
+use Rattle.machine.specs.Events.{Input, after}
+use Rattle.machine.specs.declared.Machine.{Machine}
+use Rattle.machine.specs.declared.Answer.{Answer}
+use Rattle.machine.proofs.Lists.{Session}
+use Rattle.checker.specs.Verdicts.{Answers, levelBit}
+use Rattle.checker.specs.declared.check.Verdict.the-variants.{Passed}
+
+-- what is assumed: the checker passed the mask and wrote these marks, and a power-on was accepted
+pub record Given (mask old marks : List ℕ) (options : Options) (image : List ℕ) (first : Machine) (start : Answer) : Type 0 where
+  pub bytes : (k : ℕ) → getD mask k 0 < 256
+  pub passed : Answers mask old marks Passed
+  pub powered : start ≡ powerOn options image first
+  pub accepted : start .refusal ≡ 0
+
+-- what holds of the machine after the list: it is the one that the rules give, its fault is 0, and its pair is marked
+pub record Holds (mask marks : List ℕ) (start : Machine) (inputs : List Input) (last : Machine) : Type 0 where
+  pub state : last ≡ after mask inputs start
+  pub no-fault : last .cpu .status .fault ≡ 0
+  pub marked : levelBit (getD marks (last .cpu .control .pc .0) 0) (last .cpu .interrupts .level) ≡ 1
+
+-- "The list starts from the machine that an accepted power-on returned. Its events are kinds 1 to 6, in any order and number .. a refused one
+-- leaves it as it was, and a further power-on has options and an image of its own. Every Run in the list has the one passed mask"
+abbrev pub Property3 : Type 0
+Property3 =
+    (mask old marks : List ℕ) (options : Options) (image : List ℕ) (first : Machine) (start : Answer) → Given mask old marks options image first start
+    → (inputs : List Input) (last : Machine) → Session mask (start .machine) inputs last
+    → Holds mask marks (start .machine) inputs last
