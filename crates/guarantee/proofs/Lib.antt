@@ -1,0 +1,3 @@
+pub mod Flows
+pub mod Kept
+pub mod Property3
