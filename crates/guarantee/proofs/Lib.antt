@@ -1,3 +1,4 @@
 pub mod Flows
 pub mod Kept
+pub mod Masks
 pub mod Property3
