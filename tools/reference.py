@@ -391,12 +391,9 @@ def run(mask, m, n):
     return m
 
 
-def event_power_on(m, options, image):
-    """Kind 1: 'a further power-on has options and an image of its own'; 2, 3, 4, then 5."""
-    new = power_on(options, image)
-    if isinstance(new, Refused):
-        return new
-    return new if machine_ok(m) else Refused(5)
+def event_power_on(_m, options, image):
+    """Kind 1: 'a further power-on has options and an image of its own': the machine before it is not looked at."""
+    return power_on(options, image)
 
 
 def event_run(m, mask, n):

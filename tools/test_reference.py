@@ -177,8 +177,8 @@ def test_refusals():
     broken = machine(pc=4096)
     same(ref.step(mask(), broken), Refused(5), 'PC 4,096')
     same(ref.event_pins(broken, 16, 0, 0), Refused(3), '3 before 5')
-    same(ref.event_power_on(broken, OPTIONS, [0] * 166), Refused(5), 'power-on over PC 4,096')
-    same(ref.event_power_on(broken, bad, [0] * 166), Refused(4), '4 before 5')
+    same(ref.event_power_on(broken, OPTIONS, [0] * 166), ref.power_on(OPTIONS, [0] * 166), 'power-on over PC 4,096')
+    same(ref.event_power_on(broken, bad, [0] * 166), Refused(4), 'rate 6 over PC 4,096')
     same(ref.event_res(machine(halted=1, fault=1)), Refused(5), 'halted with a fault')
     same(ref.read_at(mask(), 4096), Refused(5), 'read at 4,096')
     # Every field of the machine has a range.
