@@ -1,0 +1,4 @@
+pub mod Checks
+pub mod Formats
+pub mod Offsets
+pub mod Values
