@@ -1,4 +1,12 @@
 // The marks and the verdict.
+ghost use mathlib.Core.Path.{_≡_};
+ghost use Prim.Native.Nat.{ℕ, _≤_};
+ghost use lib.ListN.{getD, length};
+ghost use Rattle.checker.specs.Verdicts.{Answers};
+ghost use Rattle.checker.specs.Walk.{Judged, Packed};
+use crate::next::fault_of;
+use crate::walk::reach;
+
 pub enum Verdict {
     // No reached pair is forbidden.
     Passed,
@@ -8,4 +16,51 @@ pub enum Verdict {
     BadMask,
     // Refusal 2: the marks have not 4,096 bytes.
     BadMarks,
+}
+
+// The mark byte of each address: the flags of its three codes, as bits.
+fn pack(seen: &[u8; 12288], marks: &mut [u8])
+    requires { ⌜ length (now marks) ≡ 4096 ⌝ }
+    requires { ⌜ ((k : ℕ) → getD (now seen) k 0 ≤ 1) ⌝ }
+    ensures { λ r. ⌜ Packed (now (seen .entry)) (now (marks .exit)) ⌝ }
+{
+    let mut address: usize = 0;
+    while address < 4096 {
+        let code = address * 3;
+        marks[address] = seen[code] + seen[code + 1] * 2 + seen[code + 2] * 4;
+        address += 1;
+    }
+}
+
+// The first flagged code whose pair is forbidden.
+fn judge(mask: &[u8], seen: &[u8; 12288]) -> Verdict
+    ensures { λ r. ⌜ Judged (now (mask .entry)) (now (seen .entry)) r ⌝ }
+{
+    let mut code: u16 = 0;
+    while code < 12288 {
+        let at = code as usize;
+        if seen[at] == 1 {
+            let fault = fault_of(mask, code);
+            if fault != 0 {
+                return Verdict::Failed(fault, code / 3, (code % 3) as u8);
+            }
+        }
+        code += 1;
+    }
+    Verdict::Passed
+}
+
+// Marks the pairs that chains from address 0, level 0 reach, and says whether one of them is forbidden.
+pub fn check(mask: &[u8], marks: &mut [u8]) -> Verdict
+    ensures { λ r. ⌜ Answers (now (mask .entry)) (now (marks .entry)) (now (marks .exit)) r ⌝ }
+{
+    if mask.len() != 4096 {
+        return Verdict::BadMask;
+    }
+    if marks.len() != 4096 {
+        return Verdict::BadMarks;
+    }
+    let seen = reach(mask);
+    pack(&seen, marks);
+    judge(mask, &seen)
 }

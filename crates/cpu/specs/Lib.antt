@@ -1,4 +1,5 @@
 pub mod Effect
 pub mod Range
+pub mod Run
 pub mod State
 pub mod Step

@@ -20,7 +20,12 @@ use isa::Pointer;
 
 impl Cpu {
     // The processor after an instruction, the PC having moved on. A fault is set in the status.
-    pub fn effect(mut self, instruction: Instruction, mask: &[u8], memory: &mut [u8; 160]) -> Cpu
+    pub(crate) fn effect(
+        mut self,
+        instruction: Instruction,
+        mask: &[u8],
+        memory: &mut [u8; 160],
+    ) -> Cpu
         ensures { λ r. ⌜ state r (now (memory .exit)) ≡ effect (now (mask .entry)) instruction (state self (now (memory .entry))) ⌝ }
     {
         match instruction {

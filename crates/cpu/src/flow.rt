@@ -14,7 +14,7 @@ use isa::reader::byte_at;
 
 impl Cpu {
     // Whether a conditional branch is taken.
-    pub fn holds(self, k: Condition) -> bool
+    pub(crate) fn holds(self, k: Condition) -> bool
         ensures { λ r. ⌜ r ≡ holds k self ⌝ }
     {
         match k {
@@ -31,7 +31,7 @@ impl Cpu {
     }
 
     // JTMR clears TF, taken or not.
-    pub fn tested(mut self, k: Condition) -> Cpu
+    pub(crate) fn tested(mut self, k: Condition) -> Cpu
         ensures { λ r. ⌜ r ≡ tested k self ⌝ }
     {
         match k {
@@ -51,7 +51,7 @@ impl Cpu {
     }
 
     // A conditional branch: bit 11 of the moved PC stays.
-    pub fn branch(self, k: Condition, target: ProgramAddress) -> Cpu
+    pub(crate) fn branch(self, k: Condition, target: ProgramAddress) -> Cpu
         ensures { λ r. ⌜ r ≡ branched k target self ⌝ }
     {
         let taken = self.holds(k);
@@ -64,7 +64,7 @@ impl Cpu {
     }
 
     // CALL: the stack carry stays.
-    pub fn call(mut self, target: ProgramAddress) -> Cpu
+    pub(crate) fn call(mut self, target: ProgramAddress) -> Cpu
         ensures { λ r. ⌜ r ≡ called target self ⌝ }
     {
         if self.interrupts.level == 0 {
@@ -80,7 +80,7 @@ impl Cpu {
     }
 
     // RET.
-    pub fn ret(mut self) -> Cpu
+    pub(crate) fn ret(mut self) -> Cpu
         ensures { λ r. ⌜ r ≡ returned self ⌝ }
     {
         if self.interrupts.level == 0 {
@@ -94,7 +94,7 @@ impl Cpu {
     }
 
     // RETI: CF comes back too.
-    pub fn reti(mut self) -> Cpu
+    pub(crate) fn reti(mut self) -> Cpu
         ensures { λ r. ⌜ r ≡ returnedWithCarry self ⌝ }
     {
         if self.interrupts.level == 0 {
@@ -110,7 +110,7 @@ impl Cpu {
     }
 
     // The page of a table read.
-    pub fn page(self, p: Page) -> u16
+    pub(crate) fn page(self, p: Page) -> u16
         ensures { λ r. ⌜ r ≡ pageOf p self ⌝ }
         ensures { λ r. ⌜ r < 16 ⌝ }
     {
@@ -121,7 +121,7 @@ impl Cpu {
     }
 
     // The ROM byte that READ R4A and READF R4A take.
-    pub fn table_r4(self, p: Page, mask: &[u8], memory: &[u8; 160]) -> u8
+    pub(crate) fn table_r4(self, p: Page, mask: &[u8], memory: &[u8; 160]) -> u8
         ensures { λ r. ⌜ r ≡ tableR4 (now (mask .entry)) p (state self (now (memory .entry))) ⌝ }
     {
         let page = self.page(p);
@@ -133,7 +133,7 @@ impl Cpu {
     }
 
     // The ROM byte that READ MR0A and READF MR0A take.
-    pub fn table_mr0(self, p: Page, mask: &[u8], memory: &[u8; 160]) -> u8
+    pub(crate) fn table_mr0(self, p: Page, mask: &[u8], memory: &[u8; 160]) -> u8
         ensures { λ r. ⌜ r ≡ tableMr0 (now (mask .entry)) p (state self (now (memory .entry))) ⌝ }
     {
         let page = self.page(p);

@@ -3,6 +3,7 @@
 mod effect;
 mod flow;
 mod moves;
+mod run;
 mod step;
 
 use isa::ProgramAddress;

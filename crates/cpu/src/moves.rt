@@ -13,7 +13,7 @@ use isa::Port;
 
 impl Cpu {
     // The address in a register pair.
-    pub fn place(self, p: Pointer) -> DataAddress
+    pub(crate) fn place(self, p: Pointer) -> DataAddress
         ensures { λ r. ⌜ r ≡ placeOf p self ⌝ }
     {
         match p {
@@ -23,7 +23,7 @@ impl Cpu {
     }
 
     // The nibble there.
-    pub fn operand(self, p: Pointer, memory: &[u8; 160]) -> u8
+    pub(crate) fn operand(self, p: Pointer, memory: &[u8; 160]) -> u8
         ensures { λ r. ⌜ r ≡ nibbleAt p (state self (now (memory .entry))) ⌝ }
     {
         let a = self.place(p);
@@ -31,7 +31,7 @@ impl Cpu {
     }
 
     // Writes the nibble there.
-    pub fn put(self, p: Pointer, memory: &mut [u8; 160], value: u8)
+    pub(crate) fn put(self, p: Pointer, memory: &mut [u8; 160], value: u8)
         ensures { λ _. ⌜ state self (now (memory .exit)) ≡ withNibble p value (state self (now (memory .entry))) ⌝ }
     {
         let a = self.place(p);
@@ -39,7 +39,7 @@ impl Cpu {
     }
 
     // A sum goes to ACC and CF.
-    pub fn take(mut self, x: Sum) -> Cpu
+    pub(crate) fn take(mut self, x: Sum) -> Cpu
         ensures { λ r. ⌜ r ≡ taking x self ⌝ }
     {
         let value = x.value;
@@ -49,7 +49,7 @@ impl Cpu {
         self
     }
 
-    pub fn set_acc(mut self, value: u8) -> Cpu
+    pub(crate) fn set_acc(mut self, value: u8) -> Cpu
         ensures { λ r. ⌜ r ≡ withAcc value self ⌝ }
     {
         self.registers.acc = value;
@@ -57,7 +57,7 @@ impl Cpu {
     }
 
     // Rn.
-    pub fn register(self, n: u8) -> u8
+    pub(crate) fn register(self, n: u8) -> u8
         ensures { λ r. ⌜ r ≡ registerOf n self ⌝ }
     {
         if n == 0 {
@@ -75,7 +75,7 @@ impl Cpu {
         self.registers.r4
     }
 
-    pub fn set_register(mut self, n: u8, value: u8) -> Cpu
+    pub(crate) fn set_register(mut self, n: u8, value: u8) -> Cpu
         ensures { λ r. ⌜ r ≡ withRegister n value self ⌝ }
     {
         if n == 0 {
@@ -99,7 +99,7 @@ impl Cpu {
     }
 
     // MOV R1R0,XXH and MOV R3R2,XXH.
-    pub fn set_pair(mut self, p: Pointer, low: u8, high: u8) -> Cpu
+    pub(crate) fn set_pair(mut self, p: Pointer, low: u8, high: u8) -> Cpu
         ensures { λ r. ⌜ r ≡ withPair p low high self ⌝ }
     {
         match p {
@@ -117,7 +117,7 @@ impl Cpu {
     }
 
     // IN A,Pi reads this.
-    pub fn port(self, p: Port) -> u8
+    pub(crate) fn port(self, p: Port) -> u8
         ensures { λ r. ⌜ r ≡ portOf p self ⌝ }
     {
         match p {

@@ -11,10 +11,11 @@ use datapath::timer::clock;
 use isa::decoder::Decoded;
 use isa::decoder::decode;
 use isa::reader::byte_at;
+use isa::timing::list;
 use std::num::wrapping_add_u32;
 
 // The address `length` bytes on, modulo 4,096.
-pub fn address_after(pc: u16, length: u8) -> u16
+fn address_after(pc: u16, length: u8) -> u16
     ensures { λ r. ⌜ r ≡ (pc + length) % 4096 ⌝ }
 {
     (pc % 4096 + length as u16) % 4096
@@ -35,7 +36,7 @@ impl Cpu {
     }
 
     // `spent` cycles go by: a running timer moves on by the clocks since the old cycle count.
-    pub fn tick(mut self, spent: u8) -> Cpu
+    pub(crate) fn tick(mut self, spent: u8) -> Cpu
         ensures { λ r. ⌜ r ≡ ticked spent self ⌝ }
     {
         let cycles = wrapping_add_u32(self.cycles, spent as u32);
@@ -51,7 +52,7 @@ impl Cpu {
     }
 
     // An interrupt is taken: PC and CF go to the stack.
-    pub fn enter(mut self, vector: u16) -> Cpu
+    pub(crate) fn enter(mut self, vector: u16) -> Cpu
         ensures { λ r. ⌜ r ≡ entered vector self ⌝ }
     {
         let pc = self.control.pc.0;
@@ -64,7 +65,7 @@ impl Cpu {
     }
 
     // The vector of the interrupt to take, 0 for none: a held edge goes before TF.
-    pub fn pending(self) -> u16
+    pub(crate) fn pending(self) -> u16
         ensures { λ r. ⌜ r ≡ vectorOf self ⌝ }
     {
         if self.interrupts.level != 0 {
@@ -100,14 +101,15 @@ impl Cpu {
         let after = moved.effect(instruction, mask, memory);
         let fault = after.status.fault;
         if fault != 0 {
-            self.status.fault = fault;
-            return self;
+            let mut faulted = self;
+            faulted.status.fault = fault;
+            return faulted;
         }
         after.tick(entry % 16)
     }
 
-    // One step. `list` is the list of lengths and cycles, which the caller holds.
-    pub fn step(mut self, mask: &[u8], list: &[u8; 256], memory: &mut [u8; 160]) -> Cpu
+    // One step. `list` is the list of lengths and cycles, which a loop holds: an indexed constant is built at each use.
+    pub(crate) fn step_by(mut self, mask: &[u8], list: &[u8; 256], memory: &mut [u8; 160]) -> Cpu
         requires { ⌜ now list ≡ entries ⌝ }
         ensures { λ r. ⌜ state r (now (memory .exit)) ≡ step (now (mask .entry)) (state self (now (memory .entry))) ⌝ }
     {
@@ -127,5 +129,13 @@ impl Cpu {
             return self.enter(4);
         }
         self.execute(mask, list, memory)
+    }
+
+    // One step, on the data memory that is lent.
+    pub fn step(self, mask: &[u8], memory: &mut [u8; 160]) -> Cpu
+        ensures { λ r. ⌜ state r (now (memory .exit)) ≡ step (now (mask .entry)) (state self (now (memory .entry))) ⌝ }
+    {
+        let entries = list();
+        self.step_by(mask, &entries, memory)
     }
 }

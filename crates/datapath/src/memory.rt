@@ -33,7 +33,7 @@ pub fn store(memory: &mut [u8; 160], address: DataAddress, value: u8)
         memory[a] = value;
         return;
     }
-    if a < 0xe0 {
+    if a <= 0xdf {
         return;
     }
     memory[a - 96] = value;

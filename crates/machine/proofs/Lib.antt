@@ -1,4 +1,5 @@
 pub mod Answers
 pub mod Fill
+pub mod Lists
 pub mod Reports
-pub mod Runs
+pub mod Table

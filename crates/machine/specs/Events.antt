@@ -14,7 +14,7 @@ use Rattle.cpu.specs.declared.Cpu.{Cpu}
 use Rattle.cpu.specs.declared.Options.{Options}
 use Rattle.machine.specs.Machine.{stateOf, machineOf}
 use Rattle.machine.specs.Power.{reset, answered, powerOn}
-use Rattle.machine.specs.Run.{ran}
+use Rattle.cpu.specs.Run.{ran}
 use Rattle.machine.specs.declared.Machine.{Machine}
 use Rattle.machine.specs.declared.Answer.{Answer}
 use Rattle.machine.specs.declared.events.Event.{Event}

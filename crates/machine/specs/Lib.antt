@@ -2,4 +2,3 @@ pub mod Events
 pub mod Machine
 pub mod Power
 pub mod Report
-pub mod Run

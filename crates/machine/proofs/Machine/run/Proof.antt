@@ -5,11 +5,11 @@ use borrow.Author.Needs.{needs}
 use Rattle.machine.proofs.Machine.run.Statement.{statement}
 use Rattle.machine.proofs.Machine.run.Tie as tie
 
-run-lent-requires : tie.Need-run-lent-requires
-run-lent-requires c κs = search needs
+run-requires : tie.Need-run-requires
+run-requires c κs = search needs
 
 returns : tie.Need-returns
-returns c = ap machineOf (c .run-lent .ensures)
+returns c = ap machineOf (c .run .ensures)
 
 pub run-spec : {M : Type 1} → statement M
-run-spec = tie.close (tie.spec run-lent-requires returns)
+run-spec = tie.close (tie.spec run-requires returns)

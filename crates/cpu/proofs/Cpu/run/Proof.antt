@@ -1,16 +1,16 @@
--- `machine::run::run_lent` meets its contract. The loop's invariant: the steps left, from the present state, end where all the steps
+-- `cpu::Cpu::run` meets its contract. The loop's invariant: the steps left, from the present state, end where all the steps
 -- from the first state end. The measure is the steps left, so that no more are taken. Assumes nothing.
 use Prim.Native.Nat.{ℕ, zero, suc, _-_, _≤_}
 use mathlib.Core.Path.{_≡_, refl, sym, ap, _∙_}
 use mathlib.Core.List.{List}
 use native.Mathlib.Omega.{arith}
 use borrow.Author.Needs.{needs}
 use Rattle.cpu.specs.State.{State, state}
 use Rattle.cpu.proofs.Steps.{halted-stops, fault-stops}
-use Rattle.machine.specs.Run.{ran}
-use Rattle.machine.proofs.Runs.{ran-stopped, ran-next}
-use Rattle.machine.proofs.run.run_lent.Statement.{statement}
-use Rattle.machine.proofs.run.run_lent.Tie as tie
+use Rattle.cpu.specs.Run.{ran}
+use Rattle.cpu.proofs.Runs.{ran-stopped, ran-next}
+use Rattle.cpu.proofs.Cpu.run.Statement.{statement}
+use Rattle.cpu.proofs.Cpu.run.Tie as tie
 
 abbrev Inv-loop : tie.InvT-loop
 Inv-loop mask memory₀ steps list current₀ left₀ memory current left = ran mask left (state current memory) ≡ ran mask left₀ (state current₀ memory₀)
@@ -41,8 +41,8 @@ returns-2 c =
     let s = state (l .loop .current) (l .loop .memory) in
     ran-stopped (l .before .before .before .args .mask .now) (l .loop .left) s (fault-stops (l .before .before .before .args .mask .now) s (c .before .before .if1 .left) (c .if2 .taken)) ∙ l .loop .inv
 
-step-requires : tie.Need-step-requires Inv-loop μ-loop
-step-requires c κs = c .before .before .before .before .before .before .before .before .list .ensures
+step-by-requires : tie.Need-step-by-requires Inv-loop μ-loop
+step-by-requires c κs = c .before .before .before .before .before .before .before .before .list .ensures
 
 sub-left : tie.Need-sub-left Inv-loop μ-loop
 sub-left c = omega arith
@@ -54,13 +54,13 @@ loop-again : tie.Need-loop-again Inv-loop μ-loop
 loop-again c =
     let l = c .before .before .before .before .before .before .before .before in
     let mask = l .before .before .before .args .mask .now in
-    ap (ran mask (l .loop .left - 1)) (c .step .ensures) ∙ ran-next mask (l .loop .left) (state (l .loop .current) (l .loop .memory)) (c .before .before .before .before .before .before .before .loop-test .taken) ∙ l .loop .inv
+    ap (ran mask (l .loop .left - 1)) (c .step-by .ensures) ∙ ran-next mask (l .loop .left) (state (l .loop .current) (l .loop .memory)) (c .before .before .before .before .before .before .before .loop-test .taken) ∙ l .loop .inv
 
 returns-3 : tie.Need-returns-3 Inv-loop μ-loop
 returns-3 c =
     let l = c .before in
     none (l .before .before .before .args .mask .now) (l .loop .left) (state (l .loop .current) (l .loop .memory)) (c .loop-test .left) ∙ l .loop .inv
 
-pub run-lent-spec : {M : Type 1} → statement M
-run-lent-spec =
-    tie.close (tie.spec Inv-loop μ-loop list-requires loop-holds returns returns-2 step-requires sub-left loop-less loop-again returns-3)
+pub run-spec : {M : Type 1} → statement M
+run-spec =
+    tie.close (tie.spec Inv-loop μ-loop list-requires loop-holds returns returns-2 step-by-requires sub-left loop-less loop-again returns-3)

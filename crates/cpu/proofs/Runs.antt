@@ -4,9 +4,9 @@ use mathlib.Core.Path.{_≡_, refl, sym, ap, subst, _∙_}
 use mathlib.Core.List.{List}
 use native.Mathlib.Nat.{zero-add, suc-add}
 use native.Mathlib.Omega.{arith}
 use Rattle.cpu.specs.State.{State}
 use Rattle.cpu.specs.Step.{step}
-use Rattle.machine.specs.Run.{ran}
+use Rattle.cpu.specs.Run.{ran}
 
 -- a stopped state stays
 pub ran-stopped : (mask : List ℕ) (n : ℕ) (s : State) → s ≡ step mask s → s ≡ ran mask n s

@@ -1,11 +1,11 @@
--- `cpu::Cpu::step` meets its contract: each return rewrites with the tests that led there. Assumes nothing.
+-- `cpu::Cpu::step_by` meets its contract: each return rewrites with the tests that led there. Assumes nothing.
 use mathlib.Core.Path.{sym, ap, _∙_}
 use Rattle.cpu.specs.State.{state}
 use Rattle.cpu.specs.declared.Cpu.{Cpu}
 use Rattle.cpu.proofs.Steps.{halted-stops, fault-stops, takes-edge, takes-timer, runs}
 use borrow.Author.Needs.{needs}
-use Rattle.cpu.proofs.Cpu.step.Statement.{statement}
-use Rattle.cpu.proofs.Cpu.step.Tie as tie
+use Rattle.cpu.proofs.Cpu.step_by.Statement.{statement}
+use Rattle.cpu.proofs.Cpu.step_by.Tie as tie
 
 returns : tie.Need-returns
 returns c =
@@ -47,8 +47,8 @@ returns-5 c =
     c .execute .ensures
     ∙ runs (a .mask .now) (state (a .self) (a .memory .now)) (c .before .before .before .before .before .before .before .if1 .left) (c .before .before .before .before .before .if2 .left) (λ v. c .before .before .before .if3 .left (c .before .before .before .before .pending .ensures ∙ v)) (λ v. c .before .before .if4 .left (c .before .before .before .before .pending .ensures ∙ v))
 
-pub step-spec : {M : Type 1} → statement M
-step-spec =
+pub step-by-spec : {M : Type 1} → statement M
+step-by-spec =
     tie.close
     (tie.spec
     returns

@@ -1,0 +1,5 @@
+pub mod Reach
+pub mod Successors
+pub mod Count
+pub mod Turn
+pub mod Answer

@@ -1,0 +1,35 @@
+-- `checker::check::check` meets its contract: the two refusals are the two tests, and the answer follows from what the walk found, the
+-- marks that were written and the first forbidden code. Assumes nothing.
+use Rattle.checker.proofs.Answer.{answered}
+use borrow.Author.Needs.{needs}
+use Rattle.checker.proofs.check.check.Statement.{statement}
+use Rattle.checker.proofs.check.check.Tie as tie
+
+returns : tie.Need-returns
+returns c = search needs
+
+returns-2 : tie.Need-returns-2
+returns-2 c = search needs
+
+reach-requires : tie.Need-reach-requires
+reach-requires c κs = search needs
+
+pack-requires : tie.Need-pack-requires
+pack-requires c κs = search needs
+
+judge-requires : tie.Need-judge-requires
+judge-requires c κs = search needs
+
+same-length : tie.Need-same-length
+same-length c = search needs
+
+returns-3 : tie.Need-returns-3
+returns-3 c =
+    let r = c .before .before .before .before .before .before .before in
+    let s = r .before .before .before .before .before .args in
+    answered (s .mask .now) (r .reach .result) (r .reach .ensures) (s .marks .now) (c .before .before .before .before .pack .last .1 .0) (c .judge .result) (r .before .before .if1 .left) (c .before .before .before .before .pack .ensures) (c .judge .ensures)
+
+pub check-spec : {M : Type 1} → statement M
+check-spec =
+    tie.close
+    (tie.spec returns returns-2 reach-requires pack-requires judge-requires same-length returns-3)

@@ -1,0 +1,78 @@
+// What the instruction at a pair says of it. A pair's code is three times its address, and its level added: 0 to 12,287.
+ghost use mathlib.Core.Path.{_≡_};
+ghost use Prim.Native.Nat.{_/_};
+ghost use Rattle.checker.specs.Marks.{fault, readAt, successors};
+ghost use Rattle.checker.specs.Walk.{codesOf, pairOf, ranks};
+use crate::flow::Flow;
+use crate::flow::flow_of;
+use isa::decoder::Decoded;
+use isa::decoder::decode;
+use isa::reader::byte_at;
+use isa::timing::length;
+
+// The codes of a pair's successors.
+pub enum Codes {
+    Nothing,
+    One(u16),
+    Two(u16, u16),
+    Three(u16, u16, u16),
+}
+
+// What stands at the address of a code.
+fn read(mask: &[u8], code: u16) -> Decoded
+    ensures { λ r. ⌜ r ≡ readAt (now (mask .entry)) (code / 3) ⌝ }
+{
+    let address = code / 3;
+    let first = byte_at(mask, address);
+    let second = byte_at(mask, address + 1);
+    decode(first, second)
+}
+
+// The fault of a pair, 0 where it is not forbidden.
+pub fn fault_of(mask: &[u8], code: u16) -> u8
+    ensures { λ r. ⌜ r ≡ fault (now (mask .entry)) (pairOf code) ⌝ }
+{
+    let Decoded::Read(instruction) = read(mask, code) else {
+        return 1;
+    };
+    let level = code % 3;
+    let flow = flow_of(instruction);
+    match flow {
+        Flow::On => 0,
+        Flow::Enable => 0,
+        Flow::Jump(_) => 0,
+        Flow::To(_) => 0,
+        Flow::Sub(_) => { if level == 0 { 0 } else { 2 } }
+        Flow::Back => { if level == 0 { 3 } else { 0 } }
+    }
+}
+
+// The successors of a pair: none where it is forbidden.
+pub fn next_codes(mask: &[u8], code: u16) -> Codes
+    ensures { λ r. ⌜ codesOf r ≡ ranks (successors (now (mask .entry)) (pairOf code)) ⌝ }
+{
+    let Decoded::Read(instruction) = read(mask, code) else {
+        return Codes::Nothing;
+    };
+    let address = code / 3;
+    let level = code % 3;
+    let moved = (address + length(byte_at(mask, address)) as u16) % 4096;
+    let flow = flow_of(instruction);
+    match flow {
+        Flow::On => Codes::One(moved * 3 + level),
+        Flow::Enable => Codes::Three(moved * 3 + level, 14, 26),
+        Flow::Jump(t) => Codes::One(t.0 * 3 + level),
+        Flow::To(t) => Codes::Two(
+            moved * 3 + level,
+            (moved / 2048 * 2048 + t.0 % 2048) * 3 + level,
+        ),
+        Flow::Sub(t) => {
+            if level == 0 {
+                Codes::Two(t.0 * 3 + 1, moved * 3)
+            } else {
+                Codes::Nothing
+            }
+        }
+        Flow::Back => Codes::Nothing,
+    }
+}
