@@ -1,0 +1,53 @@
+-- Where records start, without the bound on their number: at or past the end there is none, and before the end there is one and then
+-- those that follow it. Assumes nothing.
+use Prim.Native.Nat.{ℕ, zero, suc, _+_, _<_, _≤_}
+use native.Mathlib.Omega.{arith}
+use mathlib.Core.Path.{_≡_, refl, sym, ap}
+use mathlib.Core.Bool.{Bool, true, false}
+use mathlib.Core.List.{List, [], _∷_}
+use lib.Dec.{ltb}
+use lib.ListN.{length}
+use borrow.Author.Tests.{lt-ltb, le-ltb}
+use Rattle.cpu.specs.Effect.{pick}
+use Rattle.script.specs.Format.{sizeAt, within, offsetsFrom}
+
+-- past the end
+none : (n : ℕ) (s : List ℕ) (at : ℕ) → length s ≤ at → within n s at ≡ []
+unfolding within
+none zero s at h = refl
+none (suc n) s at h = rw (le-ltb at (length s) h) refl
+
+-- a bound that suffices may grow
+enough : (n m : ℕ) (s : List ℕ) (at : ℕ) → length s ≤ n + at → length s ≤ m + at → within n s at ≡ within m s at
+unfolding within
+enough zero m s at h k = sym (none m s at (omega arith))
+enough (suc n) zero s at h k = none (suc n) s at (omega arith)
+enough (suc n) (suc m) s at h k =
+    ap (λ (l : List ℕ). pick (ltb at (length s)) (at ∷ l) []) (enough n m s (at + 4 + sizeAt s at) (omega arith) (omega arith))
+
+module _ (s : List ℕ) (at : ℕ) where
+  pub from-end : length s ≤ at → offsetsFrom s at ≡ []
+  unfolding offsetsFrom within
+  from-end h = none (length s) s at h
+
+  pub from-next : at < length s → offsetsFrom s at ≡ at ∷ offsetsFrom s (at + 4 + sizeAt s at)
+  unfolding offsetsFrom within
+  from-next h = go (length s) refl
+    where
+      go : (n : ℕ) → length s ≡ n → within n s at ≡ at ∷ within n s (at + 4 + sizeAt s at)
+      go zero e = absurd (omega arith)
+      go (suc n) e = rw (lt-ltb at (length s) h) (ap (λ (l : List ℕ). at ∷ l) (enough n (suc n) s (at + 4 + sizeAt s at) (omega arith) (omega arith)))
+
+-- no more records than the bound
+bounded : (n : ℕ) (s : List ℕ) (at : ℕ) → length (within n s at) ≤ n
+unfolding within
+bounded zero s at = omega arith
+bounded (suc n) s at = go (ltb at (length s)) _ (bounded n s (at + 4 + sizeAt s at))
+  where
+    go : (t : Bool) (l : List ℕ) → length l ≤ n → length (pick t (at ∷ l) []) ≤ suc n
+    go true l h = omega arith
+    go false l h = omega arith
+
+pub few : (s : List ℕ) (at : ℕ) → length (offsetsFrom s at) ≤ length s
+unfolding offsetsFrom
+few s at = bounded (length s) s at

@@ -1,0 +1,45 @@
+-- What a script makes: "Each record yields a report". Assumes nothing.
+use Prim.Native.Nat.{ℕ, _+_}
+use mathlib.Core.List.{List, [], _∷_, _++_}
+use lib.Dec.{ltb, eqb}
+use lib.ListN.{length, drop}
+use Rattle.cpu.specs.Effect.{pick}
+use Rattle.machine.specs.Power.{blank}
+use Rattle.machine.specs.Events.{Input, answerTo}
+use Rattle.machine.specs.Report.{reported}
+use Rattle.machine.specs.declared.Machine.{Machine}
+use Rattle.script.specs.Format.{sizeAt, inputAt, inputs}
+use Rattle.script.specs.Check.{checked}
+use Rattle.script.specs.declared.Checked.{Checked}
+use Rattle.script.specs.declared.Progress.{Progress}
+
+-- the machine after an input, which is "as handed in" where the input is refused
+abbrev pub next : List ℕ → Input → Machine → Machine
+next mask i m = answerTo mask i m .machine
+
+-- the reports of a list of inputs, each on the machine that the one before left
+unfoldable pub reports : List ℕ → List Input → Machine → List ℕ
+reports mask [] m = []
+reports mask (i ∷ is) m = reported (next mask i m) ++ reports mask is (next mask i m)
+
+abbrev pub reportsOf : List ℕ → List ℕ → List ℕ
+reportsOf mask s = reports mask (inputs s) blank
+
+-- what applying a script leaves: the check's answer, and the lent bytes. "A longer report buffer keeps its bytes after the last report";
+-- of a refused script "Nothing is written"
+pub record Applied : Type 0 where
+  pub answer : Checked
+  pub bytes : List ℕ
+
+abbrev pub leaving : Checked → List ℕ → Applied
+leaving k out = record { answer = k; bytes = out }
+
+unfoldable pub applied : List ℕ → List ℕ → List ℕ → Applied
+applied mask s out =
+    leaving (checked mask s (length out))
+    (pick (eqb (checked mask s (length out) .number) 0) (reportsOf mask s ++ drop (length (reportsOf mask s)) out) out)
+
+-- one record alone: the machine after it and the offset of the record that follows. At the end nothing moves
+unfoldable pub stepped : List ℕ → List ℕ → ℕ → Machine → Progress
+stepped mask s at m =
+    pick (ltb at (length s)) (record { at = at + 4 + sizeAt s at; machine = next mask (inputAt s at) m }) (record { at = at; machine = m })

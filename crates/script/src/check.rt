@@ -1,0 +1,196 @@
+// The whole check of a script, before anything runs.
+ghost use mathlib.Core.Path.{_≡_};
+ghost use Prim.Native.Nat.{_+_, _<_, _≤_};
+ghost use lib.ListN.{length};
+ghost use Rattle.script.specs.Format.{inputOf, inputAt, offsets};
+ghost use Rattle.script.specs.Check.{checked, choiceOf, first, formatAt, ruled, valueOf};
+use crate::Checked;
+use crate::Record;
+use crate::format::kind_at;
+use crate::format::record_at;
+use crate::format::size_at;
+use crate::format::size_of;
+use machine::events::Event;
+use machine::ranges::options_ok;
+
+// What is judged record by record: 6 and 7, then 3, then 4.
+pub enum Rule {
+    Format,
+    Values,
+    Choices,
+}
+
+// Refusal 6 or 7 of the record at an offset, 0 for none.
+fn format_at(s: &[u8], at: usize) -> u8
+    requires { ⌜ at ≤ length (now s) ⌝ }
+    ensures { λ r. ⌜ r ≡ formatAt (now (s .entry)) at ⌝ }
+{
+    if s.len() < at + 4 {
+        return 6;
+    }
+    let size = size_at(s, at);
+    if s.len() < at + 4 + size {
+        return 6;
+    }
+    let kind = kind_at(s, at);
+    if kind == 0 {
+        return 7;
+    }
+    if 6 < kind {
+        return 7;
+    }
+    let right = size_of(kind);
+    if size != right {
+        return 6;
+    }
+    0
+}
+
+// Refusal 3 of an event, 0 for none.
+fn event_value(event: Event) -> u8
+    ensures { λ r. ⌜ r ≡ valueOf (inputOf (Record.Other event)) ⌝ }
+{
+    match event {
+        Event::Pins(pm, ps, pp) => {
+            if 15 < pm {
+                return 3;
+            }
+            if 15 < ps {
+                return 3;
+            }
+            if 15 < pp {
+                return 3;
+            }
+            0
+        }
+        Event::Int(level) => {
+            if 1 < level {
+                return 3;
+            }
+            0
+        }
+        Event::Run(_) => 0,
+        Event::Tmclk(_) => 0,
+        Event::Res => 0,
+    }
+}
+
+// Refusal 3 of a record, 0 for none.
+fn value(input: Record) -> u8
+    ensures { λ r. ⌜ r ≡ valueOf (inputOf input) ⌝ }
+{
+    match input {
+        Record::Power(_, fill) => {
+            if 15 < fill {
+                return 3;
+            }
+            0
+        }
+        Record::Other(event) => event_value(event),
+    }
+}
+
+// Refusal 4 of a record, 0 for none.
+fn choice(input: Record) -> u8
+    ensures { λ r. ⌜ r ≡ choiceOf (inputOf input) ⌝ }
+{
+    match input {
+        Record::Power(options, _) => {
+            if options_ok(options) {
+                return 0;
+            }
+            4
+        }
+        Record::Other(_) => 0,
+    }
+}
+
+// What a rule says of the record at an offset.
+fn judged(rule: Rule, s: &[u8], at: usize) -> u8
+    requires { ⌜ at ≤ length (now s) ⌝ }
+    ensures { λ r. ⌜ r ≡ ruled rule (now (s .entry)) at ⌝ }
+{
+    match rule {
+        Rule::Format => format_at(s, at),
+        Rule::Values => value(record_at(s, at)),
+        Rule::Choices => choice(record_at(s, at)),
+    }
+}
+
+// The first record that a rule refuses.
+fn first(rule: Rule, s: &[u8]) -> Checked
+    ensures { λ r. ⌜ r ≡ first (ruled rule (now (s .entry))) (offsets (now (s .entry))) ⌝ }
+{
+    let mut at = 0;
+    while at < s.len() {
+        let number = judged(rule, s, at);
+        if number != 0 {
+            return Checked { number, offset: at };
+        }
+        at = at + 4 + size_at(s, at);
+    }
+    Checked {
+        number: 0,
+        offset: 0,
+    }
+}
+
+// How many records there are.
+fn count(s: &[u8]) -> usize
+    ensures { λ r. ⌜ r ≡ length (offsets (now (s .entry))) ⌝ }
+{
+    let mut at = 0;
+    let mut n = 0;
+    while at < s.len() {
+        n += 1;
+        at = at + 4 + size_at(s, at);
+    }
+    n
+}
+
+// The check: `room` is the length of the report buffer.
+pub fn check_script(mask: &[u8], script: &[u8], room: usize) -> Checked
+    ensures { λ r. ⌜ r ≡ checked (now (mask .entry)) (now (script .entry)) room ⌝ }
+{
+    if mask.len() != 4096 {
+        return Checked {
+            number: 1,
+            offset: 0,
+        };
+    }
+    if 65535 < script.len() {
+        return Checked {
+            number: 6,
+            offset: 0,
+        };
+    }
+    let format = first(Rule::Format, script);
+    if format.number != 0 {
+        return format;
+    }
+    if kind_at(script, 0) != 1 {
+        return Checked {
+            number: 8,
+            offset: 0,
+        };
+    }
+    let values = first(Rule::Values, script);
+    if values.number != 0 {
+        return values;
+    }
+    let choices = first(Rule::Choices, script);
+    if choices.number != 0 {
+        return choices;
+    }
+    let n = count(script);
+    if room < 48 * n {
+        return Checked {
+            number: 9,
+            offset: 0,
+        };
+    }
+    Checked {
+        number: 0,
+        offset: 0,
+    }
+}
