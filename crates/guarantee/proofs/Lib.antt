@@ -2,3 +2,4 @@ pub mod Flows
 pub mod Kept
 pub mod Masks
 pub mod Property3
+pub mod Shown

@@ -63,7 +63,7 @@ module _ (mask : List ℕ) (safe : Safe mask) where
       go true = p
       go false = q
 
-  input-kept : (i : Input) (m : Machine) → Kept mask (m .cpu) → Kept mask (answerTo mask i m .machine .cpu)
+  pub input-kept : (i : Input) (m : Machine) → Kept mask (m .cpu) → Kept mask (answerTo mask i m .machine .cpu)
   unfolding powerOn applied
   input-kept (power options image) m k = answered-kept (powerRefusal options image) (powered options image) m (powered-kept options image) k
   input-kept (event e) m k = answered-kept (refusalOf mask e m) (happened mask e m) m (happened-kept e m k) k

@@ -1,1 +1,2 @@
 pub mod Property3
+pub mod Reports
