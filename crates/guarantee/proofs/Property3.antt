@@ -15,12 +15,12 @@ use Rattle.cpu.specs.Effect.{pick}
 use Rattle.datapath.specs.Timer.{counted}
 use Rattle.machine.specs.Machine.{stateOf}
 use Rattle.machine.specs.Power.{reset, powered, powerRefusal, answered, powerOn}
-use Rattle.machine.specs.Events.{woken, wakes, withPorts, withInt, pinned, interrupted, clocked, counting, happened, refusalOf, applied, Input, power, event, answerTo, after}
+use Rattle.machine.specs.Events.{woken, wakes, withPorts, withInt, pinned, interrupted, clocked, counting, happened, refusalOf, applied, Input, power, event, answerTo, after, Session}
 use Rattle.machine.specs.declared.Machine.{Machine}
 use Rattle.machine.specs.declared.Answer.{Answer}
 use Rattle.machine.specs.declared.events.Event.{Event}
 use Rattle.machine.specs.declared.events.Event.the-variants.{Run, Pins, Int, Tmclk, Res}
-use Rattle.machine.proofs.Lists.{Session, session-after}
+use Rattle.machine.proofs.Lists.{session-after}
 use Rattle.checker.specs.Marks.{pair, Reached}
 use Rattle.checker.specs.Verdicts.{Marked, levelBit}
 use Rattle.checker.proofs.Reach.{reached-start, reached-in-range}
@@ -82,9 +82,9 @@ started options image first start e r =
 pub property3 : Property3
 property3 mask old marks options image first start given inputs last session =
     let safe = given .passed .2 in
-    let ended : last ≡ after mask inputs (start .machine) = session-after mask (start .machine) last inputs session in
-    let begun : Kept mask (start .machine .cpu) = subst (λ (m : Machine). Kept mask (m .cpu)) (sym (started options image first start (given .powered) (given .accepted))) (powered-kept mask safe options image) in
-    let kept : Kept mask (last .cpu) = subst (λ (m : Machine). Kept mask (m .cpu)) (sym ended) (after-kept mask safe inputs (start .machine) begun) in
+    let begun : start .machine ≡ powered options image = started options image first start (given .powering) (given .accepted) in
+    let ended : last ≡ after mask inputs (powered options image) = session-after mask (start .machine) last inputs session ∙ ap (after mask inputs) begun in
+    let kept : Kept mask (last .cpu) = subst (λ (m : Machine). Kept mask (m .cpu)) (sym ended) (after-kept mask safe inputs (powered options image) (powered-kept mask safe options image)) in
     let within = reached-in-range mask (given .bytes) (pair (pcOf (last .cpu)) (levelOf (last .cpu))) (kept .here) in
     record {
       state = ended;

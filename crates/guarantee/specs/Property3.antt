@@ -6,24 +6,25 @@ use mathlib.Core.Path.{_≡_}
 use mathlib.Core.List.{List}
 use lib.ListN.{getD}
 use Rattle.cpu.specs.declared.Options.{Options}
-use Rattle.machine.specs.Power.{powerOn}
-use Rattle.machine.specs.Events.{Input, after}
+use Rattle.machine.specs.Power.{powered, powerOn}
+use Rattle.machine.specs.Events.{Input, after, Session}
 use Rattle.machine.specs.declared.Machine.{Machine}
 use Rattle.machine.specs.declared.Answer.{Answer}
-use Rattle.machine.proofs.Lists.{Session}
 use Rattle.checker.specs.Verdicts.{Answers, levelBit}
 use Rattle.checker.specs.declared.check.Verdict.the-variants.{Passed}
 
--- what is assumed: the checker passed the mask and wrote these marks, and a power-on was accepted
+-- what is assumed: the mask is bytes, the checker passed it and wrote these marks, and a power-on was accepted, whatever machine was there
+-- before
 pub record Given (mask old marks : List ℕ) (options : Options) (image : List ℕ) (first : Machine) (start : Answer) : Type 0 where
   pub bytes : (k : ℕ) → getD mask k 0 < 256
   pub passed : Answers mask old marks Passed
-  pub powered : start ≡ powerOn options image first
+  pub powering : start ≡ powerOn options image first
   pub accepted : start .refusal ≡ 0
 
--- what holds of the machine after the list: it is the one that the rules give, its fault is 0, and its pair is marked
-pub record Holds (mask marks : List ℕ) (start : Machine) (inputs : List Input) (last : Machine) : Type 0 where
-  pub state : last ≡ after mask inputs start
+-- what holds of the machine after the list: it is "in every field, the machine that this document's rules give from that power-on, the mask
+-- and these events alone; its fault is 0, and the pair of its PC and level is one that the checker marked"
+pub record Holds (mask marks : List ℕ) (options : Options) (image : List ℕ) (inputs : List Input) (last : Machine) : Type 0 where
+  pub state : last ≡ after mask inputs (powered options image)
   pub no-fault : last .cpu .status .fault ≡ 0
   pub marked : levelBit (getD marks (last .cpu .control .pc .0) 0) (last .cpu .interrupts .level) ≡ 1
 
@@ -33,4 +34,4 @@ abbrev pub Property3 : Type 0
 Property3 =
     (mask old marks : List ℕ) (options : Options) (image : List ℕ) (first : Machine) (start : Answer) → Given mask old marks options image first start
     → (inputs : List Input) (last : Machine) → Session mask (start .machine) inputs last
-    → Holds mask marks (start .machine) inputs last
+    → Holds mask marks options image inputs last

@@ -25,7 +25,7 @@ use Rattle.cpu.proofs.Kept.{Bytes, step-valid}
 use Rattle.machine.specs.Machine.{stateOf, machineOf}
 use Rattle.machine.specs.Power.{afterRes, reset, powered, powerRefusal, answered, powerOn}
 use Rattle.cpu.specs.Run.{ran}
-use Rattle.machine.specs.Events.{woken, wakes, withPorts, withInt, pinned, interrupted, clocked, counting, happened, eventRefusal, refusalOf, applied, Input, power, event, answerTo, after}
+use Rattle.machine.specs.Events.{woken, wakes, withPorts, withInt, pinned, interrupted, clocked, counting, happened, eventRefusal, refusalOf, applied, Input, power, event, answerTo, after, UnderMask, Session, ended, powering, applying}
 use Rattle.machine.specs.declared.Machine.{Machine}
 use Rattle.machine.specs.declared.Answer.{Answer}
 use Rattle.machine.specs.declared.events.Event.{Event}
@@ -213,17 +213,20 @@ unfolding after
 after-valid mask b [] m v = v
 after-valid mask b (i ∷ is) m v = after-valid mask b is (answerTo mask i m .machine) (input-valid mask b i m v)
 
--- ---- demand 2 over a whole list
--- machines handed on by the exported functions: `Machine::power_on` promises `r ≡ powerOn ..` and `Machine::apply` promises
--- `r ≡ applied ..`, and each call gets the machine that the one before answered
-pub data Session (mask : List ℕ) : Machine → List Input → Machine → Type 0 where
-  ended : {m : Machine} → Session mask m [] m
-  powering : {m n : Machine} {is : List Input} (o : Options) (image : List ℕ) (r : Answer) → r ≡ powerOn o image m → Session mask (r .machine) is n → Session mask m (power o image ∷ is) n
-  applying : {m n : Machine} {is : List Input} (e : Event) (r : Answer) → r ≡ applied mask e m → Session mask (r .machine) is n → Session mask m (event e ∷ is) n
+-- ---- a whole list of calls
+-- an event other than Run does not look at its mask
+same-mask : (mask given : List ℕ) (e : Event) (m : Machine) → UnderMask mask given e → applied given e m ≡ applied mask e m
+unfolding applied happened refusalOf eventRefusal
+same-mask mask given (Run n) m u = ap (λ (k : List ℕ). applied k (Run n) m) u
+same-mask mask given (PinsEvent pm ps pp) m u = refl
+same-mask mask given (Int level) m u = refl
+same-mask mask given (Tmclk n) m u = refl
+same-mask mask given Res m u = refl
 
 -- the last machine is, in every field, the one that the rules give
 pub session-after : (mask : List ℕ) (m n : Machine) (is : List Input) → Session mask m is n → n ≡ after mask is m
 unfolding after
 session-after mask m n is ended = refl
 session-after mask m n is (powering {is = js} o image r p s) = session-after mask (r .machine) n js s ∙ ap (λ (a : Answer). after mask js (a .machine)) p
-session-after mask m n is (applying {is = js} e r p s) = session-after mask (r .machine) n js s ∙ ap (λ (a : Answer). after mask js (a .machine)) p
+session-after mask m n is (applying {is = js} e given r u p s) =
+    session-after mask (r .machine) n js s ∙ ap (λ (a : Answer). after mask js (a .machine)) (p ∙ same-mask mask given e m u)

@@ -1,6 +1,7 @@
 -- The events, document 01, "One step, and events" and "Refused inputs". Assumes nothing.
 use Prim.Native.Nat.{ℕ, _+_}
-use mathlib.Core.Bool.{Bool, not, _&&_, _||_}
+use mathlib.Core.Path.{_≡_}
+use mathlib.Core.Bool.{Bool, not, _&&_}
 use mathlib.Core.List.{List, [], _∷_}
 use lib.Dec.{ltb, eqb}
 use lib.Bits.{bitAnd, bitXor}
@@ -98,3 +99,19 @@ answerTo mask (event e) m = applied mask e m
 unfoldable pub after : List ℕ → List Input → Machine → Machine
 after mask [] m = m
 after mask (i ∷ is) m = after mask is (answerTo mask i m .machine)
+
+-- ---- a whole list of calls of the exported functions
+-- "Every Run in the list has the one passed mask"; another event may come with any
+abbrev pub UnderMask : List ℕ → List ℕ → Event → Type 0
+UnderMask mask given (Run n) = given ≡ mask
+UnderMask mask given (Pins pm ps pp) = Unit {0}
+UnderMask mask given (Int level) = Unit {0}
+UnderMask mask given (Tmclk n) = Unit {0}
+UnderMask mask given Res = Unit {0}
+
+-- machines handed on: `Machine::power_on` promises `r ≡ powerOn ..` and `Machine::apply` promises `r ≡ applied ..`, and each call gets the
+-- machine that the one before answered
+pub data Session (mask : List ℕ) : Machine → List Input → Machine → Type 0 where
+  ended : {m : Machine} → Session mask m [] m
+  powering : {m n : Machine} {is : List Input} (o : Options) (image : List ℕ) (r : Answer) → r ≡ powerOn o image m → Session mask (r .machine) is n → Session mask m (power o image ∷ is) n
+  applying : {m n : Machine} {is : List Input} (e : Event) (given : List ℕ) (r : Answer) → UnderMask mask given e → r ≡ applied given e m → Session mask (r .machine) is n → Session mask m (event e ∷ is) n
