@@ -6,9 +6,9 @@ use mathlib.Core.List.{List}
 use lib.ListN.{set, replicate}
 use Rattle.isa.specs.Reading.{decoded, map}
 use Rattle.isa.specs.Timing.{columnsOf, columnsAt}
-use Rattle.datapath.specs.Alu.{summed, adjusted, decremented}
+use Rattle.datapath.specs.declared.alu.Sum.{Sum}
 use Rattle.datapath.specs.Memory.{loaded}
-use Rattle.cpu.specs.State.{State, state, address, withAcc, withPc, withTf, withCount, withRunning, withEnabled, withHeld}
+use Rattle.cpu.specs.State.{State, state, address, withAcc, withR1, withPc, withCf, withTf, withCount, withRunning, withEnabled, withHeld}
 use Rattle.cpu.specs.Effect.{effect, branched}
 use Rattle.cpu.specs.Step.{ticked, entered, executed, vectorOf, stepped, step}
 use Rattle.cpu.specs.declared.Cpu.{Cpu}
@@ -44,13 +44,28 @@ running = state (withCount 254 (withRunning 1 (at-rate 2))) (replicate 160 0)
 pub both : State
 both = step nops (state (withEnabled 1 (withHeld 1 (withTf 1 (at-rate 2)))) (replicate 160 0))
 
+-- ACC and CF after the code a b at address 0, with every nibble of the data memory n
+pub after-code : ℕ → ℕ → ℕ → Cpu → Sum
+after-code a b n c =
+    let s = step (set (set nops 0 a) 1 b) (state c (replicate 160 n)) in
+    record { value = s .cpu .registers .acc; carry = s .cpu .control .cf }
+
+-- a processor with ACC and CF
+pub with-acc : ℕ → ℕ → Cpu
+with-acc acc cf = withAcc acc (withCf cf (at-rate 255))
+
 pub record Table : Type 0 where
-  pub add-9-8 : summed 9 8 0 ≡ record { value = 1; carry = 1 }
-  pub adc-15-15-1 : summed 15 15 1 ≡ record { value = 15; carry = 1 }
-  pub daa-4-with-carry : adjusted 4 1 ≡ record { value = 10; carry = 1 }
-  pub daa-9-without : adjusted 9 0 ≡ record { value = 9; carry = 0 }
-  pub dec-a-of-0 : decremented 0 ≡ 15
-  pub address-80h-reads-0 : (m : List ℕ) → loaded m (record { 0 = 0x80 }) ≡ 0
+  -- 40 08: ADD A,8
+  pub add-9-8 : after-code 0x40 0x08 0 (with-acc 9 0) ≡ record { value = 1; carry = 1 }
+  -- 08: ADC A,[R1R0]
+  pub adc-15-15-1 : after-code 0x08 0x3e 15 (with-acc 15 1) ≡ record { value = 15; carry = 1 }
+  -- 36: DAA
+  pub daa-4-with-carry : after-code 0x36 0x3e 0 (with-acc 4 1) ≡ record { value = 10; carry = 1 }
+  pub daa-9-without : after-code 0x36 0x3e 0 (with-acc 9 0) ≡ record { value = 9; carry = 0 }
+  -- 3F: DEC A
+  pub dec-a-of-0 : after-code 0x3f 0x3e 0 (with-acc 0 0) ≡ record { value = 15; carry = 0 }
+  -- 04: MOV A,[R1R0] at 80h, where the memory holds 15 throughout
+  pub address-80h-reads-0 : after-code 0x04 0x3e 15 (withR1 8 (with-acc 7 0)) ≡ record { value = 0; carry = 0 }
   pub jz-at-7feh : jz-at 0x7fe ≡ 0x810
   pub jz-at-7fdh : jz-at 0x7fd ≡ 0x010
   pub read-r4a-at-1ffh-high : table-read .cpu .registers .r4 ≡ 5
@@ -61,14 +76,14 @@ pub record Table : Type 0 where
   pub edge-before-timer-flag : both .cpu .control .tf ≡ 1
 
 pub table : Table
-unfolding nops at-rate at-address jz-at table-read running both loaded decoded map columnsOf columnsAt effect branched ticked entered executed vectorOf stepped step
+unfolding after-code with-acc nops at-rate at-address jz-at table-read running both loaded decoded map columnsOf columnsAt effect branched ticked entered executed vectorOf stepped step
 table = record {
   add-9-8 = refl;
   adc-15-15-1 = refl;
   daa-4-with-carry = refl;
   daa-9-without = refl;
   dec-a-of-0 = refl;
-  address-80h-reads-0 = λ m. refl;
+  address-80h-reads-0 = refl;
   jz-at-7feh = refl;
   jz-at-7fdh = refl;
   read-r4a-at-1ffh-high = refl;

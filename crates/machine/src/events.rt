@@ -150,7 +150,7 @@ fn event_refusal(event: Event, mask: &[u8]) -> u8
 }
 
 impl Machine {
-    pub fn pins(mut self, pm: u8, ps: u8, pp: u8) -> Machine
+    pub(crate) fn pins(mut self, pm: u8, ps: u8, pp: u8) -> Machine
         ensures { λ r. ⌜ r ≡ onCpuOf (pinned pm ps pp) self ⌝ }
     {
         let c = pinned(self.cpu, pm, ps, pp);
@@ -158,7 +158,7 @@ impl Machine {
         self
     }
 
-    pub fn int(mut self, level: u8) -> Machine
+    pub(crate) fn int(mut self, level: u8) -> Machine
         ensures { λ r. ⌜ r ≡ onCpuOf (interrupted level) self ⌝ }
     {
         let c = interrupted(self.cpu, level);
@@ -166,7 +166,7 @@ impl Machine {
         self
     }
 
-    pub fn tmclk(mut self, n: u16) -> Machine
+    pub(crate) fn tmclk(mut self, n: u16) -> Machine
         ensures { λ r. ⌜ r ≡ onCpuOf (counting n) self ⌝ }
     {
         let c = counting(self.cpu, n);

@@ -113,7 +113,7 @@ fn powered(options: Options, image: &[u8]) -> Machine
 }
 
 impl Machine {
-    // A machine before its first power-on: all 0. Every event on it is refused.
+    // A machine before its first power-on: 0 but for what RES sets. Its options are out of range, so every event on it is refused.
     pub fn blank() -> Machine
         ensures { λ r. ⌜ r ≡ blank ⌝ }
     {
@@ -164,7 +164,7 @@ impl Machine {
     }
 
     // RES.
-    pub fn reset(mut self) -> Machine
+    pub(crate) fn reset(mut self) -> Machine
         ensures { λ r. ⌜ r ≡ reset self ⌝ }
     {
         let cpu = self.cpu;

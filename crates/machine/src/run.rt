@@ -18,7 +18,7 @@ impl Machine {
     }
 
     // Run: at most `steps` steps, fewer when halted or faulted.
-    pub fn run(mut self, mask: &[u8], steps: u16) -> Machine
+    pub(crate) fn run(mut self, mask: &[u8], steps: u16) -> Machine
         ensures { λ r. ⌜ r ≡ machineOf (ran (now (mask .entry)) steps (stateOf self)) ⌝ }
     {
         let mut memory = self.memory;
