@@ -2,24 +2,28 @@
 -- range every record leads to one in range. Assumes nothing.
 use Prim.Native.Nat.{ℕ, _+_, _<_}
 use native.Mathlib.Omega.{arith}
-use mathlib.Core.Path.{_≡_, refl, sym, ap, _∙_}
+use mathlib.Core.Path.{_≡_, refl, sym, ap, subst, _∙_}
 use mathlib.Core.Bool.{Bool, true, false}
-use mathlib.Core.List.{List, [], _∷_}
+use mathlib.Core.List.{List, [], _∷_, map}
 use lib.Dec.{eqb}
 use lib.ListN.{length}
 use borrow.Author.Tests.{eq-eqb, eqb-true, eqb-false}
 use Rattle.cpu.specs.Effect.{pick}
 use Rattle.cpu.specs.Range.{nibbles, optionsOk, valid}
+use Rattle.cpu.proofs.Kept.{Bytes}
 use Rattle.machine.specs.Machine.{stateOf}
 use Rattle.machine.specs.Power.{blank, powered, powerRefusal, powerOn}
-use Rattle.machine.specs.Events.{Input, power}
-use Rattle.machine.proofs.Lists.{powered-valid}
+use Rattle.machine.specs.Events.{Input, power, event, eventRefusal, refusalOf, applied, answerTo}
+use Rattle.machine.specs.declared.events.Event.{Event}
+use Rattle.machine.specs.declared.events.Event.the-variants.{Run, Pins, Int, Tmclk, Res}
+use Rattle.machine.proofs.Lists.{powered-valid, input-valid}
 use Rattle.cpu.specs.declared.Options.{Options}
 use Rattle.machine.specs.declared.Machine.{Machine}
-use Rattle.script.specs.Format.{sizeAt, kindAt, optionsAt, payloadAt, filled, offsetsFrom, inputAt}
+use Rattle.script.specs.Format.{wordAt, sizeAt, kindAt, optionsAt, payloadAt, filled, offsetsFrom, inputAt, inputs}
 use Rattle.script.specs.Check.{first, ruled, valueOf, choiceOf, checked}
 use Rattle.script.specs.Reports.{next}
 use Rattle.script.specs.declared.check.Rule.the-variants.{Values, Choices}
+use Rattle.script.proofs.Offsets.{from-next, each}
 use Rattle.script.proofs.Checks.{accepted, first-bad, first-good}
 
 -- where the first bad record is none, the record at the front is good, and so are those after it
@@ -40,9 +44,9 @@ not-empty [] e = absurd (omega arith)
 not-empty (x ∷ s) e = omega arith
 
 -- values and options that pass the check are those that a power-on accepts
-pub power-accepted : (o : Options) (x : ℕ) → valueOf (power o (filled x)) ≡ 0 → choiceOf (power o (filled x)) ≡ 0 → powerRefusal o (filled x) ≡ 0
+pub power-accepted : (o : Options) (image : List ℕ) → length image ≡ 166 → valueOf (power o image) ≡ 0 → choiceOf (power o image) ≡ 0 → powerRefusal o image ≡ 0
 unfolding valueOf choiceOf powerRefusal
-power-accepted o x v k = go (nibbles (filled x)) (optionsOk o) v k
+power-accepted o image l v k = rw (eq-eqb (length image) 166 l) (go (nibbles image) (optionsOk o) v k)
   where
     go : (a b : Bool) → _≡_ {A = ℕ} (pick a 0 3) 0 → _≡_ {A = ℕ} (pick b 0 4) 0 → _≡_ {A = ℕ} (pick a (pick b 0 4) 3) 0
     go true true p q = refl
@@ -57,15 +61,85 @@ first-power : (s : List ℕ) → kindAt s 0 ≡ 1 → inputAt s 0 ≡ power (opt
 unfolding inputAt
 first-power s e = rw e refl
 
--- the machine after the first record of an accepted script is in range
-pub first-valid : (mask s : List ℕ) (room : ℕ) → checked mask s room .number ≡ 0 → valid (stateOf (next mask (inputAt s 0) blank)) ≡ true
-first-valid mask s room e =
-    let a = accepted mask s room e in
-    let n = not-empty s (a .start) in
-    let i = first-power s (a .start) in
-    let v = sym (ap valueOf i) ∙ good-here (ruled Values s) s 0 n (a .values) in
-    let k = sym (ap choiceOf i) ∙ good-here (ruled Choices s) s 0 n (a .choices) in
-    let r = power-accepted (optionsAt s 0) (payloadAt s 0 5) v k in
-    ap (λ (j : Input). valid (stateOf (next mask j blank))) i
-    ∙ ap (λ (m : Machine). valid (stateOf m)) (power-machine (optionsAt s 0) (filled (payloadAt s 0 5)) blank r)
-    ∙ powered-valid (optionsAt s 0) (filled (payloadAt s 0 5)) r
+-- the first record of an accepted script is a power-on that is not refused, and the machine after it is in range
+module _ (mask s : List ℕ) (room : ℕ) (e : checked mask s room .number ≡ 0) where
+  first-accepted : powerRefusal (optionsAt s 0) (filled (payloadAt s 0 5)) ≡ 0
+  first-accepted =
+      let a = accepted mask s room e in
+      let n = not-empty s (a .start) in
+      let i = first-power s (a .start) in
+      power-accepted (optionsAt s 0) (filled (payloadAt s 0 5)) refl
+      (sym (ap valueOf i) ∙ good-here (ruled Values s) s 0 n (a .values))
+      (sym (ap choiceOf i) ∙ good-here (ruled Choices s) s 0 n (a .choices))
+
+  pub first-valid : valid (stateOf (next mask (inputAt s 0) blank)) ≡ true
+  first-valid =
+      ap (λ (j : Input). valid (stateOf (next mask j blank))) (first-power s (accepted mask s room e .start))
+      ∙ ap (λ (m : Machine). valid (stateOf m)) (power-machine (optionsAt s 0) (filled (payloadAt s 0 5)) blank first-accepted)
+      ∙ powered-valid (optionsAt s 0) (filled (payloadAt s 0 5)) first-accepted
+
+  first-taken : answerTo mask (inputAt s 0) blank .refusal ≡ 0
+  unfolding powerOn
+  first-taken = ap (λ (j : Input). answerTo mask j blank .refusal) (first-power s (accepted mask s room e .start)) ∙ first-accepted
+
+-- ---- every record
+-- each input in turn is accepted
+pub data Taken (mask : List ℕ) : List Input → Machine → Type 0 where
+  none : {m : Machine} → Taken mask [] m
+  more : {m : Machine} (i : Input) {is : List Input} → answerTo mask i m .refusal ≡ 0 → Taken mask is (next mask i m) → Taken mask (i ∷ is) m
+
+-- an event whose values pass the check is refused by neither its mask nor its values
+event-accepted : (mask : List ℕ) → length mask ≡ 4096 → (e : Event) → valueOf (event e) ≡ 0 → eventRefusal mask e ≡ 0
+unfolding valueOf eventRefusal
+event-accepted mask l (Run n) v = rw (eq-eqb (length mask) 4096 l) refl
+event-accepted mask l (Pins pm ps pp) v = v
+event-accepted mask l (Int level) v = v
+event-accepted mask l (Tmclk n) v = refl
+event-accepted mask l Res v = refl
+
+applied-accepted : (mask : List ℕ) (e : Event) (m : Machine) → eventRefusal mask e ≡ 0 → valid (stateOf m) ≡ true → applied mask e m .refusal ≡ 0
+unfolding applied refusalOf
+applied-accepted mask e m r v = rw (r, v) refl
+
+-- the image of a power-on has its 166 nibbles
+abbrev Sized : Input → Type 0
+Sized (power o image) = length image ≡ 166
+Sized (event e) = Unit {0}
+
+sized-at : (s : List ℕ) (at : ℕ) → Sized (inputAt s at)
+unfolding inputAt
+sized-at s at = go (eqb (kindAt s at) 1) (eqb (kindAt s at) 2) (eqb (kindAt s at) 3) (eqb (kindAt s at) 4) (eqb (kindAt s at) 5)
+  where
+    go : (a b c d e : Bool) → Sized (pick a (power (optionsAt s at) (filled (payloadAt s at 5))) (pick b (event (Run (wordAt s (at + 4)))) (pick c (event (Pins (payloadAt s at 0) (payloadAt s at 1) (payloadAt s at 2))) (pick d (event (Int (payloadAt s at 0))) (pick e (event (Tmclk (wordAt s (at + 4)))) (event Res))))))
+    go true b c d e = refl
+    go false true c d e = tt
+    go false false true d e = tt
+    go false false false true e = tt
+    go false false false false true = tt
+    go false false false false false = tt
+
+input-accepted : (mask : List ℕ) → length mask ≡ 4096 → (i : Input) (m : Machine) → Sized i → valueOf i ≡ 0 → choiceOf i ≡ 0 → valid (stateOf m) ≡ true → answerTo mask i m .refusal ≡ 0
+unfolding powerOn
+input-accepted mask l (power o image) m z v k w = power-accepted o image z v k
+input-accepted mask l (event e) m z v k w = applied-accepted mask e m (event-accepted mask l e v) w
+
+module _ (mask s : List ℕ) (b : Bytes mask) where
+  rest-taken : length mask ≡ 4096 → (at : ℕ) (m : Machine) → valid (stateOf m) ≡ true → first (ruled Values s) (offsetsFrom s at) .number ≡ 0 → first (ruled Choices s) (offsetsFrom s at) .number ≡ 0 → Taken mask (map (inputAt s) (offsetsFrom s at)) m
+  rest-taken l =
+      each s (λ (at : ℕ) (k : List ℕ). (m : Machine) → valid (stateOf m) ≡ true → first (ruled Values s) (offsetsFrom s at) .number ≡ 0 → first (ruled Choices s) (offsetsFrom s at) .number ≡ 0 → Taken mask (map (inputAt s) k) m)
+      (λ at h m v p q. none)
+      (λ at h back m v p q.
+      more (inputAt s at)
+      (input-accepted mask l (inputAt s at) m (sized-at s at) (good-here (ruled Values s) s at h p) (good-here (ruled Choices s) s at h q) v)
+      (back (next mask (inputAt s at) m) (input-valid mask b (inputAt s at) m v) (good-after (ruled Values s) s at h p) (good-after (ruled Choices s) s at h q)))
+
+  -- no record of an accepted script is refused
+  pub all-taken : (room : ℕ) → checked mask s room .number ≡ 0 → Taken mask (inputs s) blank
+  unfolding inputs
+  all-taken room e =
+      let a = accepted mask s room e in
+      let h = not-empty s (a .start) in
+      subst (λ (k : List ℕ). Taken mask (map (inputAt s) k) blank) (sym (from-next s 0 h))
+      (more (inputAt s 0) (first-taken mask s room e)
+      (rest-taken (a .mask-size) (0 + 4 + sizeAt s 0) (next mask (inputAt s 0) blank) (first-valid mask s room e)
+      (good-after (ruled Values s) s 0 h (a .values)) (good-after (ruled Choices s) s 0 h (a .choices))))

@@ -1,7 +1,10 @@
 pub mod Accepts
 pub mod Checks
+pub mod Exact
 pub mod Formats
+pub mod Hexes
 pub mod Offsets
 pub mod Rests
+pub mod Sessions
 pub mod Turn
 pub mod Values

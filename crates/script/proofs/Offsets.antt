@@ -2,12 +2,12 @@
 -- those that follow it. Assumes nothing.
 use Prim.Native.Nat.{ℕ, zero, suc, _+_, _<_, _≤_}
 use native.Mathlib.Omega.{arith}
-use mathlib.Core.Path.{_≡_, refl, sym, ap}
+use mathlib.Core.Path.{_≡_, refl, sym, ap, subst}
 use mathlib.Core.Bool.{Bool, true, false}
 use mathlib.Core.List.{List, [], _∷_}
 use lib.Dec.{ltb}
 use lib.ListN.{length}
-use borrow.Author.Tests.{lt-ltb, le-ltb}
+use borrow.Author.Tests.{lt-ltb, le-ltb, ltb-true, ltb-false}
 use Rattle.cpu.specs.Effect.{pick}
 use Rattle.script.specs.Format.{sizeAt, within, offsetsFrom}
 
@@ -51,3 +51,17 @@ bounded (suc n) s at = go (ltb at (length s)) _ (bounded n s (at + 4 + sizeAt s 
 pub few : (s : List ℕ) (at : ℕ) → length (offsetsFrom s at) ≤ length s
 unfolding offsetsFrom
 few s at = bounded (length s) s at
+
+-- what holds at the end, and of a record where it holds from the next one on, holds from every offset on
+module _ (s : List ℕ) (P : ℕ → List ℕ → Type 0) (end : (at : ℕ) → length s ≤ at → P at [])
+    (more : (at : ℕ) → at < length s → P (at + 4 + sizeAt s at) (offsetsFrom s (at + 4 + sizeAt s at)) → P at (at ∷ offsetsFrom s (at + 4 + sizeAt s at))) where
+  split : (at : ℕ) (t : Bool) → ltb at (length s) ≡ t → P (at + 4 + sizeAt s at) (offsetsFrom s (at + 4 + sizeAt s at)) → P at (offsetsFrom s at)
+  split at true e p = let h = ltb-true at (length s) e in subst (P at) (sym (from-next s at h)) (more at h p)
+  split at false e p = let h = ltb-false at (length s) e in subst (P at) (sym (from-end s at h)) (end at h)
+
+  walk : (n at : ℕ) → length s ≤ n + at → P at (offsetsFrom s at)
+  walk zero at h = subst (P at) (sym (from-end s at (omega arith))) (end at (omega arith))
+  walk (suc n) at h = split at (ltb at (length s)) refl (walk n (at + 4 + sizeAt s at) (omega arith))
+
+  pub each : (at : ℕ) → P at (offsetsFrom s at)
+  each at = walk (length s) at (omega arith)

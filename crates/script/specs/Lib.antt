@@ -1,3 +1,4 @@
 pub mod Check
 pub mod Format
+pub mod Hex
 pub mod Reports

@@ -2,6 +2,7 @@
 pub mod apply;
 pub mod check;
 mod format;
+pub mod hex;
 
 use cpu::Options;
 use machine::Machine;
