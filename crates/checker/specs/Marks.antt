@@ -177,7 +177,7 @@ readAt mask a = decoded (byteAt mask a) (byteAt mask (a + 1))
 unfoldable pub fault : List ℕ → Pair → ℕ
 fault mask p = faultOf (readAt mask (p .address)) (p .level)
 
--- "addresses modulo 4,096"
+-- "PC moves on by the length, modulo 4,096"
 abbrev pub movedFrom : List ℕ → ℕ → ℕ
 movedFrom mask a = (a + lengthOf (byteAt mask a)) % 4096
 

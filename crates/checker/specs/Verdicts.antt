@@ -3,7 +3,8 @@ use Prim.Native.Nat.{ℕ, _+_, _*_, _/_, _%_, _^_, _<_, _≤_}
 use mathlib.Core.Path.{_≡_}
 use mathlib.Core.List.{List}
 use lib.ListN.{length, getD}
-use Rattle.checker.specs.Marks.{Pair, pair, fault, Reached}
+use lib.Dec.{eqb}
+use Rattle.checker.specs.Marks.{Pair, pair, pickNumber, fault, Reached}
 use Rattle.checker.specs.declared.check.Verdict.{Verdict}
 use Rattle.checker.specs.declared.check.Verdict.the-variants.{Passed, Failed, BadMask, BadMarks}
 
@@ -42,3 +43,7 @@ numberOf Passed = 0
 numberOf (Failed f a l) = 0
 numberOf BadMask = 1
 numberOf BadMarks = 2
+
+-- "1: mask not 4,096 bytes"; "2: .. marks .. not .. 4,096"; the lowest number wins
+abbrev pub checkRefusal : List ℕ → List ℕ → ℕ
+checkRefusal mask marks = pickNumber (eqb (length mask) 4096) (pickNumber (eqb (length marks) 4096) 0 2) 1

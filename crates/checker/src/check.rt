@@ -2,7 +2,7 @@
 ghost use mathlib.Core.Path.{_≡_};
 ghost use Prim.Native.Nat.{ℕ, _≤_};
 ghost use lib.ListN.{getD, length};
-ghost use Rattle.checker.specs.Verdicts.{Answers};
+ghost use Rattle.checker.specs.Verdicts.{Answers, checkRefusal, numberOf};
 ghost use Rattle.checker.specs.Walk.{Judged, Packed};
 use crate::next::fault_of;
 use crate::walk::reach;
@@ -53,6 +53,7 @@ fn judge(mask: &[u8], seen: &[u8; 12288]) -> Verdict
 // Marks the pairs that chains from address 0, level 0 reach, and says whether one of them is forbidden.
 pub fn check(mask: &[u8], marks: &mut [u8]) -> Verdict
     ensures { λ r. ⌜ Answers (now (mask .entry)) (now (marks .entry)) (now (marks .exit)) r ⌝ }
+    ensures { λ r. ⌜ numberOf r ≡ checkRefusal (now (mask .entry)) (now (marks .entry)) ⌝ }
 {
     if mask.len() != 4096 {
         return Verdict::BadMask;

@@ -60,7 +60,7 @@ returns c =
     let a = c .before .before .before .before .before .before .before .before .before .before .before .before .before .before .args in
     let checked = c .before .before .before .before .before .before .before .before .check in
     passed (a .mask .now) (a .script .now) (a .marks .now) (checked .last .1 .0) (a .out .now) (c .before .before .apply-script .last .1 .1 .0) (checked .result) (c .before .before .apply-script .result)
-    (λ k. omega (arith, c .before .before .before .before .before .before .before .before .before .before .before .before .before .shared-slice-known .given k)) (c .before .before .before .before .enum-told .given .1) (checked .ensures) (c .before .before .apply-script .ensures)
+    (λ k. omega (arith, c .before .before .before .before .before .before .before .before .before .before .before .before .before .shared-slice-known .given k)) (c .before .before .before .before .enum-told .given .1) (checked .ensures .0) (c .before .before .apply-script .ensures)
 
 same-length-3 : tie.Need-same-length-3
 same-length-3 c = search needs
@@ -68,7 +68,7 @@ same-length-3 c = search needs
 returns-2 : tie.Need-returns-2
 returns-2 c =
     let a = c .before .before .before .before .before .before .before .before .before .before .args in
-    quiet (a .mask .now) (a .script .now) (a .marks .now) (c .before .before .before .before .check .last .1 .0) (a .out .now) (c .before .before .before .before .check .result) (refusal 0) (c .before .before .before .before .check .ensures)
+    quiet (a .mask .now) (a .script .now) (a .marks .now) (c .before .before .before .before .check .last .1 .0) (a .out .now) (c .before .before .before .before .check .result) (refusal 0) (c .before .before .before .before .check .ensures .0)
     (subst (λ (v : Verdict). RunsAs (a .mask .now) (a .script .now) (c .before .before .before .before .check .last .1 .0) (a .out .now) (a .out .now) v (refusal 0)) (sym (c .enum-told2 .given .1)) (refl, refl))
 
 same-length-4 : tie.Need-same-length-4
@@ -77,7 +77,7 @@ same-length-4 c = search needs
 returns-3 : tie.Need-returns-3
 returns-3 c =
     let a = c .before .before .before .before .before .before .before .before .before .before .args in
-    quiet (a .mask .now) (a .script .now) (a .marks .now) (c .before .before .before .before .check .last .1 .0) (a .out .now) (c .before .before .before .before .check .result) (refusal 1) (c .before .before .before .before .check .ensures)
+    quiet (a .mask .now) (a .script .now) (a .marks .now) (c .before .before .before .before .check .last .1 .0) (a .out .now) (c .before .before .before .before .check .result) (refusal 1) (c .before .before .before .before .check .ensures .0)
     (subst (λ (v : Verdict). RunsAs (a .mask .now) (a .script .now) (c .before .before .before .before .check .last .1 .0) (a .out .now) (a .out .now) v (refusal 1)) (sym (c .enum-told3 .given .1)) (refl, refl))
 
 same-length-5 : tie.Need-same-length-5
@@ -86,7 +86,7 @@ same-length-5 c = search needs
 returns-4 : tie.Need-returns-4
 returns-4 c =
     let a = c .before .before .before .before .before .before .before .before .before .before .args in
-    quiet (a .mask .now) (a .script .now) (a .marks .now) (c .before .before .before .before .check .last .1 .0) (a .out .now) (c .before .before .before .before .check .result) (refusal 2) (c .before .before .before .before .check .ensures)
+    quiet (a .mask .now) (a .script .now) (a .marks .now) (c .before .before .before .before .check .last .1 .0) (a .out .now) (c .before .before .before .before .check .result) (refusal 2) (c .before .before .before .before .check .ensures .0)
     (subst (λ (v : Verdict). RunsAs (a .mask .now) (a .script .now) (c .before .before .before .before .check .last .1 .0) (a .out .now) (a .out .now) v (refusal 2)) (sym (c .enum-told4 .given .1)) (refl, refl))
 
 pub run-passed-spec : {M : Type 1} → statement M
