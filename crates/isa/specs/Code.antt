@@ -1,6 +1,6 @@
 -- The instruction set as document 001 prints it: for each line of its instruction summary, in the summary's order, the bytes of
--- its "Machine code" line, the range of the fields, and the summary's columns Byte and Cycle. Document 01, "Codes", says how the
--- lines are read: nnn is 0 to 4, d a nibble, and the first byte's nibble of 5d and 6d goes to R0 (R2), the second's to R1 (R3).
+-- its "Machine code" line, and the range of the fields. Document 01, "Codes", says how the lines are read: nnn is 0 to 4, d a nibble,
+-- and the first byte's nibble of 5d and 6d goes to R0 (R2), the second's to R1 (R3).
 -- A binary numeral is the printed pattern with its field at 0. Assumes nothing.
 use Prim.Native.Nat.{ℕ, _+_, _*_, _/_, _%_}
 use mathlib.Core.Bool.{Bool, true, false, _&&_}

@@ -45,7 +45,7 @@ powered options image = record {
   memory = drop 6 image;
 }
 
--- a machine before its first power-on: all 0 but what RES sets. Its commons are out of range, so refusal 5 answers every event
+-- a machine before its first power-on: all 0 but what RES sets. Its commons are out of range, so refusal 5 answers what 1 and 3 do not
 unfoldable pub blank : Machine
 blank = record {
   cpu = afterRes
