@@ -41,10 +41,11 @@ same-length c = search needs
 returns-3 : tie.Need-returns-3
 returns-3 c =
     let r = c .before .before .before .before .before .before .before in
-    let s = r .before .before .before .before .before .args in
-    (answered (s .mask .now) (r .reach .result) (r .reach .ensures) (s .marks .now) (c .before .before .before .before .pack .last .1 .0) (c .judge .result) (r .before .before .if1 .left) (c .before .before .before .before .pack .ensures) (c .judge .ensures),
-        judged (s .mask .now) (r .reach .result) (c .judge .result) (c .judge .ensures)
-        ∙ rw (eq-eqb _ 4096 (r .before .before .if1 .left), eq-eqb _ 4096 (r .before .if2 .left)) refl)
+    let s = r .before .before .before .before .before .args in (
+      answered (s .mask .now) (r .reach .result) (r .reach .ensures) (s .marks .now) (c .before .before .before .before .pack .last .1 .0) (c .judge .result) (r .before .before .if1 .left) (c .before .before .before .before .pack .ensures) (c .judge .ensures),
+      judged (s .mask .now) (r .reach .result) (c .judge .result) (c .judge .ensures)
+          ∙ rw (eq-eqb _ 4096 (r .before .before .if1 .left), eq-eqb _ 4096 (r .before .if2 .left)) refl,
+    )
 
 pub check-spec : {M : Type 1} → statement M
 check-spec =
