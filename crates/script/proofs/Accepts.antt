@@ -44,7 +44,8 @@ not-empty [] e = absurd (omega arith)
 not-empty (x ∷ s) e = omega arith
 
 -- values and options that pass the check are those that a power-on accepts
-pub power-accepted : (o : Options) (image : List ℕ) → length image ≡ 166 → valueOf (power o image) ≡ 0 → choiceOf (power o image) ≡ 0 → powerRefusal o image ≡ 0
+pub power-accepted : (o : Options) (image : List ℕ) → length image ≡ 166 → valueOf (power o image) ≡ 0
+    → choiceOf (power o image) ≡ 0 → powerRefusal o image ≡ 0
 unfolding valueOf choiceOf powerRefusal
 power-accepted o image l v k = rw (eq-eqb (length image) 166 l) (go (nibbles image) (optionsOk o) v k)
   where
@@ -110,7 +111,12 @@ sized-at : (s : List ℕ) (at : ℕ) → Sized (inputAt s at)
 unfolding inputAt
 sized-at s at = go (eqb (kindAt s at) 1) (eqb (kindAt s at) 2) (eqb (kindAt s at) 3) (eqb (kindAt s at) 4) (eqb (kindAt s at) 5)
   where
-    go : (a b c d e : Bool) → Sized (pick a (power (optionsAt s at) (filled (payloadAt s at 5))) (pick b (event (Run (wordAt s (at + 4)))) (pick c (event (Pins (payloadAt s at 0) (payloadAt s at 1) (payloadAt s at 2))) (pick d (event (Int (payloadAt s at 0))) (pick e (event (Tmclk (wordAt s (at + 4)))) (event Res))))))
+    go : (a b c d e : Bool)
+        → Sized (pick a (power (optionsAt s at) (filled (payloadAt s at 5)))
+        (pick b (event (Run (wordAt s (at + 4))))
+        (pick c (event (Pins (payloadAt s at 0) (payloadAt s at 1) (payloadAt s at 2)))
+        (pick d (event (Int (payloadAt s at 0)))
+        (pick e (event (Tmclk (wordAt s (at + 4)))) (event Res))))))
     go true b c d e = refl
     go false true c d e = tt
     go false false true d e = tt
@@ -118,15 +124,23 @@ sized-at s at = go (eqb (kindAt s at) 1) (eqb (kindAt s at) 2) (eqb (kindAt s at
     go false false false false true = tt
     go false false false false false = tt
 
-input-accepted : (mask : List ℕ) → length mask ≡ 4096 → (i : Input) (m : Machine) → Sized i → valueOf i ≡ 0 → choiceOf i ≡ 0 → valid (stateOf m) ≡ true → answerTo mask i m .refusal ≡ 0
+input-accepted : (mask : List ℕ) → length mask ≡ 4096 → (i : Input) (m : Machine) → Sized i → valueOf i ≡ 0 → choiceOf i ≡ 0
+    → valid (stateOf m) ≡ true → answerTo mask i m .refusal ≡ 0
 unfolding powerOn
 input-accepted mask l (power o image) m z v k w = power-accepted o image z v k
 input-accepted mask l (event e) m z v k w = applied-accepted mask e m (event-accepted mask l e v) w
 
 module _ (mask s : List ℕ) (b : Bytes mask) where
-  rest-taken : length mask ≡ 4096 → (at : ℕ) (m : Machine) → valid (stateOf m) ≡ true → first (ruled Values s) (offsetsFrom s at) .number ≡ 0 → first (ruled Choices s) (offsetsFrom s at) .number ≡ 0 → Taken mask (map (inputAt s) (offsetsFrom s at)) m
+  -- from an offset on, where neither values nor options are refused
+  abbrev Rest : ℕ → List ℕ → Type 0
+  Rest at l =
+      (m : Machine) → valid (stateOf m) ≡ true
+      → first (ruled Values s) (offsetsFrom s at) .number ≡ 0 → first (ruled Choices s) (offsetsFrom s at) .number ≡ 0
+      → Taken mask (map (inputAt s) l) m
+
+  rest-taken : length mask ≡ 4096 → (at : ℕ) → Rest at (offsetsFrom s at)
   rest-taken l =
-      each s (λ (at : ℕ) (k : List ℕ). (m : Machine) → valid (stateOf m) ≡ true → first (ruled Values s) (offsetsFrom s at) .number ≡ 0 → first (ruled Choices s) (offsetsFrom s at) .number ≡ 0 → Taken mask (map (inputAt s) k) m)
+      each s Rest
       (λ at h m v p q. none)
       (λ at h back m v p q.
       more (inputAt s at)

@@ -2,7 +2,7 @@
 -- holds. A script that is not refused has passed every test. Assumes nothing.
 use Prim.Native.Nat.{ℕ, _+_, _*_, _<_, _≤_}
 use native.Mathlib.Omega.{arith}
-use mathlib.Core.Path.{_≡_, refl}
+use mathlib.Core.Path.{_≡_, refl, sym, ap, _∙_}
 use mathlib.Core.Bool.{Bool, true, false}
 use mathlib.Core.List.{List}
 use lib.Dec.{leb, eqb}
@@ -30,6 +30,15 @@ module _ (rule : ℕ → ℕ) (s : List ℕ) (at : ℕ) where
   first-good h z = rw (from-next s at h, eq-eqb (rule at) 0 z) refl
 
 -- ---- the stages
+number : {a b : Checked} → a ≡ b → a .number ≡ b .number
+number e = ap (λ (k : Checked). k .number) e
+
+stop : (a b : Checked) → (a .number ≡ 0 → ⊥) → orElse a b ≡ a
+stop a b h = rw (ne-eqb (a .number) 0 h) refl
+
+pass : (a b : Checked) → a .number ≡ 0 → orElse a b ≡ b
+pass a b h = rw (eq-eqb (a .number) 0 h) refl
+
 module _ (mask s : List ℕ) (room : ℕ) where
   abbrev pub after4 : Checked
   after4 = unless (leb (48 * length (offsets s)) room) 9
@@ -63,23 +72,35 @@ module _ (mask s : List ℕ) (room : ℕ) where
   pub pass6 : length s ≤ 65535 → after1 ≡ after6
   pass6 h = rw (le-leb (length s) 65535 h) refl
 
+  pub stop7 : {k : Checked} → k ≡ first (ruled Format s) (offsets s) → (k .number ≡ 0 → ⊥) → after6 ≡ k
+  stop7 e h = stop (first (ruled Format s) (offsets s)) after7 (λ z. h (number e ∙ z)) ∙ sym e
+
+  pub pass7 : {k : Checked} → k ≡ first (ruled Format s) (offsets s) → k .number ≡ 0 → after6 ≡ after7
+  pass7 e h = pass (first (ruled Format s) (offsets s)) after7 (sym (number e) ∙ h)
+
   pub stop8 : (kindAt s 0 ≡ 1 → ⊥) → after7 ≡ refused 8 0
   stop8 h = rw (ne-eqb (kindAt s 0) 1 h) refl
 
   pub pass8 : kindAt s 0 ≡ 1 → after7 ≡ after8
   pass8 h = rw (eq-eqb (kindAt s 0) 1 h) refl
 
+  pub stop3 : {k : Checked} → k ≡ first (ruled Values s) (offsets s) → (k .number ≡ 0 → ⊥) → after8 ≡ k
+  stop3 e h = stop (first (ruled Values s) (offsets s)) after3 (λ z. h (number e ∙ z)) ∙ sym e
+
+  pub pass3 : {k : Checked} → k ≡ first (ruled Values s) (offsets s) → k .number ≡ 0 → after8 ≡ after3
+  pass3 e h = pass (first (ruled Values s) (offsets s)) after3 (sym (number e) ∙ h)
+
+  pub stop4 : {k : Checked} → k ≡ first (ruled Choices s) (offsets s) → (k .number ≡ 0 → ⊥) → after3 ≡ k
+  stop4 e h = stop (first (ruled Choices s) (offsets s)) after4 (λ z. h (number e ∙ z)) ∙ sym e
+
+  pub pass4 : {k : Checked} → k ≡ first (ruled Choices s) (offsets s) → k .number ≡ 0 → after3 ≡ after4
+  pass4 e h = pass (first (ruled Choices s) (offsets s)) after4 (sym (number e) ∙ h)
+
   pub stop9 : room < 48 * length (offsets s) → after4 ≡ refused 9 0
   stop9 h = rw (lt-leb (48 * length (offsets s)) room h) refl
 
   pub pass9 : 48 * length (offsets s) ≤ room → after4 ≡ fine
   pass9 h = rw (le-leb (48 * length (offsets s)) room h) refl
-
-pub stop : (a b : Checked) → (a .number ≡ 0 → ⊥) → orElse a b ≡ a
-stop a b h = rw (ne-eqb (a .number) 0 h) refl
-
-pub pass : (a b : Checked) → a .number ≡ 0 → orElse a b ≡ b
-pass a b h = rw (eq-eqb (a .number) 0 h) refl
 
 -- ---- a script that is not refused
 pub record Accepted (mask s : List ℕ) (room : ℕ) : Type 0 where

@@ -63,7 +63,8 @@ module _ (s : List ℕ) (at : ℕ) where
     load k j e = ap (λ (i : ℕ). getD s i 0) (omega arith)
 
     -- length and kind
-    head : {size kind : ℕ} (tail : List ℕ) → sizeAt s at ≡ size → kindAt s at ≡ kind → pair size ++ (pair kind ++ tail) ≡ byte 0 ∷ byte 1 ∷ byte 2 ∷ byte 3 ∷ tail
+    head : {size kind : ℕ} (tail : List ℕ) → sizeAt s at ≡ size → kindAt s at ≡ kind
+        → pair size ++ (pair kind ++ tail) ≡ byte 0 ∷ byte 1 ∷ byte 2 ∷ byte 3 ∷ tail
     head tail p q =
         ap₂ (λ (x y : ℕ). pair x ++ (pair y ++ tail)) (sym p) (sym q)
         ∙ ap₂ (λ (x y : List ℕ). x ++ (y ++ tail)) (pair-back (getD s at 0) (byte 1) (b at)) (pair-back (byte 2) (getD s (at + 2 + 1) 0) (b (at + 2)))
@@ -79,12 +80,15 @@ module _ (s : List ℕ) (at : ℕ) where
     back (suc zero) k p q z =
         rw k (head _ z k ∙ six (load 0 4 refl) (load 1 5 refl) (load 2 6 refl) (load 3 7 refl) (load 4 8 refl) (load 5 9 refl))
       where
-        six : {a b c d e f a' b' c' d' e' f' : ℕ} → a ≡ a' → b ≡ b' → c ≡ c' → d ≡ d' → e ≡ e' → f ≡ f' → byte 0 ∷ byte 1 ∷ byte 2 ∷ byte 3 ∷ a ∷ b ∷ c ∷ d ∷ e ∷ f ∷ [] ≡ byte 0 ∷ byte 1 ∷ byte 2 ∷ byte 3 ∷ a' ∷ b' ∷ c' ∷ d' ∷ e' ∷ f' ∷ []
+        six : {a b c d e f a' b' c' d' e' f' : ℕ} → a ≡ a' → b ≡ b' → c ≡ c' → d ≡ d' → e ≡ e' → f ≡ f'
+            → byte 0 ∷ byte 1 ∷ byte 2 ∷ byte 3 ∷ a ∷ b ∷ c ∷ d ∷ e ∷ f ∷ []
+            ≡ byte 0 ∷ byte 1 ∷ byte 2 ∷ byte 3 ∷ a' ∷ b' ∷ c' ∷ d' ∷ e' ∷ f' ∷ []
         six p q r t u v = cc
     back (suc (suc zero)) k p q z = rw k (head _ z k ∙ ap (λ (l : List ℕ). byte 0 ∷ byte 1 ∷ byte 2 ∷ byte 3 ∷ l) two)
     back (suc (suc (suc zero))) k p q z = rw k (head _ z k ∙ three (load 0 4 refl) (load 1 5 refl) (load 2 6 refl))
       where
-        three : {a b c a' b' c' : ℕ} → a ≡ a' → b ≡ b' → c ≡ c' → byte 0 ∷ byte 1 ∷ byte 2 ∷ byte 3 ∷ a ∷ b ∷ c ∷ [] ≡ byte 0 ∷ byte 1 ∷ byte 2 ∷ byte 3 ∷ a' ∷ b' ∷ c' ∷ []
+        three : {a b c a' b' c' : ℕ} → a ≡ a' → b ≡ b' → c ≡ c'
+            → byte 0 ∷ byte 1 ∷ byte 2 ∷ byte 3 ∷ a ∷ b ∷ c ∷ [] ≡ byte 0 ∷ byte 1 ∷ byte 2 ∷ byte 3 ∷ a' ∷ b' ∷ c' ∷ []
         three p q r = cc
     back (suc (suc (suc (suc zero)))) k p q z = rw k (head _ z k ∙ ap (λ (x : ℕ). byte 0 ∷ byte 1 ∷ byte 2 ∷ byte 3 ∷ x ∷ []) (load 0 4 refl))
     back (suc (suc (suc (suc (suc zero))))) k p q z = rw k (head _ z k ∙ ap (λ (l : List ℕ). byte 0 ∷ byte 1 ∷ byte 2 ∷ byte 3 ∷ l) two)

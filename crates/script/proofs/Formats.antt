@@ -31,11 +31,25 @@ module _ (s : List ℕ) (at : ℕ) where
 
     pub size-wrong : 0 < kindAt s at → kindAt s at ≤ 6 → (sizeAt s at ≡ sizeOf (kindAt s at) → ⊥) → 6 ≡ formatAt s at
     unfolding formatAt
-    size-wrong p z e = rw (le-ltb (length s) (at + 4) g, le-ltb (length s) (at + 4 + sizeAt s at) h, lt-ltb 0 (kindAt s at) p, lt-ltb (kindAt s at) 7 (omega arith), ne-eqb (sizeAt s at) (sizeOf (kindAt s at)) e) refl
+    size-wrong p z e =
+        rw (
+          le-ltb (length s) (at + 4) g,
+          le-ltb (length s) (at + 4 + sizeAt s at) h,
+          lt-ltb 0 (kindAt s at) p,
+          lt-ltb (kindAt s at) 7 (omega arith),
+          ne-eqb (sizeAt s at) (sizeOf (kindAt s at)) e,
+        ) refl
 
     pub well-formed : 0 < kindAt s at → kindAt s at ≤ 6 → sizeAt s at ≡ sizeOf (kindAt s at) → 0 ≡ formatAt s at
     unfolding formatAt
-    well-formed p z e = rw (le-ltb (length s) (at + 4) g, le-ltb (length s) (at + 4 + sizeAt s at) h, lt-ltb 0 (kindAt s at) p, lt-ltb (kindAt s at) 7 (omega arith), eq-eqb (sizeAt s at) (sizeOf (kindAt s at)) e) refl
+    well-formed p z e =
+        rw (
+          le-ltb (length s) (at + 4) g,
+          le-ltb (length s) (at + 4 + sizeAt s at) h,
+          lt-ltb 0 (kindAt s at) p,
+          lt-ltb (kindAt s at) 7 (omega arith),
+          eq-eqb (sizeAt s at) (sizeOf (kindAt s at)) e,
+        ) refl
 
 -- a record that is whole, of a known kind and of its length
 pub record Whole (s : List ℕ) (at : ℕ) : Type 0 where
@@ -50,7 +64,8 @@ whole s at e =
     go (ltb (length s) (at + 4)) (ltb (length s) (at + 4 + sizeAt s at)) (ltb 0 (kindAt s at)) (ltb (kindAt s at) 7)
     (eqb (sizeAt s at) (sizeOf (kindAt s at))) refl refl refl refl e
   where
-    go : (a b c d f : Bool) → ltb (length s) (at + 4 + sizeAt s at) ≡ b → ltb 0 (kindAt s at) ≡ c → ltb (kindAt s at) 7 ≡ d → eqb (sizeAt s at) (sizeOf (kindAt s at)) ≡ f → _≡_ {A = ℕ} (pick a 6 (pick b 6 (pick (c && d) (pick f 0 6) 7))) 0 → Whole s at
+    go : (a b c d f : Bool) → ltb (length s) (at + 4 + sizeAt s at) ≡ b → ltb 0 (kindAt s at) ≡ c → ltb (kindAt s at) 7 ≡ d
+        → eqb (sizeAt s at) (sizeOf (kindAt s at)) ≡ f → _≡_ {A = ℕ} (pick a 6 (pick b 6 (pick (c && d) (pick f 0 6) 7))) 0 → Whole s at
     go true b c d f p q r t e = absurd (omega arith)
     go false true c d f p q r t e = absurd (omega arith)
     go false false false d f p q r t e = absurd (omega arith)

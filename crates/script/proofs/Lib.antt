@@ -5,6 +5,7 @@ pub mod Formats
 pub mod Hexes
 pub mod Offsets
 pub mod Rests
+pub mod Room
 pub mod Sessions
 pub mod Turn
 pub mod Values

@@ -74,7 +74,8 @@ abbrev pub whole : List ℕ → ℕ → List ℕ → List ℕ
 whole out n r = take n out ++ (r ++ drop (n + length r) out)
 
 -- one report more is written
-pub whole-more : (out p r : List ℕ) (n : ℕ) → length p ≡ 48 → n + 48 ≤ length out → whole (take n out ++ (p ++ drop (n + 48) out)) (n + 48) r ≡ whole out n (p ++ r)
+pub whole-more : (out p r : List ℕ) (n : ℕ) → length p ≡ 48 → n + 48 ≤ length out
+    → whole (take n out ++ (p ++ drop (n + 48) out)) (n + 48) r ≡ whole out n (p ++ r)
 whole-more out p r n l h =
     ap₂ (λ (a b : List ℕ). a ++ (r ++ b)) front back
     ∙ append-assoc (take n out) p (r ++ drop (n + length (p ++ r)) out)

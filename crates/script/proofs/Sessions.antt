@@ -23,10 +23,14 @@ use Rattle.script.proofs.Rests.{rest, rest-all, rest-end, rest-next, st
 -- from an offset and a machine, what is printed
 pub data Session (mask s : List ℕ) : ℕ → Machine → List ℕ → Type 0 where
   ended : {at : ℕ} {m : Machine} → length s ≤ at → Session mask s at m []
-  going : {at : ℕ} {m : Machine} {more : List ℕ} (p : Progress) (n : ℕ) (buffer bytes : List ℕ) → at < length s → p ≡ stepped mask s at m → length buffer ≡ 48 → reporting n bytes ≡ report (p .machine) buffer → Session mask s (p .at) (p .machine) more → Session mask s at m (bytes ++ more)
+  going : {at : ℕ} {m : Machine} {more : List ℕ} (p : Progress) (n : ℕ) (buffer bytes : List ℕ)
+      → at < length s → p ≡ stepped mask s at m
+      → length buffer ≡ 48 → reporting n bytes ≡ report (p .machine) buffer
+      → Session mask s (p .at) (p .machine) more → Session mask s at m (bytes ++ more)
 
 module _ (mask s : List ℕ) (b : Bytes mask) where
-  from-here : {at : ℕ} {m : Machine} {bytes : List ℕ} → Session mask s at m bytes → valid (stateOf (next mask (inputAt s at) m)) ≡ true → bytes ≡ rest mask s at m
+  from-here : {at : ℕ} {m : Machine} {bytes : List ℕ} → Session mask s at m bytes
+      → valid (stateOf (next mask (inputAt s at) m)) ≡ true → bytes ≡ rest mask s at m
   from-here {at} {m} (ended h) v = sym (rest-end mask s at m h)
   from-here {at} {m} (going {more = more} p n buffer bytes h e l r k) v =
       let q = e ∙ stepped-in mask s at m h in

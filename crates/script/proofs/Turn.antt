@@ -17,7 +17,7 @@ use Rattle.machine.proofs.Lists.{input-valid}
 use Rattle.machine.proofs.Reports.{report-length}
 use Rattle.script.specs.Format.{sizeAt, offsetsFrom, inputAt}
 use Rattle.script.specs.Check.{checked}
-use Rattle.script.specs.Reports.{next, reportsOf, stepped}
+use Rattle.script.specs.Reports.{next, reportsOf, fronted, stepped}
 use Rattle.script.specs.declared.Progress.{Progress}
 use Rattle.script.proofs.Offsets.{from-next}
 use Rattle.script.proofs.Checks.{accepted}
@@ -26,7 +26,7 @@ use Rattle.script.proofs.Rests.{rest, rest-all, rest-end, rest-next, st
 
 -- the buffer that is to be left
 abbrev pub left : List ℕ → List ℕ → List ℕ → List ℕ
-left mask s out₀ = reportsOf mask s ++ drop (length (reportsOf mask s)) out₀
+left mask s out₀ = fronted (reportsOf mask s) out₀
 
 pub record Held (mask s out₀ out : List ℕ) (at done : ℕ) (m : Machine) : Type 0 where
   pub buffer : whole out done (rest mask s at m) ≡ left mask s out₀
@@ -52,9 +52,11 @@ module _ (mask s out₀ : List ℕ) where
       fits = omega (arith, v .room, ap length (from-next s at h))
 
       -- one record more
-      pub turns : (p : Progress) (out' : List ℕ) → Bytes mask → p ≡ stepped mask s at m → out' ≡ take done out ++ (reported (p .machine) ++ drop (done + 48) out) → Held mask s out₀ out' (p .at) (done + 48) (p .machine)
+      pub turns : (p : Progress) (out' : List ℕ) → Bytes mask → p ≡ stepped mask s at m
+          → out' ≡ take done out ++ (reported (p .machine) ++ drop (done + 48) out) → Held mask s out₀ out' (p .at) (done + 48) (p .machine)
       turns p out' b e =
-          subst (λ (p : Progress). out' ≡ take done out ++ (reported (p .machine) ++ drop (done + 48) out) → Held mask s out₀ out' (p .at) (done + 48) (p .machine))
+          subst (λ (p : Progress).
+          out' ≡ take done out ++ (reported (p .machine) ++ drop (done + 48) out) → Held mask s out₀ out' (p .at) (done + 48) (p .machine))
           (sym (e ∙ stepped-in mask s at m h)) go
         where
           at' : ℕ

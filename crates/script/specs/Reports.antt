@@ -25,8 +25,11 @@ reports mask (i ∷ is) m = reported (next mask i m) ++ reports mask is (next ma
 abbrev pub reportsOf : List ℕ → List ℕ → List ℕ
 reportsOf mask s = reports mask (inputs s) blank
 
--- what applying a script leaves: the check's answer, and the lent bytes. "A longer report buffer keeps its bytes after the last report";
--- of a refused script "Nothing is written"
+-- a buffer with reports at its front: "A longer report buffer keeps its bytes after the last report"
+abbrev pub fronted : List ℕ → List ℕ → List ℕ
+fronted r out = r ++ drop (length r) out
+
+-- what applying a script leaves: the check's answer, and the lent bytes. Of a refused script "Nothing is written"
 pub record Applied : Type 0 where
   pub answer : Checked
   pub bytes : List ℕ
@@ -37,7 +40,7 @@ leaving k out = record { answer = k; bytes = out }
 unfoldable pub applied : List ℕ → List ℕ → List ℕ → Applied
 applied mask s out =
     leaving (checked mask s (length out))
-    (pick (eqb (checked mask s (length out) .number) 0) (reportsOf mask s ++ drop (length (reportsOf mask s)) out) out)
+    (pick (eqb (checked mask s (length out) .number) 0) (fronted (reportsOf mask s) out) out)
 
 -- one record alone: the machine after it and the offset of the record that follows. At the end nothing moves
 unfoldable pub stepped : List ℕ → List ℕ → ℕ → Machine → Progress

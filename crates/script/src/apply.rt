@@ -9,7 +9,7 @@ ghost use Rattle.machine.specs.Machine.{stateOf};
 ghost use Rattle.machine.specs.Report.{reported};
 ghost use Rattle.script.specs.Check.{checked};
 ghost use Rattle.script.specs.Format.{inputOf};
-ghost use Rattle.script.specs.Reports.{applied, leaving, next, reportsOf, stepped};
+ghost use Rattle.script.specs.Reports.{applied, fronted, leaving, next, reportsOf, stepped};
 use crate::Checked;
 use crate::Progress;
 use crate::Record;
@@ -65,7 +65,7 @@ fn put_report(machine: Machine, out: &mut [u8], at: usize)
 // The reports of an accepted script.
 fn put_reports(mask: &[u8], script: &[u8], out: &mut [u8])
     requires { ⌜ checked (now mask) (now script) (length (now out)) .number ≡ 0 ⌝ }
-    ensures { λ _. ⌜ now (out .exit) ≡ reportsOf (now (mask .entry)) (now (script .entry)) ++ drop (length (reportsOf (now (mask .entry)) (now (script .entry)))) (now (out .entry)) ⌝ }
+    ensures { λ _. ⌜ now (out .exit) ≡ fronted (reportsOf (now (mask .entry)) (now (script .entry))) (now (out .entry)) ⌝ }
 {
     let mut at = 0;
     let mut done = 0;

@@ -25,8 +25,9 @@ check-script-requires c κs = search needs
 
 returns : tie.Need-returns
 returns c =
-    let a = c .before .before .before .before .before .before .args in
-    refused (a .mask .now) (a .script .now) (a .out .now) (c .before .before .check-script .result) (c .before .before .check-script .ensures) (c .if1 .taken)
+    let k = c .before .before in
+    let a = k .before .before .before .before .args in
+    refused (a .mask .now) (a .script .now) (a .out .now) (k .check-script .result) (k .check-script .ensures) (c .if1 .taken)
 
 put-reports-requires : tie.Need-put-reports-requires
 put-reports-requires c κs = sym (ap (λ (k : Checked). k .number) (c .before .before .before .check-script .ensures)) ∙ c .before .if1 .left
@@ -36,8 +37,10 @@ same-length c = search needs
 
 returns-2 : tie.Need-returns-2
 returns-2 c =
-    let a = c .before .before .before .before .before .before .before .before .before .before .args in
-    done (a .mask .now) (a .script .now) (a .out .now) (c .before .before .before .before .before .before .check-script .result) (c .before .before .before .before .before .before .check-script .ensures) (c .before .before .before .before .if1 .left) (c .before .before .put-reports .ensures)
+    let else1 = c .before .before .before .before in
+    let k = else1 .before .before in
+    let a = k .before .before .before .before .args in
+    done (a .mask .now) (a .script .now) (a .out .now) (k .check-script .result) (k .check-script .ensures) (else1 .if1 .left) (c .before .before .put-reports .ensures)
 
 pub apply-script-spec : {M : Type 1} → statement M
 apply-script-spec =

@@ -18,7 +18,8 @@ options-ok-requires c κs = search needs
 returns : tie.Need-returns
 unfolding choiceOf
 returns c =
-    ap (λ (b : Bool). pick b 0 4) (sym (c .if1 .taken) ∙ c .before .options-ok .ensures) ∙ sym (ap (λ (r : Record). choiceOf (inputOf r)) (c .before .before .before .input .given .1))
+    ap (λ (b : Bool). pick b 0 4) (sym (c .if1 .taken) ∙ c .before .options-ok .ensures)
+    ∙ sym (ap (λ (r : Record). choiceOf (inputOf r)) (c .before .before .before .input .given .1))
 
 enum-told : tie.Need-enum-told
 enum-told c = search needs
@@ -26,7 +27,8 @@ enum-told c = search needs
 returns-2 : tie.Need-returns-2
 unfolding choiceOf
 returns-2 c =
-    ap (λ (b : Bool). pick b 0 4) (sym (c .if1 .left) ∙ c .before .options-ok .ensures) ∙ sym (ap (λ (r : Record). choiceOf (inputOf r)) (c .before .before .before .input .given .1))
+    ap (λ (b : Bool). pick b 0 4) (sym (c .if1 .left) ∙ c .before .options-ok .ensures)
+    ∙ sym (ap (λ (r : Record). choiceOf (inputOf r)) (c .before .before .before .input .given .1))
 
 returns-3 : tie.Need-returns-3
 unfolding choiceOf

@@ -45,15 +45,19 @@ size-of-requires c κs = search needs
 
 returns-5 : tie.Need-returns-5
 returns-5 c =
-    let a = c .before .before .before .before .before .before .before .before .before .args in
-    size-wrong (a .s .now) (a .at) (c .before .before .before .before .before .before .before .if1 .left) (omega arith) (omega arith) (omega arith)
-    (λ e. c .if5 .taken (c .before .before .before .before .before .before .size-at .ensures .0 ∙ e ∙ sym (c .before .size-of .ensures ∙ ap sizeOf (c .before .before .before .before .kind-at .ensures))))
+    let kind = c .before .before .before .before in
+    let size = kind .before .before in
+    let a = size .before .before .before .args in
+    size-wrong (a .s .now) (a .at) (size .before .if1 .left) (omega arith) (omega arith) (omega arith)
+    (λ e. c .if5 .taken (size .size-at .ensures .0 ∙ e ∙ sym (c .before .size-of .ensures ∙ ap sizeOf (kind .kind-at .ensures))))
 
 returns-6 : tie.Need-returns-6
 returns-6 c =
-    let a = c .before .before .before .before .before .before .before .before .before .args in
-    well-formed (a .s .now) (a .at) (c .before .before .before .before .before .before .before .if1 .left) (omega arith) (omega arith) (omega arith)
-    (sym (c .before .before .before .before .before .before .size-at .ensures .0) ∙ c .if5 .left ∙ c .before .size-of .ensures ∙ ap sizeOf (c .before .before .before .before .kind-at .ensures))
+    let kind = c .before .before .before .before in
+    let size = kind .before .before in
+    let a = size .before .before .before .args in
+    well-formed (a .s .now) (a .at) (size .before .if1 .left) (omega arith) (omega arith) (omega arith)
+    (sym (size .size-at .ensures .0) ∙ c .if5 .left ∙ c .before .size-of .ensures ∙ ap sizeOf (kind .kind-at .ensures))
 
 pub format-at-spec : {M : Type 1} → statement M
 format-at-spec =

@@ -1,0 +1,88 @@
+-- Refusal 9 does not occur where there is room for 65,535 records: a script that is not too long has fewer. So a program with a buffer of
+-- its own never meets it. Assumes nothing.
+use Prim.Native.Nat.{ℕ, _+_, _*_, _≤_}
+use native.Mathlib.Omega.{arith}
+use mathlib.Core.Path.{_≡_, refl, sym, ap, _∙_}
+use mathlib.Core.Bool.{Bool, true, false, _&&_}
+use mathlib.Core.List.{List, [], _∷_}
+use lib.Dec.{ltb, leb, eqb}
+use lib.ListN.{length}
+use borrow.Author.Tests.{leb-true}
+use Rattle.cpu.specs.Effect.{pick}
+use Rattle.cpu.specs.Range.{nibble, nibbles, optionsOk}
+use Rattle.machine.specs.Events.{Input, power, event}
+use Rattle.machine.specs.declared.events.Event.the-variants.{Run, Pins, Int, Tmclk, Res}
+use Rattle.script.specs.Format.{sizeAt, kindAt, known, sizeOf, offsets, inputAt}
+use Rattle.script.specs.Check.{refused, unless, orElse, first, formatAt, valueOf, choiceOf, ruled, checked}
+use Rattle.script.specs.declared.Checked.{Checked}
+use Rattle.script.specs.declared.check.Rule.the-variants.{Format, Values, Choices}
+use Rattle.script.proofs.Checks.{after1, after3, after4, after6, after7, after8, pass9}
+use Rattle.script.proofs.Offsets.{few}
+
+-- a number other than 9, and an answer with one
+abbrev Other : ℕ → Type 0
+Other n = n ≡ 9 → ⊥
+
+either : (t : Bool) (x y : ℕ) → Other x → Other y → Other (pick t x y)
+either true x y p q = p
+either false x y p q = q
+
+or-else : (a b : Checked) → Other (a .number) → Other (b .number) → Other (orElse a b .number)
+or-else a b p q = go (eqb (a .number) 0)
+  where
+    go : (t : Bool) → Other (pick t b a .number)
+    go true = q
+    go false = p
+
+unless-other : (t : Bool) (n : ℕ) → Other n → Other (unless t n .number)
+unless-other true n p = λ e. omega arith
+unless-other false n p = p
+
+first-other : (rule : ℕ → ℕ) → ((at : ℕ) → Other (rule at)) → (l : List ℕ) → Other (first rule l .number)
+unfolding first
+first-other rule p [] = λ e. omega arith
+first-other rule p (at ∷ l) = go (eqb (rule at) 0) (first-other rule p l)
+  where
+    go : (t : Bool) → Other (first rule l .number) → Other (pick t (first rule l) (refused (rule at) at) .number)
+    go true q = q
+    go false q = p at
+
+-- the three rules
+format-other : (s : List ℕ) (at : ℕ) → Other (formatAt s at)
+unfolding formatAt
+format-other s at =
+    either (ltb (length s) (at + 4)) 6 _ (λ e. omega arith)
+    (either (ltb (length s) (at + 4 + sizeAt s at)) 6 _ (λ e. omega arith)
+    (either (known (kindAt s at)) _ 7 (either (eqb (sizeAt s at) (sizeOf (kindAt s at))) 0 6 (λ e. omega arith) (λ e. omega arith)) (λ e. omega arith)))
+
+value-other : (i : Input) → Other (valueOf i)
+unfolding valueOf
+value-other (power o image) = either (nibbles image) 0 3 (λ e. omega arith) (λ e. omega arith)
+value-other (event (Run n)) = λ e. omega arith
+value-other (event (Pins pm ps pp)) = either (nibble pm && (nibble ps && nibble pp)) 0 3 (λ e. omega arith) (λ e. omega arith)
+value-other (event (Int level)) = either (ltb level 2) 0 3 (λ e. omega arith) (λ e. omega arith)
+value-other (event (Tmclk n)) = λ e. omega arith
+value-other (event Res) = λ e. omega arith
+
+choice-other : (i : Input) → Other (choiceOf i)
+unfolding choiceOf
+choice-other (power o image) = either (optionsOk o) 0 4 (λ e. omega arith) (λ e. omega arith)
+choice-other (event e) = λ e. omega arith
+
+pub never-nine : (mask s : List ℕ) (room : ℕ) → 48 * 65535 ≤ room → checked mask s room .number ≡ 9 → ⊥
+unfolding checked
+never-nine mask s room h =
+    or-else (unless (eqb (length mask) 4096) 1) (after1 mask s room) (unless-other (eqb (length mask) 4096) 1 (λ e. omega arith))
+    (go (leb (length s) 65535) refl)
+  where
+    last : leb (length s) 65535 ≡ true → Other (after4 mask s room .number)
+    last e n = omega (arith, sym (ap (λ (k : Checked). k .number) (pass9 mask s room (omega (arith, few s 0, leb-true (length s) 65535 e)))) ∙ n)
+
+    go : (t : Bool) → leb (length s) 65535 ≡ t → Other (orElse (unless t 6) (after6 mask s room) .number)
+    go false e = λ n. omega arith
+    go true e =
+        or-else (first (ruled Format s) (offsets s)) (after7 mask s room) (first-other (ruled Format s) (format-other s) (offsets s))
+        (or-else (unless (eqb (kindAt s 0) 1) 8) (after8 mask s room) (unless-other (eqb (kindAt s 0) 1) 8 (λ e. omega arith))
+        (or-else (first (ruled Values s) (offsets s)) (after3 mask s room) (first-other (ruled Values s) (λ at. value-other (inputAt s at)) (offsets s))
+        (or-else (first (ruled Choices s) (offsets s)) (after4 mask s room) (first-other (ruled Choices s) (λ at. choice-other (inputAt s at)) (offsets s))
+        (last e))))
