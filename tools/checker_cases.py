@@ -196,20 +196,37 @@ def lines(name, program, marks):
     return [f'{name} {said}', 'marks' + ''.join(told)]
 
 
-def main():
-    stored = masks()
-    assert len(stored) <= 60 and all(len(one) == MASK for one in stored)
+def fixed_lines():
+    """The cases before the stored ones: refusals 1 and 2, and both, and the 256 masks of one byte."""
     out = lines('short mask', mask()[:-1], KEPT * MASK)
     out += lines('long marks', mask(), KEPT * (MASK + 1))
     out += lines('short mask, long marks', mask()[:-1], KEPT * (MASK + 1))
     for byte in range(256):
         out += lines(f'all {byte:02x}', mask(fill=byte), KEPT * MASK)
-    for number, one in enumerate(stored):
-        out += lines(number, one, KEPT * MASK)
-    with open(os.path.join(FOLDER, 'data', 'masks.bin'), 'wb') as file:
-        file.write(len(stored).to_bytes(2, 'little') + b''.join(stored))
-    with open(os.path.join(FOLDER, 'stdout'), 'w', encoding='ascii') as file:
-        file.write('\n'.join(out) + '\n')
+    return out
+
+
+def stored_lines(stored):
+    return [line for number, one in enumerate(stored) for line in lines(number, one, KEPT * MASK)]
+
+
+def masks_file(stored):
+    return len(stored).to_bytes(2, 'little') + b''.join(stored)
+
+
+def files():
+    """All that is stored, as a dict from paths to bytes."""
+    stored = masks()
+    assert len(stored) <= 60 and all(len(one) == MASK for one in stored)
+    out = fixed_lines() + stored_lines(stored)
+    return {os.path.join(FOLDER, 'data', 'masks.bin'): masks_file(stored),
+            os.path.join(FOLDER, 'stdout'): ('\n'.join(out) + '\n').encode('ascii')}
+
+
+def main():
+    for path, content in files().items():
+        with open(path, 'wb') as file:
+            file.write(content)
 
 
 if __name__ == '__main__':

@@ -247,10 +247,13 @@ def line(first, second):
     return f'{first:02X} {second:02X} {reading} {length} {cycles} {written}'
 
 
+def lines():
+    """What isa_main must print."""
+    return [line(first, second) for first in range(256) for second in (0x00, 0x0F, 0x10, 0x3E, 0xFF)]
+
+
 def main():
-    for first in range(256):
-        for second in (0x00, 0x0F, 0x10, 0x3E, 0xFF):
-            print(line(first, second))
+    print('\n'.join(lines()))
 
 
 if __name__ == '__main__':

@@ -1,14 +1,19 @@
-"""Writes the input of the test of `panel` and what it must print: document 01's example.
+"""Writes the stored input of `panel` and what it must print.
 
-mask.bin and script.bin go into crates/panel/data, the expected lines, by the
-reference model, into crates/panel/stdout.
+crates/panel has document 01's example: data/mask.bin, data/script.bin and stdout. Each folder
+of tests/panel is one more case: mask.bin, script.bin and expected. A file `missing` in the
+folder has the name of the file that is left out. What is expected comes from the reference
+model; the answers below, where document 01 decides them alone, are typed by hand and held to it.
 """
 
 import pathlib
 
 import reference
+from panel_input import (assemble, int_pin, pins, power_on, record, res, run, tmclk)
 
-CRATE = pathlib.Path(__file__).resolve().parent.parent / 'crates' / 'panel'
+ROOT = pathlib.Path(__file__).resolve().parent.parent
+CRATE = ROOT / 'crates' / 'panel'
+CASES = ROOT / 'tests' / 'panel'
 
 # 'Mask 75 30, then 3E throughout; script 06 00 01 00 02 04 00 00 00 00, 02 00 02 00 02 00'
 MASK = bytes.fromhex('7530').ljust(reference.MASK, b'\x3e')
@@ -18,15 +23,165 @@ SCRIPT = bytes.fromhex('06000100020400000000' '020002000200')
 LINES = ['2C0010000000000000000000000F1000' + '0' * 64,
          '2C001000020002000000000000051000' + '0' * 64]
 
+# ---------------------------------------------------------------------------
+# Programs
+# ---------------------------------------------------------------------------
+
+# Handlers that count at E4h (timer) and E8h (edge); R3R2 is theirs.
+HANDLERS = {
+    0x004: [('JMP addr', 'timer')],
+    0x008: [('JMP addr', 'edge')],
+    0x100: ['timer', ('MOV R3R2,XXH', 0x4, 0xE), ('INC [R3R2]',), ('STC',), ('RETI',)],
+    0x180: ['edge', ('MOV R3R2,XXH', 0x8, 0xE), ('INC [R3R2]',), ('CLC',), ('RETI',)],
+}
+
+# Ports to the display and to PA, sound, and the timer's low nibble to E3h.
+EVERY_KIND = assemble({
+    0x000: [('JMP addr', 'main')],
+    0x020: ['main', ('TIMER XXH', 0xF0), ('TIMER ON',), ('SOUND n', 7), ('SOUND LOOP',), ('EI',),
+            'loop', ('IN A,PM',), ('OUT PA,A',), ('MOV R1R0,XXH', 0x0, 0xE), ('MOV [R1R0],A',),
+            ('IN A,PS',), ('INC Rn', 0), ('MOV [R1R0],A',),
+            ('IN A,PP',), ('INC Rn', 0), ('MOV [R1R0],A',),
+            ('MOV A,TMRL',), ('INC Rn', 0), ('MOV [R1R0],A',),
+            ('JMP addr', 'loop')],
+    **HANDLERS})
+
+# The main program counts its rounds at E0h in decimal, with CF kept over interrupts.
+TIMER = assemble({
+    0x000: [('JMP addr', 'main')],
+    0x020: ['main', ('TIMER ON',), ('EI',), ('MOV R1R0,XXH', 0x0, 0xE),
+            'loop', ('MOV A,[R1R0]',), ('ADD A,XH', 1), ('DAA',), ('MOV [R1R0],A',),
+            ('JNC addr', 'loop'), ('INC Rn', 4), ('MOV A,Rn', 4), ('OUT PA,A',), ('JMP addr', 'loop')],
+    **HANDLERS})
+
+# Counts its wakes at E0h and halts again.
+SLEEPER = assemble({
+    0x000: [('JMP addr', 'main')],
+    0x020: ['main', ('EI',), ('MOV R1R0,XXH', 0x0, 0xE),
+            'sleep', ('HALT',), ('INC [R1R0]',), ('MOV A,[R1R0]',), ('OUT PA,A',), ('JMP addr', 'sleep')],
+    **HANDLERS})
+
+# The same with interrupts off: the edge stays held.
+SLEEPER_OFF = assemble({
+    0x000: [('MOV R1R0,XXH', 0x0, 0xE),
+            'sleep', ('HALT',), ('INC [R1R0]',), ('MOV A,[R1R0]',), ('OUT PA,A',), ('JMP addr', 'sleep')]})
+
+# Halts with TF set, and shows after the wake on PA whether it still is.
+HALT_WITH_TF = assemble({
+    0x000: [('TIMER XXH', 0xFF), ('TIMER ON',), ('HALT',), ('TIMER OFF',), ('JTMR addr', 'set'),
+            ('HALT',), 'set', ('MOV A,XH', 6), ('OUT PA,A',), ('HALT',)]})
+
+CALL_IN_CALL = assemble({0x000: [('CALL addr', 'one')], 0x010: ['one', ('CALL addr', 'one')]})
+RETURN = assemble({0x000: [('MOV A,XH', 9), ('OUT PA,A',), ('RET',)]})
+UNREADABLE = MASK[:2] + bytes.fromhex('4015') + MASK[4:]
+
+# The last byte is a JMP's first one, byte 0 its second: JMP 375h.
+ROUND_THE_END = assemble({0x002: [('JMP addr', 'last')], 0xFFF: ['last', ('NOP',)],
+                          0x375: [('HALT',)]})
+ROUND_THE_END = MASK[:2] + ROUND_THE_END[2:0xFFF] + b'\xe3'
+
+# ---------------------------------------------------------------------------
+# Cases
+# ---------------------------------------------------------------------------
+
+LONGEST = 65535
+START = power_on()
+
+
+def padded(size, last=b''):
+    """Power-on, then RES, with one INT where the size asks for it, then `last`."""
+    body = START + last
+    more = (size - len(body)) % 4       # an INT record has five bytes, a RES four
+    middle = more * int_pin(1)
+    middle += (size - len(body) - len(middle)) // 4 * res()
+    assert len(body) + len(middle) == size
+    return START + middle + last
+
+
+def cases():
+    """Name, mask, script (None: the file is missing) and the answer typed by hand, or None."""
+    yield 'example', MASK, SCRIPT, LINES
+    yield 'every-kind', EVERY_KIND, (
+        power_on(rate=255, fill=3) + run(5) + pins(1, 2, 4) + run(20) + int_pin(0) + run(30) + tmclk(16)
+        + run(30) + tmclk(5) + run(20) + int_pin(1) + int_pin(1) + res() + run(2)
+        + power_on(rate=0, commons=3, fill=15) + run(60)), None
+    yield 'three-commons', MASK, power_on(commons=3, fill=15) + run(1) + power_on(fill=15) + run(65535), None
+    yield 'timer-interrupts', TIMER, power_on(rate=4) + 4 * run(5000) + run(1) + run(7777), None
+    yield 'timer-rates', TIMER, b''.join(power_on(rate) + run(1500) for rate in reference.RATES), None
+    yield 'external-clock', TIMER, (
+        power_on(rate=255) + run(10) + tmclk(255) + run(9) + tmclk(1) + run(9) + tmclk(65535) + run(40)
+        + res() + tmclk(256) + run(9)), None
+    yield 'halt-pin-wake', SLEEPER, (
+        power_on(wake_pm=1, wake_ps=8) + run(100) + pins(14, 15, 15) + run(10) + run(10) + pins(15, 15, 15)
+        + pins(15, 15, 0) + run(5) + pins(1, 7, 0) + run(4) + run(100) + pins(1, 7, 0) + run(3)), None
+    yield 'halt-int-wake', SLEEPER, (
+        power_on() + run(100) + pins(0, 0, 0) + int_pin(0) + run(1) + run(8) + run(100) + int_pin(0)
+        + int_pin(1) + run(5) + int_pin(0) + run(9)), None
+    yield 'halt-int-wake-disabled', SLEEPER_OFF, (
+        power_on() + run(9) + int_pin(0) + run(3) + run(9) + int_pin(1) + run(9) + int_pin(0) + run(4)), None
+    yield 'halt-not-by-timer', HALT_WITH_TF, (
+        power_on(rate=0) + run(1) + int_pin(0) + run(50) + tmclk(300) + run(50) + int_pin(1) + run(50)
+        + int_pin(0) + run(4) + run(9)), None
+    yield 'round-the-end', ROUND_THE_END, power_on() + run(2) + run(1) + run(1) + run(1) + run(9), None
+    yield 'fault-1', UNREADABLE, power_on() + run(65535) + int_pin(0) + run(1) + res() + run(2), None
+    yield 'fault-2', CALL_IN_CALL, power_on() + run(1) + run(1) + pins(0, 0, 0) + tmclk(9) + run(9) + res(), None
+    yield 'fault-3', RETURN, power_on() + run(2) + run(1) + res() + run(9) + power_on(), None
+
+    yield 'refused-1-short-mask', MASK[:-1], SCRIPT, 'refused 1 at 0'
+    yield 'refused-1-long-mask', MASK + b'\x3e', SCRIPT, 'refused 1 at 0'
+    yield 'refused-1-empty-mask', b'', SCRIPT, 'refused 1 at 0'
+    yield 'refused-1-missing-mask', None, SCRIPT, 'refused 1 at 0'
+    yield 'refused-1-first', MASK[:-1], START + record(9), 'refused 1 at 0'
+    yield 'refused-3-fill', MASK, power_on(fill=16), 'refused 3 at 0'
+    yield 'refused-3-pins', MASK, START + run(2) + pins(16, 0, 0) + int_pin(2), 'refused 3 at 16'
+    yield 'refused-3-int', MASK, START + pins(0, 1, 2) + int_pin(2) + pins(0, 16, 0), 'refused 3 at 17'
+    yield 'refused-3-before-4', MASK, power_on(rate=6) + pins(0, 0, 255), 'refused 3 at 10'
+    yield 'refused-4-rate', MASK, power_on(rate=6) + res(), 'refused 4 at 0'
+    yield 'refused-4-commons', MASK, START + res() + power_on(commons=5) + power_on(14), 'refused 4 at 14'
+    yield 'refused-4-wake', MASK, START + START + power_on(wake_pp=16), 'refused 4 at 20'
+    yield 'refused-6-cut-head', MASK, START + bytes.fromhex('050006'), 'refused 6 at 10'
+    yield 'refused-6-cut-payload', MASK, START + int_pin(0) + run(9)[:-1], 'refused 6 at 15'
+    yield 'refused-6-cut-unknown', MASK, START + record(9, b'\1', length=2), 'refused 6 at 10'
+    yield 'refused-6-length', MASK, START + res() + record(6, b'\0') + record(9), 'refused 6 at 14'
+    yield 'refused-6-too-long', MASK, padded(LONGEST + 1, record(9)), 'refused 6 at 0'
+    yield 'refused-7-kind-9', MASK, START + record(9) + record(6, b'\0'), 'refused 7 at 10'
+    yield 'refused-7-kind-257', MASK, record(257, START[4:]), 'refused 7 at 0'
+    yield 'refused-7-kind-0', MASK, SCRIPT + record(0, b'\1\2\3') + pins(16, 0, 0), 'refused 7 at 16'
+    yield 'refused-7-last-of-65535', MASK, padded(LONGEST, record(7)), 'refused 7 at 65531'
+    yield 'refused-3-last-of-65535', MASK, padded(LONGEST, int_pin(2)), 'refused 3 at 65530'
+    yield 'refused-8-empty-script', MASK, b'', 'refused 8 at 0'
+    yield 'refused-8-missing-script', MASK, None, 'refused 8 at 0'
+    yield 'refused-8-first-run', MASK, run(2) + power_on(fill=16), 'refused 8 at 0'
+    yield 'refused-1-both-missing', None, None, 'refused 1 at 0'
+
+
+def expected(mask, script, answer):
+    lines = reference.panel(mask or b'', script or b'')
+    if answer is not None:
+        assert lines == ([answer] if isinstance(answer, str) else answer), (answer, lines)
+    else:
+        assert not lines[0].startswith('refused')
+    return ''.join(line + '\n' for line in lines).encode()
+
+
+def files():
+    """All that is stored, as a dict from paths to bytes."""
+    result = {CRATE / 'data' / 'mask.bin': MASK, CRATE / 'data' / 'script.bin': SCRIPT,
+              CRATE / 'stdout': expected(MASK, SCRIPT, LINES)}
+    for name, mask, script, answer in cases():
+        folder = CASES / name
+        stored = {'mask.bin': mask, 'script.bin': script, 'expected': expected(mask, script, answer)}
+        missing = [file for file in stored if stored[file] is None]
+        if missing:
+            stored['missing'] = '\n'.join(missing + ['']).encode()
+        result.update((folder / file, stored[file]) for file in stored if stored[file] is not None)
+    return result
+
 
 def main():
-    lines = reference.panel(MASK, SCRIPT)
-    assert lines == LINES
-    data = CRATE / 'data'
-    data.mkdir(parents=True, exist_ok=True)
-    (data / 'mask.bin').write_bytes(MASK)
-    (data / 'script.bin').write_bytes(SCRIPT)
-    (CRATE / 'stdout').write_text(''.join(line + '\n' for line in lines))
+    for path, content in files().items():
+        path.parent.mkdir(parents=True, exist_ok=True)
+        path.write_bytes(content)
 
 
 if __name__ == '__main__':

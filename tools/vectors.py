@@ -815,7 +815,8 @@ def statistics(data, output):
            + [f'refusal 5 of {name}' for name in ('Run', 'pins', 'INT', 'TMCLK', 'RES')])
 
 
-def main():
+def files():
+    """All that is stored, as a dict from paths to bytes. Once in a run: the cases are one list."""
     for part in (directed, subroutines, data_edges, arithmetic, timer, interrupts, pins_and_int,
                  stopped, power_ons, refused, random_events, long_runs):
         part()
@@ -824,9 +825,13 @@ def main():
         data += case.mask + two(len(case.commands)) + b''.join(case.commands)
     output = ''.join(text + '\n' for case in cases for text in case.lines)
     statistics(data, output)
+    return {CRATE / 'data' / 'vectors.bin': bytes(data), CRATE / 'stdout': output.encode()}
+
+
+def main():
     (CRATE / 'data').mkdir(exist_ok=True)
-    (CRATE / 'data' / 'vectors.bin').write_bytes(data)
-    (CRATE / 'stdout').write_text(output)
+    for path, content in files().items():
+        path.write_bytes(content)
 
 
 if __name__ == '__main__':

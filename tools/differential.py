@@ -1,0 +1,448 @@
+"""Drives the reference model and the built programs on the same input and compares line by line.
+
+First the stored cases of tests/panel and the demonstration, then chance: masks and scripts, good
+and damaged, through target/bin/panel; masks through target/bin/checker_main. Always the same
+cases. At the first difference the case is saved under target/differential and the exit status is 1.
+Build the programs first: rt check panel checker_main
+"""
+
+import collections
+import os
+import pathlib
+import random
+import shutil
+import subprocess
+import sys
+import tempfile
+
+import checker_cases
+import isa_table
+import make_panel_cases
+import reference
+from panel_input import int_pin, pins, power_on, record, res, run, tmclk, two, write
+
+ROOT = pathlib.Path(__file__).resolve().parent.parent
+PANEL = ROOT / 'target' / 'bin' / 'panel'
+CHECKER = ROOT / 'target' / 'bin' / 'checker_main'
+SAVED = ROOT / 'target' / 'differential'
+LONGEST = make_panel_cases.LONGEST
+SECONDS = 60        # for one run of a program
+
+met = collections.Counter()     # what the panel cases met, by name
+
+
+# ---------------------------------------------------------------------------
+# Running and comparing
+# ---------------------------------------------------------------------------
+
+def stop(text):
+    print(f'differential: {text}')
+    sys.exit(1)
+
+
+def run_program(command, files):
+    """What a program prints, run in a temporary folder with these files; None is a missing one."""
+    with tempfile.TemporaryDirectory() as folder:
+        for name, content in files.items():
+            if content is not None:
+                (pathlib.Path(folder) / name).write_bytes(content)
+        try:
+            done = subprocess.run(command, cwd=folder, stdin=subprocess.DEVNULL, stdout=subprocess.PIPE,
+                                  timeout=SECONDS, check=False)
+        except subprocess.TimeoutExpired:
+            return b'', f'no end within {SECONDS} seconds'
+        return done.stdout, f'exit status {done.returncode}' if done.returncode else None
+
+
+def save(files):
+    shutil.rmtree(SAVED, ignore_errors=True)
+    SAVED.mkdir(parents=True)
+    for name, content in files.items():
+        if content is not None:
+            (SAVED / name).write_bytes(content)
+
+
+def first_difference(expected, got):
+    want, have = expected.split(b'\n'), got.split(b'\n')
+    for number in range(max(len(want), len(have))):
+        pair = [lines[number] if number < len(lines) else None for lines in (want, have)]
+        if pair[0] != pair[1]:
+            texts = ['no line' if line is None else repr(line[:120].decode('latin-1')) for line in pair]
+            return f'line {number + 1}: expected {texts[0]}, got {texts[1]}'
+    return 'no line differs'
+
+
+def compare(name, command, files, expected):
+    got, trouble = run_program(command, files)
+    if got == expected and not trouble:
+        return
+    save({**files, 'expected': expected, 'got': got})
+    why = [trouble] if trouble else []
+    if got != expected:
+        why.append(first_difference(expected, got))
+    stop(f'{name}: {"; ".join(why)}; saved under target/differential')
+
+
+# ---------------------------------------------------------------------------
+# Stored cases
+# ---------------------------------------------------------------------------
+
+def stored_cases():
+    """How many cases of tests/panel ran; the demonstration goes through ./panel."""
+    folders = sorted(folder for folder in (ROOT / 'tests' / 'panel').iterdir() if folder.is_dir())
+    for folder in folders:
+        left_out = (folder / 'missing').read_text().split() if (folder / 'missing').exists() else []
+        files = {name: None if name in left_out else (folder / name).read_bytes()
+                 for name in ('mask.bin', 'script.bin')}
+        compare(f'tests/panel/{folder.name}', [PANEL], files, (folder / 'expected').read_bytes())
+    demo = ROOT / 'demo'
+    compare('demo', [ROOT / 'panel', demo / 'mask.bin', demo / 'script.bin'], {},
+            (demo / 'expected').read_bytes())
+    return len(folders) + 1
+
+
+# ---------------------------------------------------------------------------
+# Masks by chance
+# ---------------------------------------------------------------------------
+
+def any_code(rng, codes):
+    """The bytes of a code with fields by chance."""
+    code = rng.choice(codes)
+    fields = tuple(rng.randrange(isa_table.field_limit(letter, width) + 1)
+                   for letter, _, width in isa_table.field_runs(code.pattern))
+    return isa_table.write(isa_table.Instruction(code, fields))
+
+
+RARE = ('RET', 'RETI', 'CALL addr', 'HALT')
+COMMON = [code for code in isa_table.CODES if code.mnemonic not in RARE]
+STRAIGHT = [code for code in COMMON if 'a' not in code.pattern and code.mnemonic != 'DI']
+UNCOMMON = [code for code in isa_table.CODES if code.mnemonic in RARE]
+
+
+def uniform(rng):
+    return rng.randbytes(reference.MASK)
+
+
+def readable(rng):
+    """Codes in a row, nearly all of which can be read; few stop the machine."""
+    out = b''
+    while len(out) < reference.MASK:
+        out += any_code(rng, UNCOMMON if rng.random() < 0.01 else COMMON)
+    return out[:reference.MASK]
+
+
+BRANCHES = [code for code in COMMON if code.pattern.count('a') == 11]
+
+
+def branch(rng, target):
+    """A conditional branch by chance; it keeps bit 11."""
+    code = rng.choice(BRANCHES)
+    front = [rng.randrange(isa_table.field_limit(letter, width) + 1)
+             for letter, _, width in isa_table.field_runs(code.pattern)[:-1]]
+    return isa_table.write(isa_table.Instruction(code, (*front, target & 0x7FF)))
+
+
+def show_carry(rng):
+    """CF to the display."""
+    return (write('MOV A,XH', 0) + write('RLC A') + write('MOV R1R0,XXH', rng.randrange(16), 14)
+            + write('MOV [R1R0],A'))
+
+
+def show_timer_flag(rng, at):
+    """JTMR to the next address, then JTMR over a count on the display: the first one clears TF."""
+    count = write('MOV R3R2,XXH', rng.randrange(16), 15) + write('INC [R3R2]')
+    return (write('JTMR addr', at + 2 & 0x7FF) + write('JTMR addr', at + 4 + len(count) & 0x7FF) + count)
+
+
+def straight(rng, at, count):
+    """Codes from `at` on that neither go back nor stop; some show what a report does not hold."""
+    out = b''
+    for _ in range(count):
+        kind = rng.randrange(20)
+        if kind < 5:
+            out += rng.choice([write('MOV R1R0,XXH', rng.randrange(16), rng.choice((14, 15))),
+                               write('MOV R3R2,XXH', rng.randrange(16), rng.choice((14, 15))),
+                               write('MOV [R1R0],A'), write('MOV [R3R2],A'),
+                               write('IN A,PM'), write('IN A,PS'), write('IN A,PP'), write('MOV A,TMRL')])
+        elif kind == 5:
+            out += write('TIMER XXH', rng.randrange(0xE0, 0x100)) + write('TIMER ON')
+        elif kind == 6:
+            out += show_carry(rng)
+        elif kind == 7:
+            out += show_timer_flag(rng, at + len(out))
+        else:
+            out += any_code(rng, STRAIGHT)
+    return out
+
+
+def panel_program(rng):
+    """A main loop with a subroutine, HALT, timer and edge handlers, and branches inside."""
+    image = bytearray(uniform(rng))
+
+    def put(at, code):
+        image[at:at + len(code)] = code
+        return at + len(code)
+
+    base = rng.choice((0x000, 0x800))
+    main, sub = base + 0x100, base + 0x300
+    put(0, write('JMP addr', main))
+    put(4, write('JMP addr', base + 0x400))
+    put(8, write('JMP addr', base + 0x500))
+    loop = at = put(main, write('TIMER ON') + write('EI'))
+    for _ in range(rng.randrange(2, 5)):
+        at = put(at, straight(rng, at, rng.randrange(1, 12)))
+        kind = rng.randrange(5)
+        if kind == 0:
+            at = put(at, write(rng.choice(('CLC', 'STC'))) + write('CALL addr', sub) + show_carry(rng))
+        elif kind == 1:
+            at = put(at, write('HALT'))
+        elif kind == 2:
+            at = put(at, write('DI') + show_timer_flag(rng, at + 1))
+        else:
+            at = put(at, branch(rng, loop))
+    put(at, write('EI') + write('JMP addr', loop))
+    for start, ends in ((sub, ('RET', 'RETI')), (base + 0x400, ('RETI', 'RETI', 'RET')),
+                        (base + 0x500, ('RETI', 'RETI', 'RET'))):
+        put(put(start, straight(rng, start, rng.randrange(12))), write(rng.choice(ends)))
+    return bytes(image)
+
+
+def edge_program(rng):
+    """A branch at or near 7FEh or FFEh, after some codes."""
+    image = bytearray()
+    while len(image) < reference.MASK:
+        image += any_code(rng, STRAIGHT)
+    image = image[:reference.MASK]
+    at = rng.choice((0x7FB, 0x7FC, 0x7FD, 0x7FE, 0x7FF, 0xFFB, 0xFFC, 0xFFD, 0xFFE))
+    before = b''.join(bytes([rng.choice(checker_cases.PLAIN)]) for _ in range(6))
+    image[at - 6:at] = before
+    image[at:at + 2] = branch(rng, rng.randrange(0x800))
+    image[0:2] = write('JMP addr', at - 6)
+    return bytes(image)
+
+
+# Interrupts from the timer at each rate, over a sum in decimal.
+TIMER_PROGRAM = make_panel_cases.TIMER
+SLEEPER = make_panel_cases.SLEEPER
+
+
+# ---------------------------------------------------------------------------
+# Scripts by chance
+# ---------------------------------------------------------------------------
+
+def any_power_on(rng):
+    rate = rng.choice(reference.RATES + [0, 1, 2, 3, 255, 255])
+    return power_on(rate, rng.choice((3, 4)), *(rng.randrange(16) for _ in range(4)))
+
+
+def any_record(rng, steps):
+    kind = rng.choice((2, 2, 2, 2, 3, 3, 4, 4, 4, 5, 6, 1) if rng.random() < 0.3 else (2, 2, 3, 4, 4, 5))
+    if kind == 1:
+        return any_power_on(rng)
+    if kind == 2:
+        return run(rng.choice((0, 1, 2, rng.randrange(20), rng.randrange(steps))))
+    if kind == 3:
+        return pins(*(rng.randrange(16) for _ in range(3)))
+    if kind == 4:
+        return int_pin(rng.randrange(2))
+    if kind == 5:
+        return tmclk(rng.choice((0, 1, 255, 256, rng.randrange(256), rng.randrange(65536))))
+    return res()
+
+
+def good(rng, steps=300):
+    """The records of a script that is accepted."""
+    return [any_power_on(rng)] + [any_record(rng, steps) for _ in range(rng.randrange(30))]
+
+
+def bad_nibble(rng):
+    over = rng.choice((16, 17, 128, 255))
+    where = rng.randrange(5)
+    if where == 0:
+        return power_on(fill=over)
+    if where == 1:
+        return int_pin(rng.choice((2, 3, 255)))
+    ports = [rng.randrange(16) for _ in range(3)]
+    ports[where - 2] = over
+    return pins(*ports)
+
+
+def bad_option(rng):
+    return rng.choice([power_on(rate=rng.choice((6, 14, 15, 128, 254))),
+                       power_on(commons=rng.choice((0, 1, 2, 5, 255))),
+                       power_on(wake_pm=rng.choice((16, 255))), power_on(wake_ps=16), power_on(wake_pp=128)])
+
+
+def unknown_kind(rng):
+    return record(rng.choice((0, 7, 8, 9, 16, 255, 256, 257, 262, 65535)), rng.randbytes(rng.randrange(8)))
+
+
+def wrong_length(rng):
+    kind = rng.randrange(1, 7)
+    length = rng.choice([k for k in range(10) if k != reference.PAYLOAD[kind]])
+    return record(kind, bytes(rng.randrange(16) for _ in range(length)))
+
+
+def damaged(rng):
+    """A script with one to three kinds of damage."""
+    records = good(rng)
+    for _ in range(rng.choice((1, 1, 1, 2, 3))):
+        at = rng.randrange(len(records) + 1)
+        kind = rng.randrange(8)
+        if kind < 4:
+            records.insert(at, (bad_nibble, bad_option, unknown_kind, wrong_length)[kind](rng))
+        elif kind == 4:         # cut off
+            script = b''.join(records)
+            records = [script[:rng.randrange(len(script) + 1)]]
+        elif kind == 5:         # the first record is another
+            records.insert(0, any_record(rng, 100))
+        elif kind == 6:         # one byte is another
+            script = bytearray(b''.join(records) or b'\0')
+            script[rng.randrange(len(script))] = rng.randrange(256)
+            records = [bytes(script)]
+        else:                   # bytes after the last record
+            records.append(rng.randbytes(rng.randrange(1, 12)))
+    return b''.join(records)
+
+
+def pulses(rng):
+    """For SLEEPER: HALT, then wakes by pins and by INT, and falls that do not wake."""
+    out = power_on(rng.choice(reference.RATES), 4, *(rng.randrange(16) for _ in range(4)))
+    for _ in range(rng.randrange(4, 20)):
+        out += rng.choice([pins(*(rng.choice((0, 15, rng.randrange(16))) for _ in range(3))),
+                           int_pin(rng.randrange(2)), run(rng.randrange(12)), run(50)])
+    return out
+
+
+def of_size(rng, size, records=None):
+    """A script of that size: power-ons, INT and RES by chance, filled up with RES and INT."""
+    out = [any_power_on(rng)] + (records or [])
+    left = size - sum(map(len, out))
+    while left >= 40:
+        out.append(rng.choice([any_power_on(rng), int_pin(rng.randrange(2)), pins(1, 2, 3), run(rng.randrange(3))]))
+        left -= len(out[-1])
+    out += left % 4 * [int_pin(1)]
+    left -= left % 4 * 5
+    out += left // 4 * [res()]
+    script = b''.join(out)
+    assert len(script) == size
+    return script
+
+
+# ---------------------------------------------------------------------------
+# Panel cases
+# ---------------------------------------------------------------------------
+
+def panel_cases(rng):
+    """Name, mask and script; None is a missing file."""
+    for k in range(60):
+        yield f'uniform {k}', uniform(rng), b''.join(good(rng))
+    for k in range(60):
+        yield f'readable {k}', readable(rng), b''.join(good(rng))
+    for k in range(120):
+        yield f'program {k}', panel_program(rng), b''.join(good(rng, 600))
+    for k in range(40):
+        yield f'edge {k}', edge_program(rng), any_power_on(rng) + run(7) + run(1) + run(1) + run(5)
+    for k in range(120):
+        yield f'damaged {k}', rng.choice((uniform, readable, panel_program))(rng), damaged(rng)
+    for k in range(10):
+        yield f'bytes {k}', uniform(rng), rng.randbytes(rng.randrange(40))
+    for k in range(20):
+        yield f'pulses {k}', SLEEPER, pulses(rng)
+    for rate in reference.RATES:
+        yield f'timer at rate {rate}', TIMER_PROGRAM, power_on(rate) + run(6000) + tmclk(300) + run(6000)
+    yield 'longest Run', TIMER_PROGRAM, power_on(3) + run(65535)
+    yield from limits(rng)
+
+
+def limits(rng):
+    """Files that are missing, empty, or at a limit, with good and damaged ones."""
+    code = uniform(rng) + b'\0'
+    some = b''.join(good(rng, 50))
+    for length in (None, 0, 1, 4095, 4096, 4097):
+        mask = None if length is None else code[:length]
+        for script in (some, damaged(rng), b'', None):
+            yield f'mask of {length}, script of {script and len(script)}', mask, script
+    mask = panel_program(rng)
+    yield 'long masks', mask + bytes(10000), some
+    for size in (LONGEST - 1, LONGEST):
+        yield f'script of {size}', mask, of_size(rng, size)
+    for size in (LONGEST + 1, LONGEST + 5, 100000):
+        yield f'script of {size}', mask, of_size(rng, size)
+    yield 'bad record in a longest script', mask, of_size(rng, LONGEST - 5) + int_pin(2)
+    yield 'cut record in a longest script', mask, of_size(rng, LONGEST - 3) + two(0) + b'\6'
+    yield 'unknown kind in a script too long', mask, of_size(rng, LONGEST + 1, [record(9)])
+    yield 'payload of 65,535', mask, some + record(2, b'', length=65535)
+
+
+def note(lines):
+    """Notes what a case met."""
+    if lines[0].startswith('refused'):
+        met[lines[0].partition(' at ')[0]] += 1
+        met['refused at an offset'] += not lines[0].endswith(' at 0')
+        return
+    met['accepted'] += 1
+    for line in lines:
+        report = bytes.fromhex(line)
+        met[f'level {report[10]}'] += 1
+        met[f'halted {report[11]}'] += 1
+        met[f'fault {report[12]}'] += 1
+        met['sound'] += report[14] != 16
+        met['display'] += any(report[16:])
+
+
+MUST_MEET = ([f'refused {n}' for n in (1, 3, 4, 6, 7, 8)] + [f'level {n}' for n in range(3)]
+             + [f'fault {n}' for n in range(4)] + ['halted 0', 'halted 1', 'sound', 'display', 'accepted',
+                                                   'refused at an offset'])
+
+
+def random_panel_cases():
+    count = 0
+    for name, mask, script in panel_cases(random.Random(1130)):
+        lines = reference.panel(mask or b'', script or b'')
+        note(lines)
+        compare(f'panel, {name}', [PANEL], {'mask.bin': mask, 'script.bin': script},
+                ''.join(line + '\n' for line in lines).encode())
+        count += 1
+    few = [name for name in MUST_MEET if met[name] < 5]
+    if few:
+        stop(f'the panel cases meet too few of: {", ".join(few)}')
+    return count
+
+
+# ---------------------------------------------------------------------------
+# Checker
+# ---------------------------------------------------------------------------
+
+def checker_batches(rng):
+    """Lists of masks. In the last one the last mask is cut off, which is refusal 1."""
+    slips = [None, None, 0x2E, 0x2F, 0xF0, 0xE0, 0x35, 0x2C]
+    structured = [checker_cases.structured(rng, rng.choice(slips)) for _ in range(60)]
+    codes = [checker_cases.random_codes(rng) for _ in range(20)] + [readable(rng) for _ in range(20)]
+    programs = [panel_program(rng) for _ in range(40)]
+    chance = [uniform(rng) for _ in range(30)]
+    return [structured, codes, programs, chance + [uniform(rng)[:-1]]]
+
+
+def random_masks():
+    fixed, count = checker_cases.fixed_lines(), 0
+    for number, batch in enumerate(checker_batches(random.Random(1131))):
+        lines = fixed + checker_cases.stored_lines(batch)
+        compare(f'checker, batch {number}', [CHECKER], {'masks.bin': checker_cases.masks_file(batch)},
+                ''.join(line + '\n' for line in lines).encode())
+        count += len(batch)
+    return count
+
+
+def main():
+    for program in (PANEL, CHECKER):
+        if not os.access(program, os.X_OK):
+            stop(f'{program.relative_to(ROOT)} is missing; build it by: rt check panel checker_main')
+    shutil.rmtree(SAVED, ignore_errors=True)
+    panels = stored_cases() + random_panel_cases()
+    masks = random_masks()
+    print(f'differential: {panels} panel cases, {masks} masks, 0 differences')
+
+
+if __name__ == '__main__':
+    main()
