@@ -27,14 +27,14 @@ fn word(s: &[u8], i: usize) -> u16
 }
 
 // The payload length of the record at an offset.
-pub fn size_at(s: &[u8], at: usize) -> usize
+pub(crate) fn size_at(s: &[u8], at: usize) -> usize
     requires { ⌜ at ≤ length (now s) ⌝ }
     ensures { λ r. ⌜ (r ≡ sizeAt (now (s .entry)) at) × (r ≤ 65535) ⌝ }
 {
     word(s, at) as usize
 }
 
-pub fn kind_at(s: &[u8], at: usize) -> u16
+pub(crate) fn kind_at(s: &[u8], at: usize) -> u16
     requires { ⌜ at ≤ length (now s) ⌝ }
     ensures { λ r. ⌜ r ≡ kindAt (now (s .entry)) at ⌝ }
 {
@@ -68,7 +68,7 @@ fn options_at(s: &[u8], at: usize) -> Options
 }
 
 // The payload length that a kind has.
-pub fn size_of(kind: u16) -> usize
+pub(crate) fn size_of(kind: u16) -> usize
     ensures { λ r. ⌜ r ≡ sizeOf kind ⌝ }
 {
     match kind {
@@ -82,7 +82,7 @@ pub fn size_of(kind: u16) -> usize
 }
 
 // The record at an offset.
-pub fn record_at(s: &[u8], at: usize) -> Record
+pub(crate) fn record_at(s: &[u8], at: usize) -> Record
     requires { ⌜ at ≤ length (now s) ⌝ }
     ensures { λ r. ⌜ inputOf r ≡ inputAt (now (s .entry)) at ⌝ }
 {
