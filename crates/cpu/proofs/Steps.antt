@@ -1,4 +1,4 @@
--- What the proofs of one step share, on definitions alone: a faulting instruction leaves the data memory, and what the bytes at the
+-- What the proofs of one step share, on definitions alone: a faulting instruction sets the fault alone, and what the bytes at the
 -- PC, read and timed, make of a step. Assumes nothing.
 use Prim.Native.Nat.{ℕ, _+_, _/_, _%_, _<_, _^_}
 use mathlib.Core.Path.{_≡_, refl, sym, ap, ap₂, subst, _∙_}
@@ -15,6 +15,10 @@ use Rattle.isa.specs.declared.decoder.Decoded.{Decoded}
 use Rattle.isa.specs.declared.decoder.Decoded.the-variants.{Read}
 use Rattle.isa.proofs.Exact.{reading}
 use Rattle.isa.proofs.List.{length-at, cycles-at}
+use Rattle.isa.specs.declared.ProgramAddress.{ProgramAddress}
+use Rattle.isa.specs.declared.Pointer.the-variants.{R1R0, R3R2}
+use Rattle.isa.specs.declared.Condition.{Condition}
+use Rattle.isa.specs.declared.Condition.the-variants.{Ja, JnzR0, JnzR1, JnzR4, Jz, JnzA, Jc, Jnc, Jtmr}
 use Rattle.isa.specs.declared.Instruction.{Instruction}
 use Rattle.isa.specs.declared.Instruction.the-variants.{
   AddAM,
@@ -79,83 +83,135 @@ use Rattle.isa.specs.declared.Instruction.the-variants.{
   Halt,
 }
 use Rattle.datapath.specs.Timer.{clocks, counted}
-use Rattle.cpu.specs.State.{State, state, onCpu, address, withPc, withTf, withHeld, withFault, withCycles}
-use Rattle.cpu.specs.Effect.{pick, effect}
+use Rattle.cpu.specs.State.{State, state, onCpu, address, withPc, withCf, withTf, withHeld, withLevel, withStack, withFault, withCycles}
+use Rattle.cpu.specs.Effect.{pick, withRegister, holds, tested, branched, called, returned, returnedWithCarry, effect}
 use Rattle.cpu.specs.Step.{timed, ticked, entered, moved, settled, instructed, executed, vectorOf, stepped, step}
 use Rattle.cpu.specs.declared.Cpu.{Cpu}
 
--- only instructions that cannot fault write the data memory
-kept : (mask : List ℕ) (i : Instruction) (s : State) → s .cpu .status .fault ≡ 0 → (effect mask i s .cpu .status .fault ≡ 0 → ⊥) → effect mask i s .memory ≡ s .memory
-unfolding effect
-kept mask AddAM s e f = refl
-kept mask AdcAM s e f = refl
-kept mask SubAM s e f = refl
-kept mask SbcAM s e f = refl
-kept mask (AddAX d) s e f = refl
-kept mask (SubAX d) s e f = refl
-kept mask Daa s e f = refl
-kept mask AndAM s e f = refl
-kept mask OrAM s e f = refl
-kept mask XorAM s e f = refl
-kept mask AndMA s e f = absurd (f e)
-kept mask OrMA s e f = absurd (f e)
-kept mask XorMA s e f = absurd (f e)
-kept mask (AndAX d) s e f = refl
-kept mask (OrAX d) s e f = refl
-kept mask (XorAX d) s e f = refl
-kept mask IncA s e f = refl
-kept mask (IncR n) s e f = refl
-kept mask (IncM p) s e f = absurd (f e)
-kept mask DecA s e f = refl
-kept mask (DecR n) s e f = refl
-kept mask (DecM p) s e f = absurd (f e)
-kept mask (MovAR n) s e f = refl
-kept mask (MovRA n) s e f = refl
-kept mask (MovAM p) s e f = refl
-kept mask (MovMA p) s e f = absurd (f e)
-kept mask (MovAX d) s e f = refl
-kept mask (MovPairXX p low high) s e f = refl
-kept mask (MovR4X d) s e f = refl
-kept mask RlA s e f = refl
-kept mask RlcA s e f = refl
-kept mask RrA s e f = refl
-kept mask RrcA s e f = refl
-kept mask (InA p) s e f = refl
-kept mask OutPaA s e f = refl
-kept mask (Jmp t) s e f = refl
-kept mask (Branch k t) s e f = refl
-kept mask (Call t) s e f = refl
-kept mask Ret s e f = refl
-kept mask Reti s e f = refl
-kept mask Clc s e f = refl
-kept mask Stc s e f = refl
-kept mask Ei s e f = refl
-kept mask Di s e f = refl
-kept mask Nop s e f = refl
-kept mask (TimerXX x) s e f = refl
-kept mask TimerOn s e f = refl
-kept mask TimerOff s e f = refl
-kept mask MovATmrl s e f = refl
-kept mask MovATmrh s e f = refl
-kept mask MovTmrlA s e f = refl
-kept mask MovTmrhA s e f = refl
-kept mask (ReadR4A p) s e f = refl
-kept mask (ReadMr0A p) s e f = absurd (f e)
-kept mask (SoundN n) s e f = refl
-kept mask SoundA s e f = refl
-kept mask SoundOne s e f = refl
-kept mask SoundLoop s e f = refl
-kept mask SoundOff s e f = refl
-kept mask Halt s e f = refl
+-- what leaves the status leaves the fault
+module _ (f : ℕ) where
+  chosen : (t : Bool) (a b : Cpu) → a .status .fault ≡ f → b .status .fault ≡ f → pick t a b .status .fault ≡ f
+  chosen true a b p q = p
+  chosen false a b p q = q
 
--- a fault: the processor as before, with the fault set
+  register-keeps : (n v : ℕ) (c : Cpu) → c .status .fault ≡ f → withRegister n v c .status .fault ≡ f
+  unfolding withRegister
+  register-keeps n v c p = chosen (eqb n 0) _ _ p (chosen (eqb n 1) _ _ p (chosen (eqb n 2) _ _ p (chosen (eqb n 3) _ _ p p)))
+
+  test-keeps : (k : Condition) (c : Cpu) → c .status .fault ≡ f → tested k c .status .fault ≡ f
+  test-keeps (Ja n) c p = p
+  test-keeps JnzR0 c p = p
+  test-keeps JnzR1 c p = p
+  test-keeps JnzR4 c p = p
+  test-keeps Jz c p = p
+  test-keeps JnzA c p = p
+  test-keeps Jc c p = p
+  test-keeps Jnc c p = p
+  test-keeps Jtmr c p = p
+
+  branch-keeps : (k : Condition) (t : ProgramAddress) (c : Cpu) → c .status .fault ≡ f → branched k t c .status .fault ≡ f
+  unfolding branched
+  branch-keeps k t c p = chosen (holds k c) _ _ (test-keeps k c p) (test-keeps k c p)
+
+-- a choice of which one part keeps the fault at 0: where there is a fault, the other part was chosen
+module _ (c : Cpu) (z : c .status .fault ≡ 0) where
+  abbrev Only : Cpu → Type 0
+  Only d = (d .status .fault ≡ 0 → ⊥) → d ≡ withFault (d .status .fault) c
+
+  second-only : (t : Bool) (a : Cpu) (n : ℕ) → a .status .fault ≡ 0 → Only (pick t a (withFault n c))
+  second-only true a n p f = absurd (f p)
+  second-only false a n p f = refl
+
+  first-only : (t : Bool) (a : Cpu) (n : ℕ) → a .status .fault ≡ 0 → Only (pick t (withFault n c) a)
+  first-only true a n p f = refl
+  first-only false a n p f = absurd (f p)
+
+  call-only : (t : ProgramAddress) → Only (called t c)
+  unfolding called
+  call-only t = second-only (eqb (c .interrupts .level) 0) (withStack (record { address = c .control .pc; carry = c .stack .carry }) (withLevel 1 (withPc t c))) 2 z
+
+  ret-only : Only (returned c)
+  unfolding returned
+  ret-only = first-only (eqb (c .interrupts .level) 0) (withLevel 0 (withPc (c .stack .address) c)) 3 z
+
+  reti-only : Only (returnedWithCarry c)
+  unfolding returnedWithCarry
+  reti-only = first-only (eqb (c .interrupts .level) 0) (withCf (c .stack .carry) (withLevel 0 (withPc (c .stack .address) c))) 3 z
+
+-- an instruction that faults sets the fault and nothing else
+only-fault : (mask : List ℕ) (i : Instruction) (s : State) → s .cpu .status .fault ≡ 0 → (effect mask i s .cpu .status .fault ≡ 0 → ⊥)
+    → effect mask i s ≡ onCpu (withFault (effect mask i s .cpu .status .fault)) s
+unfolding effect
+only-fault mask AddAM s e f = absurd (f e)
+only-fault mask AdcAM s e f = absurd (f e)
+only-fault mask SubAM s e f = absurd (f e)
+only-fault mask SbcAM s e f = absurd (f e)
+only-fault mask (AddAX d) s e f = absurd (f e)
+only-fault mask (SubAX d) s e f = absurd (f e)
+only-fault mask Daa s e f = absurd (f e)
+only-fault mask AndAM s e f = absurd (f e)
+only-fault mask OrAM s e f = absurd (f e)
+only-fault mask XorAM s e f = absurd (f e)
+only-fault mask AndMA s e f = absurd (f e)
+only-fault mask OrMA s e f = absurd (f e)
+only-fault mask XorMA s e f = absurd (f e)
+only-fault mask (AndAX d) s e f = absurd (f e)
+only-fault mask (OrAX d) s e f = absurd (f e)
+only-fault mask (XorAX d) s e f = absurd (f e)
+only-fault mask IncA s e f = absurd (f e)
+only-fault mask (IncR n) s e f = absurd (f (register-keeps 0 n _ (s .cpu) e))
+only-fault mask (IncM p) s e f = absurd (f e)
+only-fault mask DecA s e f = absurd (f e)
+only-fault mask (DecR n) s e f = absurd (f (register-keeps 0 n _ (s .cpu) e))
+only-fault mask (DecM p) s e f = absurd (f e)
+only-fault mask (MovAR n) s e f = absurd (f e)
+only-fault mask (MovRA n) s e f = absurd (f (register-keeps 0 n _ (s .cpu) e))
+only-fault mask (MovAM p) s e f = absurd (f e)
+only-fault mask (MovMA p) s e f = absurd (f e)
+only-fault mask (MovAX d) s e f = absurd (f e)
+only-fault mask (MovPairXX R1R0 low high) s e f = absurd (f e)
+only-fault mask (MovPairXX R3R2 low high) s e f = absurd (f e)
+only-fault mask (MovR4X d) s e f = absurd (f e)
+only-fault mask RlA s e f = absurd (f e)
+only-fault mask RlcA s e f = absurd (f e)
+only-fault mask RrA s e f = absurd (f e)
+only-fault mask RrcA s e f = absurd (f e)
+only-fault mask (InA p) s e f = absurd (f e)
+only-fault mask OutPaA s e f = absurd (f e)
+only-fault mask (Jmp t) s e f = absurd (f e)
+only-fault mask (Branch k t) s e f = absurd (f (branch-keeps 0 k t (s .cpu) e))
+only-fault mask (Call t) s e f = ap (λ (c : Cpu). state c (s .memory)) (call-only (s .cpu) e t f)
+only-fault mask Ret s e f = ap (λ (c : Cpu). state c (s .memory)) (ret-only (s .cpu) e f)
+only-fault mask Reti s e f = ap (λ (c : Cpu). state c (s .memory)) (reti-only (s .cpu) e f)
+only-fault mask Clc s e f = absurd (f e)
+only-fault mask Stc s e f = absurd (f e)
+only-fault mask Ei s e f = absurd (f e)
+only-fault mask Di s e f = absurd (f e)
+only-fault mask Nop s e f = absurd (f e)
+only-fault mask (TimerXX x) s e f = absurd (f e)
+only-fault mask TimerOn s e f = absurd (f e)
+only-fault mask TimerOff s e f = absurd (f e)
+only-fault mask MovATmrl s e f = absurd (f e)
+only-fault mask MovATmrh s e f = absurd (f e)
+only-fault mask MovTmrlA s e f = absurd (f e)
+only-fault mask MovTmrhA s e f = absurd (f e)
+only-fault mask (ReadR4A p) s e f = absurd (f e)
+only-fault mask (ReadMr0A p) s e f = absurd (f e)
+only-fault mask (SoundN n) s e f = absurd (f e)
+only-fault mask SoundA s e f = absurd (f e)
+only-fault mask SoundOne s e f = absurd (f e)
+only-fault mask SoundLoop s e f = absurd (f e)
+only-fault mask SoundOff s e f = absurd (f e)
+only-fault mask Halt s e f = absurd (f e)
+
+-- a fault: the processor with its PC back is the one before, with the fault set
 pub faulted : (mask : List ℕ) (i : Instruction) (s t : State) (l n : ℕ) → t ≡ effect mask i (onCpu (moved l) s) → s .cpu .status .fault ≡ 0 → (t .cpu .status .fault ≡ 0 → ⊥)
-    → state (withFault (t .cpu .status .fault) (s .cpu)) (t .memory) ≡ settled n s (effect mask i (onCpu (moved l) s))
+    → state (withPc (address (s .cpu .control .pc .0)) (t .cpu)) (t .memory) ≡ settled n s (effect mask i (onCpu (moved l) s))
 faulted mask i s t l n e z f =
-    let g : effect mask i (onCpu (moved l) s) .cpu .status .fault ≡ 0 → ⊥ = λ h. f (ap (λ (x : State). x .cpu .status .fault) e ∙ h) in
-    ap₂ (λ (x : State) (m : List ℕ). state (withFault (x .cpu .status .fault) (s .cpu)) m) e
-    (ap (λ (x : State). x .memory) e ∙ kept mask i (onCpu (moved l) s) z g)
-    ∙ rw (ne-eqb (effect mask i (onCpu (moved l) s) .cpu .status .fault) 0 g) refl
+    let after : State = effect mask i (onCpu (moved l) s) in
+    let g : after .cpu .status .fault ≡ 0 → ⊥ = λ h. f (ap (λ (x : State). x .cpu .status .fault) e ∙ h) in
+    ap (λ (x : State). state (withPc (address (s .cpu .control .pc .0)) (x .cpu)) (x .memory)) (e ∙ only-fault mask i (onCpu (moved l) s) z g)
+    ∙ rw (ne-eqb (after .cpu .status .fault) 0 g) refl
 
 -- no fault: the cycles go by
 pub finished : (mask : List ℕ) (i : Instruction) (s t : State) (l n : ℕ) {r : Cpu} → t ≡ effect mask i (onCpu (moved l) s) → t .cpu .status .fault ≡ 0 → r ≡ ticked n (t .cpu)
@@ -201,7 +257,7 @@ module _ (mask : List ℕ) (s : State) (x y : ℕ) (i : Instruction) (d : Decode
   whole : settled (cyclesOf x) s (effect mask i (onCpu (moved (lengthOf x)) s)) ≡ executed mask s
   whole = ap (λ (d : Decoded). instructed mask d (lengthOf x) (cyclesOf x) s) (sym known) ∙ at
 
-  pub ends-in-fault : s .cpu .status .fault ≡ 0 → (t .cpu .status .fault ≡ 0 → ⊥) → state (withFault (t .cpu .status .fault) (s .cpu)) (t .memory) ≡ executed mask s
+  pub ends-in-fault : s .cpu .status .fault ≡ 0 → (t .cpu .status .fault ≡ 0 → ⊥) → state (withPc (address (s .cpu .control .pc .0)) (t .cpu)) (t .memory) ≡ executed mask s
   ends-in-fault z f = faulted mask i s t (lengthOf x) (cyclesOf x) reached z f ∙ whole
 
   pub ends : {r : Cpu} (e : ℕ) → t .cpu .status .fault ≡ 0 → e ≡ getD entries x 0 → r ≡ ticked (e % 16) (t .cpu) → state r (t .memory) ≡ executed mask s

@@ -83,7 +83,7 @@ impl Cpu {
         0
     }
 
-    // One instruction, on a processor without a fault.
+    // One instruction, on a processor without a fault. One that faults sets the fault alone, so the PC goes back and no copy is kept.
     fn execute(mut self, mask: &[u8], list: &[u8; 256], memory: &mut [u8; 160]) -> Cpu
         requires { ⌜ (self .status .fault ≡ 0) × (now list ≡ entries) ⌝ }
         ensures { λ r. ⌜ state r (now (memory .exit)) ≡ executed (now (mask .entry)) (state self (now (memory .entry))) ⌝ }
@@ -95,15 +95,13 @@ impl Cpu {
             return self;
         };
         let entry = list[first as usize];
-        let mut moved = self;
+        let before = self.control.pc.0;
         let next = address_after(pc, entry / 16);
-        moved.control.pc.0 = next;
-        let after = moved.effect(instruction, mask, memory);
-        let fault = after.status.fault;
-        if fault != 0 {
-            let mut faulted = self;
-            faulted.status.fault = fault;
-            return faulted;
+        self.control.pc.0 = next;
+        let mut after = self.effect(instruction, mask, memory);
+        if after.status.fault != 0 {
+            after.control.pc.0 = before;
+            return after;
         }
         after.tick(entry % 16)
     }

@@ -5,6 +5,7 @@ pub mod reader;
 pub mod timing;
 
 // An address of the program ROM, 0 to 4,095 (document 01: "A program address counts to 4,095").
+#[repr(C)]
 pub struct ProgramAddress(pub u16);
 
 // An address of the data memory, 0 to 255 (document 01: "and a data address to 255").

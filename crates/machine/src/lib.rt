@@ -8,6 +8,7 @@ pub mod run;
 use cpu::Cpu;
 
 // `memory` is data memory 00h-7Fh, then E0h-FFh, a nibble each.
+#[repr(C)]
 pub struct Machine {
     pub cpu: Cpu,
     pub memory: [u8; 160],

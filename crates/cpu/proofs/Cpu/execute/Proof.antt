@@ -56,35 +56,35 @@ effect-requires c κs = search needs
 
 returns-2 : tie.Need-returns-2
 returns-2 c =
-    let a = c .before .before .before .before .before .before .before .before .before .before .before .before .before .before .before .args in
+    let a = c .before .before .before .before .before .before .before .before .before .before .before .before .before .before .before .before .args in
     let s = state (a .self) (a .memory .now) in
-    let first = c .before .before .before .before .before .before .before .before .before .before .before .before .byte-at in
-    let second = c .before .before .before .before .before .before .before .before .before .before .before .byte-at2 in
-    let read = c .before .before .before .before .before .before .before .before .before .before .decode in
-    let known = c .before .before .before .before .before .before .before .before .instruction .given in
-    let next = c .before .before .before .before .before .address-after in
-    let done = c .before .before .effect in
-    let entry : getD (a .list .now) (first .result) 0 ≡ getD entries (first .result) 0 = ap (λ (l : List ℕ). getD l (first .result) 0) (c .before .before .before .before .before .before .before .before .before .before .before .before .before .before .before .pre .1) in
+    let first = c .before .before .before .before .before .before .before .before .before .before .before .before .before .byte-at in
+    let second = c .before .before .before .before .before .before .before .before .before .before .before .before .byte-at2 in
+    let read = c .before .before .before .before .before .before .before .before .before .before .before .decode in
+    let known = c .before .before .before .before .before .before .before .before .before .instruction .given in
+    let next = c .before .before .before .before .before .before .address-after in
+    let done = c .before .before .before .effect in
+    let entry : getD (a .list .now) (first .result) 0 ≡ getD entries (first .result) 0 = ap (λ (l : List ℕ). getD l (first .result) 0) (c .before .before .before .before .before .before .before .before .before .before .before .before .before .before .before .before .pre .1) in
     ends-in-fault (a .mask .now) s (first .result) (second .result) (known .0 .0) (read .result) (withPc (address (next .result)) (a .self)) (state (done .result) (done .last .1 .1 .1 .0)) (known .1)
     (fetched (a .mask .now) s (first .result) (second .result) (read .result) (first .ensures) (second .ensures) (omega (arith, second)) (read .ensures))
     (moved-on (a .self) (first .result) (next .result) (getD (a .list .now) (first .result) 0) entry (next .ensures))
     (done .ensures)
-    (c .before .before .before .before .before .before .before .before .before .before .before .before .before .before .before .pre .0) (c .before .if1 .taken)
+    (c .before .before .before .before .before .before .before .before .before .before .before .before .before .before .before .before .pre .0) (c .before .if1 .taken)
 
 tick-requires : tie.Need-tick-requires
 tick-requires c κs = search needs
 
 returns-3 : tie.Need-returns-3
 returns-3 c =
-    let a = c .before .before .before .before .before .before .before .before .before .before .before .before .before .before .before .args in
+    let a = c .before .before .before .before .before .before .before .before .before .before .before .before .before .before .before .before .args in
     let s = state (a .self) (a .memory .now) in
-    let first = c .before .before .before .before .before .before .before .before .before .before .before .before .byte-at in
-    let second = c .before .before .before .before .before .before .before .before .before .before .before .byte-at2 in
-    let read = c .before .before .before .before .before .before .before .before .before .before .decode in
-    let known = c .before .before .before .before .before .before .before .before .instruction .given in
-    let next = c .before .before .before .before .before .address-after in
-    let done = c .before .before .effect in
-    let entry : getD (a .list .now) (first .result) 0 ≡ getD entries (first .result) 0 = ap (λ (l : List ℕ). getD l (first .result) 0) (c .before .before .before .before .before .before .before .before .before .before .before .before .before .before .before .pre .1) in
+    let first = c .before .before .before .before .before .before .before .before .before .before .before .before .before .byte-at in
+    let second = c .before .before .before .before .before .before .before .before .before .before .before .before .byte-at2 in
+    let read = c .before .before .before .before .before .before .before .before .before .before .before .decode in
+    let known = c .before .before .before .before .before .before .before .before .before .instruction .given in
+    let next = c .before .before .before .before .before .before .address-after in
+    let done = c .before .before .before .effect in
+    let entry : getD (a .list .now) (first .result) 0 ≡ getD entries (first .result) 0 = ap (λ (l : List ℕ). getD l (first .result) 0) (c .before .before .before .before .before .before .before .before .before .before .before .before .before .before .before .before .pre .1) in
     ends (a .mask .now) s (first .result) (second .result) (known .0 .0) (read .result) (withPc (address (next .result)) (a .self)) (state (done .result) (done .last .1 .1 .1 .0)) (known .1)
     (fetched (a .mask .now) s (first .result) (second .result) (read .result) (first .ensures) (second .ensures) (omega (arith, second)) (read .ensures))
     (moved-on (a .self) (first .result) (next .result) (getD (a .list .now) (first .result) 0) entry (next .ensures))
