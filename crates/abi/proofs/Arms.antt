@@ -52,7 +52,7 @@ no-page f a h = no-choice (f Current ∷ f F ∷ []) a h
 
 pub no-condition : (a b : ℕ) → 12 ≤ a → nothing ≡ branchNamed a b
 unfolding branchNamed
-no-condition a b h = no-choice (map (λ (k : Condition). Branch k (record { 0 = b })) conditions) a h
+no-condition a b h = no-choice (map (λ (k : Condition). Branch (record { 0 = b }) k) conditions) a h
 
 pub no-form : (form a b : ℕ) → 60 ≤ form → nothing ≡ named form a b
 unfolding forms named

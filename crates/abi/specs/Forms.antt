@@ -155,7 +155,7 @@ numbersOf RrcA = numbers 32 0 0
 numbersOf (InA p) = numbers 33 (portNumber p) 0
 numbersOf OutPaA = numbers 34 0 0
 numbersOf (Jmp t) = numbers 35 0 (t .0)
-numbersOf (Branch k t) = numbers 36 (conditionNumber k) (t .0)
+numbersOf (Branch t k) = numbers 36 (conditionNumber k) (t .0)
 numbersOf (Call t) = numbers 37 0 (t .0)
 numbersOf Ret = numbers 38 0 0
 numbersOf Reti = numbers 39 0 0
@@ -199,7 +199,7 @@ abbrev pub conditions : List Condition
 conditions = Ja 0 ∷ Ja 1 ∷ Ja 2 ∷ Ja 3 ∷ JnzR0 ∷ JnzR1 ∷ Jz ∷ JnzA ∷ Jc ∷ Jnc ∷ Jtmr ∷ JnzR4 ∷ []
 
 unfoldable pub branchNamed : ℕ → ℕ → Meant
-branchNamed a b = listed (map (λ (k : Condition). Branch k (record { 0 = b })) conditions) a
+branchNamed a b = listed (map (λ (k : Condition). Branch (record { 0 = b }) k) conditions) a
 
 -- XX is a byte
 unfoldable pub pairNamed : ℕ → ℕ → Meant

@@ -23,18 +23,18 @@ fn branch_named(a: u8, b: u16) -> Instruction
 {
     let target = ProgramAddress(b);
     match a {
-        0 => Instruction::Branch(Condition::Ja(0), target),
-        1 => Instruction::Branch(Condition::Ja(1), target),
-        2 => Instruction::Branch(Condition::Ja(2), target),
-        3 => Instruction::Branch(Condition::Ja(3), target),
-        4 => Instruction::Branch(Condition::JnzR0, target),
-        5 => Instruction::Branch(Condition::JnzR1, target),
-        6 => Instruction::Branch(Condition::Jz, target),
-        7 => Instruction::Branch(Condition::JnzA, target),
-        8 => Instruction::Branch(Condition::Jc, target),
-        9 => Instruction::Branch(Condition::Jnc, target),
-        10 => Instruction::Branch(Condition::Jtmr, target),
-        11 => Instruction::Branch(Condition::JnzR4, target),
+        0 => Instruction::Branch(target, Condition::Ja(0)),
+        1 => Instruction::Branch(target, Condition::Ja(1)),
+        2 => Instruction::Branch(target, Condition::Ja(2)),
+        3 => Instruction::Branch(target, Condition::Ja(3)),
+        4 => Instruction::Branch(target, Condition::JnzR0),
+        5 => Instruction::Branch(target, Condition::JnzR1),
+        6 => Instruction::Branch(target, Condition::Jz),
+        7 => Instruction::Branch(target, Condition::JnzA),
+        8 => Instruction::Branch(target, Condition::Jc),
+        9 => Instruction::Branch(target, Condition::Jnc),
+        10 => Instruction::Branch(target, Condition::Jtmr),
+        11 => Instruction::Branch(target, Condition::JnzR4),
         _ => unnamed(),
     }
 }

@@ -100,7 +100,7 @@ pub(crate) fn numbers_of(instruction: Instruction) -> Numbers
         Instruction::InA(p) => Numbers(33, port_number(p), 0),
         Instruction::OutPaA => Numbers(34, 0, 0),
         Instruction::Jmp(t) => Numbers(35, 0, t.0),
-        Instruction::Branch(c, t) => Numbers(36, condition_number(c), t.0),
+        Instruction::Branch(t, c) => Numbers(36, condition_number(c), t.0),
         Instruction::Call(t) => Numbers(37, 0, t.0),
         Instruction::Ret => Numbers(38, 0, 0),
         Instruction::Reti => Numbers(39, 0, 0),

@@ -60,7 +60,7 @@ pub fn flow_of(instruction: Instruction) -> Flow
         Instruction::InA(_) => Flow::On,
         Instruction::OutPaA => Flow::On,
         Instruction::Jmp(t) => Flow::Jump(t),
-        Instruction::Branch(_, t) => Flow::To(t),
+        Instruction::Branch(t, _) => Flow::To(t),
         Instruction::Call(t) => Flow::Sub(t),
         Instruction::Ret => Flow::Back,
         Instruction::Reti => Flow::Back,

@@ -265,7 +265,7 @@ module _ (mask : List ℕ) (s : State) (b : Bytes mask) (v : Valid s) (e : s .cp
   effect-valid (InA p) r = to-acc (port-in (v .cpu) p)
   effect-valid OutPaA r = on (pa-in (v .cpu) _ acc)
   effect-valid (Jmp t) r = on (pc-in (v .cpu) t (ltb-true (t .0) 4096 r))
-  effect-valid (Branch k t) r = on (branched-in (v .cpu) k t)
+  effect-valid (Branch t k) r = on (branched-in (v .cpu) k t)
   effect-valid (Call t) r = on (called-in (v .cpu) t (ltb-true (t .0) 4096 r) e)
   effect-valid Ret r = on (returned-in (v .cpu) e)
   effect-valid Reti r = on (returned-with-carry-in (v .cpu) e)

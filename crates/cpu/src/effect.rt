@@ -185,7 +185,7 @@ impl Cpu {
                 self.control.pc.0 = x;
                 self
             }
-            Instruction::Branch(k, t) => self.branch(k, t),
+            Instruction::Branch(t, k) => self.branch(k, t),
             Instruction::Call(t) => self.call(t),
             Instruction::Ret => self.ret(),
             Instruction::Reti => self.reti(),

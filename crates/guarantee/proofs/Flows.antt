@@ -218,7 +218,7 @@ follows mask RrcA s = (record { level = refl; stack = refl; fault = refl }, refl
 follows mask (InA p) s = (record { level = refl; stack = refl; fault = refl }, refl, λ e. e)
 follows mask OutPaA s = (record { level = refl; stack = refl; fault = refl }, refl, λ e. e)
 follows mask (Jmp t) s = (record { level = refl; stack = refl; fault = refl }, refl, λ e. e)
-follows mask (Branch k t) s = taken (holds k (s .cpu)) (s .cpu) (tested k (s .cpu)) t (tested-same k (s .cpu))
+follows mask (Branch t k) s = taken (holds k (s .cpu)) (s .cpu) (tested k (s .cpu)) t (tested-same k (s .cpu))
 follows mask (Call t) s = λ e. known (λ (d : Cpu). (pcOf d ≡ t .0) × (levelOf d ≡ 1) × (stackOf d ≡ pcOf (s .cpu)) × (faultOf d ≡ faultOf (s .cpu)) × Quiet (s .cpu) d) (eqb (levelOf (s .cpu)) 0) _ _ (eq-eqb (levelOf (s .cpu)) 0 e) (refl, refl, refl, refl, λ h. h)
 follows mask Ret s = λ e. unknown (λ (d : Cpu). (pcOf d ≡ stackOf (s .cpu)) × (levelOf d ≡ 0) × (faultOf d ≡ faultOf (s .cpu)) × Quiet (s .cpu) d) (eqb (levelOf (s .cpu)) 0) _ _ (ne-eqb (levelOf (s .cpu)) 0 e) (refl, refl, refl, λ h. h)
 follows mask Reti s = λ e. unknown (λ (d : Cpu). (pcOf d ≡ stackOf (s .cpu)) × (levelOf d ≡ 0) × (faultOf d ≡ faultOf (s .cpu)) × Quiet (s .cpu) d) (eqb (levelOf (s .cpu)) 0) _ _ (ne-eqb (levelOf (s .cpu)) 0 e) (refl, refl, refl, λ h. h)

@@ -1,2 +1,3 @@
 pub mod Lent
 pub mod Numbers
+pub mod Property3

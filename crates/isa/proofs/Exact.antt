@@ -149,12 +149,12 @@ module _ (a b : ℕ) where
   jump : (f : ProgramAddress → Instruction) (x : ℕ) (t : ProgramAddress) → values 16 (λ (k : ℕ). decoded (x + k) (t .0 % 256)) ≡ values 16 (to f (t .0 % 256)) → ltb (t .0) 4096 ≡ true → decoded (x + t .0 / 256) (t .0 % 256) ≡ Read (f t)
   jump f x t e h = address 16 f x t e (omega (arith, ltb-true (t .0) 4096 h))
 
-  target : (k : Condition) (x : ℕ) (t : ProgramAddress) → values 8 (λ (k : ℕ). decoded (x + k) (t .0 % 256)) ≡ values 8 (to (Branch k) (t .0 % 256)) → ltb (t .0) 2048 ≡ true → decoded (x + t .0 / 256) (t .0 % 256) ≡ Read (Branch k t)
-  target k x t e h = address 8 (Branch k) x t e (omega (arith, ltb-true (t .0) 2048 h))
+  target : (k : Condition) (x : ℕ) (t : ProgramAddress) → values 8 (λ (k : ℕ). decoded (x + k) (t .0 % 256)) ≡ values 8 (to (λ (t : ProgramAddress). Branch t k) (t .0 % 256)) → ltb (t .0) 2048 ≡ true → decoded (x + t .0 / 256) (t .0 % 256) ≡ Read (Branch t k)
+  target k x t e h = address 8 (λ (t : ProgramAddress). Branch t k) x t e (omega (arith, ltb-true (t .0) 2048 h))
 
   -- JAn: the four bits, then the eight high parts
   abbrev eight : ℕ → ℕ → Type 0
-  eight b n = values 8 (λ (k : ℕ). decoded (0b1000_0000 + 8 * n + k) b) ≡ values 8 (to (Branch (Ja n)) b)
+  eight b n = values 8 (λ (k : ℕ). decoded (0b1000_0000 + 8 * n + k) b) ≡ values 8 (to (λ (t : ProgramAddress). Branch t (Ja n)) b)
 
   bits : (b n : ℕ) → n < 4 → eight b n
   unfolding decoded map
@@ -164,7 +164,7 @@ module _ (a b : ℕ) where
   bits b (suc (suc (suc zero))) h = refl
   bits b (suc (suc (suc (suc n)))) h = absurd (omega arith)
 
-  bit : (n : ℕ) (t : ProgramAddress) → ltb n 4 && ltb (t .0) 2048 ≡ true → decoded (0b1000_0000 + 8 * n + t .0 / 256) (t .0 % 256) ≡ Read (Branch (Ja n) t)
+  bit : (n : ℕ) (t : ProgramAddress) → ltb n 4 && ltb (t .0) 2048 ≡ true → decoded (0b1000_0000 + 8 * n + t .0 / 256) (t .0 % 256) ≡ Read (Branch t (Ja n))
   bit n t h = target (Ja n) (0b1000_0000 + 8 * n) t (bits (t .0 % 256) n (ltb-true n 4 (and-left (ltb n 4) (ltb (t .0) 2048) h))) (and-right (ltb n 4) (ltb (t .0) 2048) h)
 
   pub back : (i : Instruction) → Reads a b i → decoded a b ≡ Read i
@@ -212,15 +212,15 @@ module _ (a b : ℕ) where
   back (InA Pp) r = one (r .bytes) refl
   back OutPaA r = one (r .bytes) refl
   back (Jmp t) r = two (r .bytes) (jump Jmp 0b1110_0000 t refl (r .fields))
-  back (Branch (Ja n) t) r = two (r .bytes) (bit n t (r .fields))
-  back (Branch JnzR0 t) r = two (r .bytes) (target JnzR0 0b1010_0000 t refl (r .fields))
-  back (Branch JnzR1 t) r = two (r .bytes) (target JnzR1 0b1010_1000 t refl (r .fields))
-  back (Branch JnzR4 t) r = two (r .bytes) (target JnzR4 0b1101_1000 t refl (r .fields))
-  back (Branch Jz t) r = two (r .bytes) (target Jz 0b1011_0000 t refl (r .fields))
-  back (Branch JnzA t) r = two (r .bytes) (target JnzA 0b1011_1000 t refl (r .fields))
-  back (Branch Jc t) r = two (r .bytes) (target Jc 0b1100_0000 t refl (r .fields))
-  back (Branch Jnc t) r = two (r .bytes) (target Jnc 0b1100_1000 t refl (r .fields))
-  back (Branch Jtmr t) r = two (r .bytes) (target Jtmr 0b1101_0000 t refl (r .fields))
+  back (Branch t (Ja n)) r = two (r .bytes) (bit n t (r .fields))
+  back (Branch t JnzR0) r = two (r .bytes) (target JnzR0 0b1010_0000 t refl (r .fields))
+  back (Branch t JnzR1) r = two (r .bytes) (target JnzR1 0b1010_1000 t refl (r .fields))
+  back (Branch t JnzR4) r = two (r .bytes) (target JnzR4 0b1101_1000 t refl (r .fields))
+  back (Branch t Jz) r = two (r .bytes) (target Jz 0b1011_0000 t refl (r .fields))
+  back (Branch t JnzA) r = two (r .bytes) (target JnzA 0b1011_1000 t refl (r .fields))
+  back (Branch t Jc) r = two (r .bytes) (target Jc 0b1100_0000 t refl (r .fields))
+  back (Branch t Jnc) r = two (r .bytes) (target Jnc 0b1100_1000 t refl (r .fields))
+  back (Branch t Jtmr) r = two (r .bytes) (target Jtmr 0b1101_0000 t refl (r .fields))
   back (Call t) r = two (r .bytes) (jump Call 0b1111_0000 t refl (r .fields))
   back Ret r = one (r .bytes) refl
   back Reti r = one (r .bytes) refl
@@ -396,7 +396,7 @@ pub and-both : (x y : Bool) → x ≡ true → y ≡ true → x && y ≡ true
 and-both true y e f = f
 and-both false y e f = e
 
-pub to-target : (k : Condition) (a b : ℕ) → b < 256 → bitInRange k ≡ true → a / 8 * 8 ≡ leading k → Reads a b (Branch k (record { 0 = a % 8 * 256 + b }))
+pub to-target : (k : Condition) (a b : ℕ) → b < 256 → bitInRange k ≡ true → a / 8 * 8 ≡ leading k → Reads a b (Branch (record { 0 = a % 8 * 256 + b }) k)
 unfolding inRange bytesOf
 to-target k a b h f e =
     two-byte (and-both (bitInRange k) (ltb (a % 8 * 256 + b) 2048) f (lt-ltb (a % 8 * 256 + b) 2048 (omega arith))) refl (omega arith) (omega arith)

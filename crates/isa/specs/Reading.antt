@@ -107,7 +107,7 @@ abbrev pub pair : Pointer → ℕ → Entry
 pair p low = nibble (λ (high : ℕ). MovPairXX p low high)
 
 abbrev pub branch : Condition → ℕ → Entry
-branch k high = byte (λ (low : ℕ). Branch k (record { 0 = high * 256 + low }))
+branch k high = byte (λ (low : ℕ). Branch (record { 0 = high * 256 + low }) k)
 
 -- the map, sixteen first bytes a line
 unfoldable pub map : List Entry

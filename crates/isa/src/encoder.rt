@@ -83,7 +83,7 @@ fn with_address(code: u8, limit: u16, target: ProgramAddress) -> Written
 
 // A branch: five leading bits, then eleven bits of its target.
 fn with_condition(condition: Condition, target: ProgramAddress) -> Written
-    ensures { λ r. ⌜ answerOf r ≡ writing (Instruction.Branch condition target) ⌝ }
+    ensures { λ r. ⌜ answerOf r ≡ writing (Instruction.Branch target condition) ⌝ }
 {
     match condition {
         Condition::Ja(n) => {
@@ -163,7 +163,7 @@ pub fn encode(instruction: Instruction) -> Written
         },
         Instruction::OutPaA => Written::One(0x30),
         Instruction::Jmp(t) => with_address(0xe0, 4096, t),
-        Instruction::Branch(k, t) => with_condition(k, t),
+        Instruction::Branch(t, k) => with_condition(k, t),
         Instruction::Call(t) => with_address(0xf0, 4096, t),
         Instruction::Ret => Written::One(0x2e),
         Instruction::Reti => Written::One(0x2f),

@@ -95,9 +95,10 @@ pub enum Instruction {
     // Input and output. IN A,Pi; OUT PA,A
     InA(Port),
     OutPaA,
-    // Branch. JMP to any address; a conditional branch to an address whose bit 11 is left out, 0 to 2,047
+    // Branch. JMP to any address; a conditional branch to an address whose bit 11 is left out, 0 to 2,047. The address stands first: the
+    // condition's two bytes then lie on no other field, and the processor need not wait to copy an answer of the decoder
     Jmp(ProgramAddress),
-    Branch(Condition, ProgramAddress),
+    Branch(ProgramAddress, Condition),
     // Subroutine
     Call(ProgramAddress),
     Ret,

@@ -149,7 +149,7 @@ fn put_rotate_or_port(i: Instruction) {
 fn put_flow(i: Instruction) {
     match i {
         Instruction::Jmp(t) => put_target(b"JMP ", t),
-        Instruction::Branch(k, t) => put_branch(k, t),
+        Instruction::Branch(t, k) => put_branch(k, t),
         Instruction::Call(t) => put_target(b"CALL ", t),
         Instruction::Ret => put(b"RET"),
         Instruction::Reti => put(b"RETI"),

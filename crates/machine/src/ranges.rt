@@ -16,18 +16,27 @@ use cpu::Stack;
 use cpu::Status;
 use cpu::Timer;
 
-// Whether every element is a nibble.
+// The larger of two numbers: a nibble where both are.
+fn larger(a: u8, b: u8) -> u8
+    ensures { λ r. ⌜ ltb r 16 ≡ ltb a 16 && ltb b 16 ⌝ }
+{
+    if a < b {
+        return b;
+    }
+    a
+}
+
+// Whether every element is a nibble. One test at the end: a loop with no way out takes many elements at once.
 pub fn all_nibbles(s: &[u8]) -> bool
     ensures { λ r. ⌜ r ≡ nibbles (now (s .entry)) ⌝ }
 {
+    let mut top = 0;
     let mut i = 0;
     while i < s.len() {
-        if 15 < s[i] {
-            return false;
-        }
+        top = larger(top, s[i]);
         i += 1;
     }
-    true
+    top < 16
 }
 
 fn both(a: bool, b: bool) -> bool
@@ -148,7 +157,6 @@ impl Machine {
     pub fn valid(self) -> bool
         ensures { λ b. ⌜ b ≡ valid (stateOf self) ⌝ }
     {
-        let memory = self.memory;
-        both(cpu_ok(self.cpu), all_nibbles(&memory))
+        both(cpu_ok(self.cpu), all_nibbles(&self.memory))
     }
 }

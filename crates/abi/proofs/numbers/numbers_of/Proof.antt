@@ -385,7 +385,7 @@ returns-36 c = sym (ap numbersOf (c .before .instruction18 .given .1))
 returns-37 : tie.Need-returns-37
 unfolding numbersOf
 returns-37 c =
-    ap (λ (n : ℕ). numbers 36 n (c .before .before .instruction19 .given .0 .1 .0 .0)) (c .condition-number .ensures)
+    ap (λ (n : ℕ). numbers 36 n (c .before .before .instruction19 .given .0 .0 .0)) (c .condition-number .ensures)
     ∙ sym (ap numbersOf (c .before .before .instruction19 .given .1))
 
 returns-38 : tie.Need-returns-38

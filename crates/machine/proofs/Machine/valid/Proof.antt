@@ -19,9 +19,6 @@ met k m x y e p q l = e ∙ ap₂ (λ (x y : Bool). x && y) p q ∙ rw (eq-eqb (
 cpu-ok-requires : tie.Need-cpu-ok-requires
 cpu-ok-requires c κs = search needs
 
-slice-aggregate-all-nibbles : tie.Need-slice-aggregate-all-nibbles
-slice-aggregate-all-nibbles c = search needs
-
 all-nibbles-requires : tie.Need-all-nibbles-requires
 all-nibbles-requires c κs = search needs
 
@@ -30,16 +27,15 @@ both-requires c κs = search needs
 
 returns : tie.Need-returns
 returns c =
-    let m = c .before .before .before .before .before .args .self in
+    let m = c .before .before .before .before .before .before .before .args .t1 in
     let l : length (m .memory) ≡ 160 = search needs in
-    met (m .cpu) (m .memory) _ _ (c .both .ensures) (c .before .before .before .cpu-ok .ensures) (c .before .all-nibbles .ensures) l
+    met (m .cpu) (m .memory) _ _ (c .both .ensures) (c .before .before .before .before .before .cpu-ok .ensures) (c .before .all-nibbles .ensures) l
 
 pub valid-spec : {M : Type 1} → statement M
 valid-spec =
     tie.close
     (tie.spec
     cpu-ok-requires
-    slice-aggregate-all-nibbles
     all-nibbles-requires
     both-requires
     returns)

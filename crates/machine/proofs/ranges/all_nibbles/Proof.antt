@@ -1,46 +1,52 @@
--- `machine::ranges::all_nibbles` meets its contract. The loop's invariant: the list's answer is that of the elements from `i` on.
--- Assumes nothing.
+-- `machine::ranges::all_nibbles` meets its contract. The loop's invariant: the list's answer is that of the largest element so far and of
+-- the elements from `i` on. Assumes nothing.
 use Prim.Native.Nat.{ℕ, suc, _+_, _-_, _≤_, _<_}
 use mathlib.Core.Path.{_≡_, refl, sym, ap, _∙_}
-use mathlib.Core.Bool.{true, false}
+use mathlib.Core.Bool.{Bool, true, false, _&&_}
 use mathlib.Core.List.{List}
 use native.Mathlib.Numerals.{add-one}
 use native.Mathlib.Omega.{arith}
+use lib.Dec.{ltb}
 use lib.ListN.{length, getD, drop, drop-of-length-le}
 use lib.Seq.{drop-cons}
-use borrow.Author.Tests.{lt-ltb, le-ltb}
 use Rattle.cpu.specs.Range.{nibbles}
+use borrow.Author.Needs.{needs}
 use Rattle.machine.proofs.ranges.all_nibbles.Statement.{statement}
 use Rattle.machine.proofs.ranges.all_nibbles.Tie as tie
 
 abbrev Inv-loop : tie.InvT-loop
-Inv-loop s i₀ i = (i ≤ length s) × (nibbles s ≡ nibbles (drop i s))
+Inv-loop s top₀ i₀ top i = (i ≤ length s) × (nibbles s ≡ ltb top 16 && nibbles (drop i s))
 
 abbrev μ-loop : tie.MeasureT-loop
-μ-loop s i₀ i = length s - i
+μ-loop s top₀ i₀ top i = length s - i
 
-here : (s : List ℕ) (i : ℕ) → i < length s → getD s i 0 ≤ 15 → nibbles (drop i s) ≡ nibbles (drop (i + 1) s)
-unfolding nibbles
-here s i h n = rw (add-one i, drop-cons s i 0 h, lt-ltb (getD s i 0) 16 (omega arith)) refl
+joined : (a b c : Bool) → a && (b && c) ≡ (a && b) && c
+joined true b c = refl
+joined false b c = refl
 
-bad : (s : List ℕ) (i : ℕ) → i < length s → 15 < getD s i 0 → nibbles (drop i s) ≡ false
-unfolding nibbles
-bad s i h n = rw (drop-cons s i 0 h, le-ltb (getD s i 0) 16 n) refl
+alone : (a : Bool) → a && true ≡ a
+alone true = refl
+alone false = refl
 
-end : (s : List ℕ) (i : ℕ) → length s ≤ i → nibbles (drop i s) ≡ true
+-- one element more
+more : (s : List ℕ) (i top r : ℕ) → i < length s → nibbles s ≡ ltb top 16 && nibbles (drop i s) → ltb r 16 ≡ ltb top 16 && ltb (getD s i 0) 16 → nibbles s ≡ ltb r 16 && nibbles (drop (i + 1) s)
 unfolding nibbles
-end s i h = rw (drop-of-length-le s h) refl
+more s i top r h p q =
+    p ∙ rw (drop-cons s i 0 h) (joined (ltb top 16) (ltb (getD s i 0) 16) (nibbles (drop (suc i) s)))
+    ∙ ap (λ (t : Bool). t && nibbles (drop (suc i) s)) (sym q) ∙ rw (add-one i) refl
+
+end : (s : List ℕ) (i top : ℕ) → length s ≤ i → nibbles s ≡ ltb top 16 && nibbles (drop i s) → ltb top 16 ≡ nibbles s
+unfolding nibbles
+end s i top h p = sym (p ∙ rw (drop-of-length-le s h) (alone (ltb top 16)))
 
 loop-holds : tie.Need-loop-holds Inv-loop μ-loop
 loop-holds c = (omega arith, refl)
 
-shared-slice-read-if1 : tie.Need-shared-slice-read-if1 Inv-loop μ-loop
-shared-slice-read-if1 c = omega arith
+shared-slice-read-larger : tie.Need-shared-slice-read-larger Inv-loop μ-loop
+shared-slice-read-larger c = omega arith
 
-returns : tie.Need-returns Inv-loop μ-loop
-returns c =
-    let l = c .before .before .before in
-    sym (l .loop .inv .1 ∙ bad (l .before .args .s .now) (l .loop .i) (c .before .before .loop-test .taken) (c .if1 .taken))
+larger-requires : tie.Need-larger-requires Inv-loop μ-loop
+larger-requires c κs = search needs
 
 add-i : tie.Need-add-i Inv-loop μ-loop
 add-i c = omega arith
@@ -51,10 +57,10 @@ loop-less c = omega arith
 loop-again : tie.Need-loop-again Inv-loop μ-loop
 loop-again c =
     let l = c .before .before .before in
-    (omega arith, l .loop .inv .1 ∙ here (l .before .args .s .now) (l .loop .i) (c .before .before .loop-test .taken) (c .if1 .left))
+    (omega arith, more (l .before .before .args .s .now) (l .loop .i) (l .loop .top) (c .larger .result) (c .before .before .loop-test .taken) (l .loop .inv .1) (c .larger .ensures))
 
-returns-2 : tie.Need-returns-2 Inv-loop μ-loop
-returns-2 c = sym (c .before .loop .inv .1 ∙ end (c .before .before .args .s .now) (c .before .loop .i) (c .loop-test .left))
+returns : tie.Need-returns Inv-loop μ-loop
+returns c = end (c .before .before .before .args .s .now) (c .before .loop .i) (c .before .loop .top) (c .loop-test .left) (c .before .loop .inv .1)
 
 pub all-nibbles-spec : {M : Type 1} → statement M
-all-nibbles-spec = tie.close (tie.spec Inv-loop μ-loop loop-holds shared-slice-read-if1 returns add-i loop-less loop-again returns-2)
+all-nibbles-spec = tie.close (tie.spec Inv-loop μ-loop loop-holds shared-slice-read-larger larger-requires add-i loop-less loop-again returns)
