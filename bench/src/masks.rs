@@ -1,6 +1,6 @@
-//! Hand-made masks, each a loop that never ends.
+//! Masks: hand-made ones for speed, each a loop that never ends, and random ones.
 
-use crate::plain::{Mask, MASK};
+use crate::plain::{decode, Mask, MASK};
 use crate::prng::Prng;
 
 const NOP: u8 = 0x3E;
@@ -100,4 +100,134 @@ pub fn tables() -> Mask {
     ];
     mask[0x100..0x100 + code.len()].copy_from_slice(&code);
     mask
+}
+
+/// A mask of random bytes.
+pub fn random_bytes(prng: &mut Prng) -> Mask {
+    std::array::from_fn(|_| prng.byte())
+}
+
+/// Random instructions, one after the other. `tame` leaves out what soon ends
+/// a run: HALT, CALL, RET and RETI.
+pub fn random_instructions(prng: &mut Prng, tame: bool) -> Mask {
+    let mut mask = [NOP; MASK];
+    let mut at = 0;
+    while at < MASK {
+        let (length, first, second) = instruction(prng, tame);
+        if at + length > MASK {
+            continue;
+        }
+        mask[at] = first;
+        if length == 2 {
+            mask[at + 1] = second;
+        }
+        at += length;
+    }
+    mask
+}
+
+fn instruction(prng: &mut Prng, tame: bool) -> (usize, u8, u8) {
+    loop {
+        let first = prng.byte();
+        let second = match first {
+            0x37 => 0x3E,
+            0x40..=0x46 | 0x50..=0x6F => prng.byte() & 15,
+            _ => prng.byte(),
+        };
+        let ends = matches!(first, 0x2E | 0x2F | 0x37 | 0xF0..=0xFF);
+        if let Some(instruction) = decode(first, second).filter(|_| !(tame && ends)) {
+            return (instruction.length as usize, first, second);
+        }
+    }
+}
+
+/// NOPs with a few random instructions among them.
+pub fn sparse(prng: &mut Prng) -> Mask {
+    let mut mask = [NOP; MASK];
+    for _ in 0..prng.below(60) {
+        let (length, first, second) = instruction(prng, false);
+        let at = prng.below(MASK as u64) as usize;
+        mask[at] = first;
+        if length == 2 {
+            mask[(at + 1) % MASK] = second;
+        }
+    }
+    mask
+}
+
+/// A program that passes through all levels: random code that calls
+/// subroutines, both handlers, the timer and interrupts on.
+pub fn lively(prng: &mut Prng) -> Mask {
+    let mut mask = random_instructions(prng, true);
+    let mut put = |at: usize, code: &[u8]| mask[at..at + code.len()].copy_from_slice(code);
+    put(0x000, &[0xE0, 0x10]); // JMP 010h
+    put(0x004, &[0x18, 0x2F]); // INC R4; RETI
+    put(0x008, &[0x0C, 0x2E]); // INC [R1R0]; RET
+    put(0x010, &[0x47, prng.byte(), 0x38, 0x2C]); // TIMER XXh; TIMER ON; EI
+    for subroutine in 0..16 {
+        put(0xE00 + 16 * subroutine + 14, &[NOP, 0x2E + (prng.byte() & 1)]); // RET or RETI
+    }
+    for _ in 0..200 {
+        let at = 0x20 + prng.below(0xD00) as usize;
+        put(at, &[0xFE, prng.byte() & 0xF0]); // CALL E?0h
+    }
+    for _ in 0..prng.below(4) {
+        let at = 0x20 + prng.below(0xD00) as usize;
+        put(at, &[0x37, 0x3E]); // HALT
+    }
+    mask
+}
+
+/// Reaches every address in every level, most of them in more than one way.
+pub fn worst() -> Mask {
+    let mut mask: Mask = std::array::from_fn(|at| 0xA0 | at as u8 & 1); // JNZ R0,0A1h or 1A0h
+    mask[..0xA0].fill(NOP);
+    mask[..3].copy_from_slice(&[0x2C, 0xF0, 0x03]); // EI; CALL 003h
+    mask[0xFFE..].copy_from_slice(&[0xA0, 0x02]); // JNZ R0,002h: the moved PC is 0
+    mask
+}
+
+/// Hand-made masks and ones with an odd end, for the comparison.
+pub fn special(n: u64) -> Mask {
+    match n {
+        0 => arithmetic(),
+        1 => copy(),
+        2 => timer(),
+        3 => tables(),
+        4 => worst(),
+        5 => [NOP; MASK],
+        6 => [0x35; MASK],
+        7 => [0xFF; MASK],
+        8 => [0x2C; MASK],
+        9 => with(&[(0, &[0x40, 0x15])]),
+        10 => with(&[(0, &[0xF0, 0x10])]),
+        11 => with(&[(0, &[0x2F])]),
+        12 => with(&[(0, &[0x3E]), (4095, &[0x37])]), // HALT over the end
+        13 => with(&[(0, &[0x05]), (4095, &[0x52])]), // MOV R1R0 over the end
+        14 => with(&[(0, &[0xE7, 0xFE]), (0x7FE, &[0xB0, 0x10])]),
+        15 => with(&[(0, &[0x2C, 0xF1, 0x00]), (0x100, &[0x2E]), (4, &[0x2F]), (8, &[0x2F])]),
+        _ => [0xA1; MASK],
+    }
+}
+
+pub const SPECIAL: u64 = 17;
+
+#[cfg(test)]
+mod tests {
+    use super::*;
+    use crate::plain::check;
+
+    #[test]
+    fn worst_reaches_all_pairs() {
+        let mut marks = [0; MASK];
+        check(&worst(), &mut marks).unwrap();
+        assert!(marks.iter().all(|&mark| mark == 7));
+    }
+
+    #[test]
+    fn masks_for_speed_pass() {
+        for mask in [arithmetic(), copy(), timer(), tables()] {
+            assert_eq!(check(&mask, &mut [0; MASK]), Ok(None));
+        }
+    }
 }

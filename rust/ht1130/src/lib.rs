@@ -383,7 +383,9 @@ impl std::ops::Deref for Code {
     }
 }
 
-mod ffi {
+/// The functions of `ht1130.h` as they are. The rest of this crate is safe.
+#[allow(missing_docs)]
+pub mod ffi {
     use super::Machine;
 
     extern "C" {
