@@ -91,7 +91,7 @@ pub fn damage(prng: &mut Prng, script: &mut Vec<Vec<u8>>) {
             pins[prng.below(3) as usize] = bad;
             pins
         }),
-        10 => *record = self::record(INT, &[2 + prng.byte() % 254]),
+        10 => *record = self::record(INT, &[[2, 3, 128, 255][prng.below(4) as usize]]),
         11 => {
             let mut broken = power_on(prng);
             broken[9] = bad;

@@ -1,9 +1,10 @@
 //! The Holtek HT1130, a 4-bit microcontroller with an LCD driver: a proved
 //! engine and mask checker.
 //!
-//! This crate is the Rust side of `ht1130.h`. It allocates nothing and keeps no
-//! state: a call works on what it is lent. Bad input is refused before anything
-//! happens, so after an `Err` every lent machine and buffer is as it was.
+//! This crate is the Rust side of `ht1130.h`. It keeps no state and, but for
+//! [`reports`], allocates nothing: a call works on what it is lent. Bad input is
+//! refused before anything happens, so after an `Err` every lent machine and
+//! buffer is as it was.
 //!
 //! ```
 //! use ht1130::{Event, Machine, Options, IMAGE, MASK};
@@ -545,6 +546,17 @@ pub fn run_script(mask: &[u8], script: &[u8], out: &mut [u8]) -> Result<(), Scri
             out.len(),
         )
     })
+}
+
+/// Runs a script as [`run_script`] does, and returns a report for each record.
+pub fn reports(mask: &[u8], script: &[u8]) -> Result<Vec<[u8; REPORT]>, ScriptRefusal> {
+    // No record has under 4 bytes, and a longer script is refused.
+    let mut out = vec![[0; REPORT]; script.len().min(SCRIPT) / 4];
+    run_script(mask, script, out.as_flattened_mut())?;
+    // A report starts with 44, and what follows the last one is still 0.
+    let count = out.iter().take_while(|report| report[0] != 0).count();
+    out.truncate(count);
+    Ok(out)
 }
 
 /// The instruction at an address of a mask, or `None` where the bytes read as
