@@ -32,7 +32,8 @@ const SORTS: [Sort; 12] = [
     Sort { name: "scripts, longest", cases: |n| n / 100, case: script_longest },
 ];
 
-/// Runs all sorts; false after a difference.
+/// Runs all sorts, `cases` being the number of random masks to check and the
+/// measure of the other sorts; false after a difference.
 pub fn run(seed: u64, cases: u64) -> bool {
     println!("diff: seed {seed}, cases {cases}");
     for sort in &SORTS {
@@ -71,7 +72,26 @@ fn same_bytes(what: impl FnOnce() -> String, library: &[u8], plain: &[u8]) -> Ou
 }
 
 fn same_machine(what: impl FnOnce() -> String, library: &ht1130::Machine, plain: &plain::Machine) -> Outcome {
-    same(what, to_plain(library), *plain)
+    let library = to_plain(library);
+    if library == *plain {
+        return Ok(());
+    }
+    let mut text = what();
+    macro_rules! name_differing {
+        ($($field:ident)*) => {
+            $(if library.$field != plain.$field {
+                text += &format!(
+                    "\n  {}: library {:X?}, plain {:X?}",
+                    stringify!($field), library.$field, plain.$field,
+                );
+            })*
+        };
+    }
+    name_differing! {
+        acc r pc cf tf timer running enabled held level stack stack_cf halted fault pa channel mode
+        pm ps pp int options cycles memory
+    }
+    Err(text)
 }
 
 fn hex(bytes: &[u8]) -> String {
@@ -215,6 +235,9 @@ fn machine(prng: &mut Prng) -> ht1130::Machine {
     if prng.below(4) == 0 {
         cpu.cycles = pick(prng, &[0, 2046, 2047, 4095, u32::MAX, u32::MAX - 1, u32::MAX - 20]);
     }
+    if prng.below(6) == 0 {
+        cpu.options.rate = plain::EXTERNAL;
+    }
     if prng.below(4) == 0 {
         cpu.timer.count = 250 + prng.below(6) as u8;
     }
@@ -305,7 +328,23 @@ fn event_on_both(m: &mut ht1130::Machine, event: (u16, u16, u8, u8, u8), mask: &
         format!("event kind {kind}, count {count}, a {a}, b {b}, c {c}, mask {}\n  before  {before:X?}", hex(mask))
     };
     same(|| format!("refusal of {}", what()), library, refusal)?;
-    same_machine(what, m, &plain)
+    same_machine(what, m, &plain).map_err(|text| if kind == plain::RUN { text + &first_step(before, count, mask) } else { text })
+}
+
+/// Names the step at which two runs part.
+fn first_step(mut m: ht1130::Machine, count: u16, mask: &[u8]) -> String {
+    for step in 1..=count {
+        let mut plain = to_plain(&m);
+        let pc = plain.pc as usize;
+        let _ = ht1130::apply_kind(&mut m, plain::RUN, 1, 0, 0, 0, mask);
+        let _ = plain.apply(plain::RUN, 1, 0, 0, 0, mask);
+        let code = [mask[pc % MASK], mask[(pc + 1) % MASK]];
+        let what = || format!("\n  parted at step {step}, PC {pc:03X}, code {:02X} {:02X}", code[0], code[1]);
+        if let Err(text) = same_machine(what, &m, &plain) {
+            return text;
+        }
+    }
+    "\n  step by step they agree".into()
 }
 
 fn report_of_both(m: &ht1130::Machine, length: usize) -> Outcome {
