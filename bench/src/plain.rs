@@ -899,37 +899,41 @@ pub fn check(mask: &[u8], marks: &mut [u8]) -> Result<Option<Failure>, Refusal> 
     reach(&mut work, 0, 0);
     while let Some((address, level)) = work.pop() {
         let first = byte(mask, address);
-        let read = decode(first, byte(mask, address + 1));
-        let fault = match read {
-            None => FAULT_UNREADABLE,
-            Some(i) if i.form == form::CALL && level != 0 => FAULT_CALL,
-            Some(i) if (i.form == form::RET || i.form == form::RETI) && level == 0 => FAULT_RETURN,
-            Some(_) => 0,
-        };
-        let Some(instruction) = read.filter(|_| fault == 0) else {
-            if lowest.is_none_or(|l| (address, level) < (l.address, l.level)) {
-                lowest = Some(Failure { fault, address, level });
-            }
-            continue;
-        };
-        let next = address + instruction.length as u16 & 0xFFF;
-        match instruction.form {
-            form::RET | form::RETI => {}
-            form::JMP => reach(&mut work, instruction.b, level),
-            form::CALL => {
-                reach(&mut work, instruction.b, 1);
-                reach(&mut work, next, 0);
-            }
-            form::BRANCH => {
-                reach(&mut work, next & 0x800 | instruction.b, level);
+        let second = byte(mask, address + 1);
+        let target = (first as u16) << 8 | second as u16;
+        let fault = match first {
+            0x80..=0xDF => {
+                let next = address + 2 & 0xFFF;
+                reach(&mut work, next & 0x800 | target & 0x7FF, level);
                 reach(&mut work, next, level);
+                0
             }
-            form::EI => {
-                reach(&mut work, 4, 2);
-                reach(&mut work, 8, 2);
-                reach(&mut work, next, level);
+            0xE0..=0xEF => {
+                reach(&mut work, target & 0xFFF, level);
+                0
             }
-            _ => reach(&mut work, next, level),
+            0xF0..=0xFF if level == 0 => {
+                reach(&mut work, target & 0xFFF, 1);
+                reach(&mut work, address + 2 & 0xFFF, 0);
+                0
+            }
+            0xF0..=0xFF => FAULT_CALL,
+            0x2E | 0x2F if level == 0 => FAULT_RETURN,
+            0x2E | 0x2F => 0,
+            _ => match decode(first, second) {
+                None => FAULT_UNREADABLE,
+                Some(instruction) => {
+                    if instruction.form == form::EI {
+                        reach(&mut work, 4, 2);
+                        reach(&mut work, 8, 2);
+                    }
+                    reach(&mut work, address + instruction.length as u16 & 0xFFF, level);
+                    0
+                }
+            },
+        };
+        if fault != 0 && lowest.is_none_or(|l| (address, level) < (l.address, l.level)) {
+            lowest = Some(Failure { fault, address, level });
         }
     }
     Ok(lowest)

@@ -9,7 +9,8 @@ use crate::script::record;
 use std::hint::black_box;
 use std::time::{Duration, Instant};
 
-const TURNS: usize = 9;
+/// Many short turns: others use the machine too.
+const TURNS: usize = 41;
 
 const OPTIONS: plain::Options = plain::Options { rate: 2, commons: 4, wake_pm: 15, wake_ps: 15, wake_pp: 15 };
 
@@ -83,7 +84,7 @@ fn powered() -> (plain::Machine, ht1130::Machine) {
 }
 
 fn run_row(name: &str, mask: &Mask) {
-    const RUNS: u64 = 60;
+    const RUNS: u64 = 10;
     const STEPS: u16 = 65535;
     let (mut ours, mut theirs) = powered();
     row(
@@ -111,7 +112,7 @@ fn run_row(name: &str, mask: &Mask) {
 }
 
 fn check_row(name: &str, mask: &Mask) {
-    const CHECKS: u32 = 50;
+    const CHECKS: u32 = 10;
     let (mut ours, mut theirs) = ([0; MASK], [0; MASK]);
     let (mut our_verdict, mut their_verdict) = (Ok(None), 0);
     let pairs = pairs(mask);
@@ -170,7 +171,7 @@ fn script_row() {
 }
 
 fn event_row(name: &str, event: fn(u32) -> (u16, [u8; 3])) {
-    const CALLS: u32 = 100_000;
+    const CALLS: u32 = 20_000;
     let mask = masks::arithmetic();
     let (mut ours, mut theirs) = powered();
     row(
