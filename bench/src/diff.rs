@@ -18,18 +18,66 @@ struct Sort {
 }
 
 const SORTS: [Sort; 12] = [
-    Sort { name: "instructions read", cases: |_| 256, case: instructions_read },
-    Sort { name: "instructions written", cases: |_| 256, case: instructions_written },
-    Sort { name: "reads refused", cases: |_| 1, case: reads_refused },
-    Sort { name: "masks checked", cases: |n| n, case: mask_checked },
-    Sort { name: "checks refused", cases: |n| n / 10, case: check_refused },
-    Sort { name: "power-ons", cases: |n| 4 * n, case: power_on },
-    Sort { name: "fields out of range", cases: |_| FIELDS, case: field_out_of_range },
-    Sort { name: "single events", cases: |n| 20 * n, case: single_event },
-    Sort { name: "event lists on one record", cases: |n| n / 10, case: event_list },
-    Sort { name: "scripts, valid", cases: |n| 2 * n, case: script_valid },
-    Sort { name: "scripts, damaged", cases: |n| 10 * n, case: script_damaged },
-    Sort { name: "scripts, longest", cases: |n| n / 100, case: script_longest },
+    Sort {
+        name: "instructions read",
+        cases: |_| 256,
+        case: instructions_read,
+    },
+    Sort {
+        name: "instructions written",
+        cases: |_| 256,
+        case: instructions_written,
+    },
+    Sort {
+        name: "reads refused",
+        cases: |_| 1,
+        case: reads_refused,
+    },
+    Sort {
+        name: "masks checked",
+        cases: |n| n,
+        case: mask_checked,
+    },
+    Sort {
+        name: "checks refused",
+        cases: |n| n / 10,
+        case: check_refused,
+    },
+    Sort {
+        name: "power-ons",
+        cases: |n| 4 * n,
+        case: power_on,
+    },
+    Sort {
+        name: "fields out of range",
+        cases: |_| FIELDS,
+        case: field_out_of_range,
+    },
+    Sort {
+        name: "single events",
+        cases: |n| 20 * n,
+        case: single_event,
+    },
+    Sort {
+        name: "event lists on one record",
+        cases: |n| n / 10,
+        case: event_list,
+    },
+    Sort {
+        name: "scripts, valid",
+        cases: |n| 2 * n,
+        case: script_valid,
+    },
+    Sort {
+        name: "scripts, damaged",
+        cases: |n| 10 * n,
+        case: script_damaged,
+    },
+    Sort {
+        name: "scripts, longest",
+        cases: |n| n / 100,
+        case: script_longest,
+    },
 ];
 
 /// Runs all sorts, `cases` being the number of random masks to check and the
@@ -46,7 +94,10 @@ pub fn run(seed: u64, cases: u64) -> bool {
             }
             let mut prng = Prng::new(prng.next().wrapping_add(case));
             if let Err(what) = (sort.case)(&mut prng, case) {
-                println!("DIFFERENCE in {}, seed {seed}, case {case}:\n{what}", sort.name);
+                println!(
+                    "DIFFERENCE in {}, seed {seed}, case {case}:\n{what}",
+                    sort.name
+                );
                 return false;
             }
         }
@@ -60,18 +111,30 @@ fn same<T: PartialEq + Debug>(what: impl FnOnce() -> String, library: T, plain: 
     if library == plain {
         return Ok(());
     }
-    Err(format!("{}\n  library {library:X?}\n  plain   {plain:X?}", what()))
+    Err(format!(
+        "{}\n  library {library:X?}\n  plain   {plain:X?}",
+        what()
+    ))
 }
 
 /// As `same`, but names the first byte that differs.
 fn same_bytes(what: impl FnOnce() -> String, library: &[u8], plain: &[u8]) -> Outcome {
     match library.iter().zip(plain).position(|(l, p)| l != p) {
         None => Ok(()),
-        Some(at) => Err(format!("{}: byte {at}, library {:02X}, plain {:02X}", what(), library[at], plain[at])),
+        Some(at) => Err(format!(
+            "{}: byte {at}, library {:02X}, plain {:02X}",
+            what(),
+            library[at],
+            plain[at]
+        )),
     }
 }
 
-fn same_machine(what: impl FnOnce() -> String, library: &ht1130::Machine, plain: &plain::Machine) -> Outcome {
+fn same_machine(
+    what: impl FnOnce() -> String,
+    library: &ht1130::Machine,
+    plain: &plain::Machine,
+) -> Outcome {
     let library = to_plain(library);
     if library == *plain {
         return Ok(());
@@ -96,8 +159,16 @@ fn same_machine(what: impl FnOnce() -> String, library: &ht1130::Machine, plain:
 
 fn hex(bytes: &[u8]) -> String {
     const MOST: usize = 400;
-    let shown: String = bytes.iter().take(MOST).map(|b| format!("{b:02X} ")).collect();
-    format!("{shown}{}({} bytes)", if bytes.len() > MOST { "... " } else { "" }, bytes.len())
+    let shown: String = bytes
+        .iter()
+        .take(MOST)
+        .map(|b| format!("{b:02X} "))
+        .collect();
+    format!(
+        "{shown}{}({} bytes)",
+        if bytes.len() > MOST { "... " } else { "" },
+        bytes.len()
+    )
 }
 
 fn pick<T: Copy>(prng: &mut Prng, from: &[T]) -> T {
@@ -118,18 +189,41 @@ fn any_mask(prng: &mut Prng) -> Mask {
 }
 
 fn mask_of_wrong_length(prng: &mut Prng) -> Vec<u8> {
-    let length = pick(prng, &[0, 1, 2, 48, 166, 4095, 4097, 8192, 65535, 65536, 65536 + 4096]);
+    let length = pick(
+        prng,
+        &[
+            0,
+            1,
+            2,
+            48,
+            166,
+            4095,
+            4097,
+            8192,
+            65535,
+            65536,
+            65536 + 4096,
+        ],
+    );
     vec![0x3E; length]
 }
 
 fn mask_checked(prng: &mut Prng, case: u64) -> Outcome {
-    let mask = if case < masks::SPECIAL { masks::special(case) } else { any_mask(prng) };
+    let mask = if case < masks::SPECIAL {
+        masks::special(case)
+    } else {
+        any_mask(prng)
+    };
     let mut marks = [[0xA5; MASK]; 2];
     let library = library::check(&mask, &mut marks[0]);
     let plain = plain::check(&mask, &mut marks[1]);
     let what = || format!("check of the mask {}", hex(&mask));
     same(what, library, packed::verdict(&plain))?;
-    same_bytes(|| format!("marks of the mask {}", hex(&mask)), &marks[0], &marks[1])
+    same_bytes(
+        || format!("marks of the mask {}", hex(&mask)),
+        &marks[0],
+        &marks[1],
+    )
 }
 
 fn check_refused(prng: &mut Prng, _: u64) -> Outcome {
@@ -142,7 +236,11 @@ fn check_refused(prng: &mut Prng, _: u64) -> Outcome {
     let mut marks = vec![0xA5; length];
     let library = library::check(&mask, &mut marks);
     let what = || format!("check of a mask of {} bytes, marks of {length}", mask.len());
-    same(what, library, packed::verdict(&plain::check(&mask, &mut vec![0; length])))?;
+    same(
+        what,
+        library,
+        packed::verdict(&plain::check(&mask, &mut vec![0; length])),
+    )?;
     same(|| "marks after a refusal".into(), marks, vec![0xA5; length])
 }
 
@@ -157,12 +255,21 @@ fn instructions_read(_: &mut Prng, case: u64) -> Outcome {
             mask[(address + 1) % MASK] = second;
             let what = || format!("read of {first:02X} {second:02X} at {address:03X}");
             let plain = plain::read(&mask, address as u16);
-            same(what, library::read(&mask, address as u16), packed::instruction(&plain))?;
+            same(
+                what,
+                library::read(&mask, address as u16),
+                packed::instruction(&plain),
+            )?;
             let Ok(Some(i)) = plain else { continue };
-            let written = packed::code(&Ok((i.length, first, if i.length == 2 { second } else { 0 })));
+            let written = packed::code(&Ok((
+                i.length,
+                first,
+                if i.length == 2 { second } else { 0 },
+            )));
             let what = || format!("written back: {first:02X} {second:02X}, {i:?}");
             same(what, library::write(i.form, i.a, i.b), written)?;
-            let safe = ht1130::read(&mask, address as u16).map(|r| r.map(|i| (i.form, i.a, i.b, i.length, i.cycles)));
+            let safe = ht1130::read(&mask, address as u16)
+                .map(|r| r.map(|i| (i.form, i.a, i.b, i.length, i.cycles)));
             same(what, safe, Ok(Some((i.form, i.a, i.b, i.length, i.cycles))))?;
         }
     }
@@ -171,7 +278,9 @@ fn instructions_read(_: &mut Prng, case: u64) -> Outcome {
 
 fn instructions_written(prng: &mut Prng, case: u64) -> Outcome {
     let form = case as u8;
-    let mut spread = vec![0, 1, 15, 16, 17, 127, 255, 256, 257, 2046, 2047, 2048, 2049, 4094, 4095, 4096, 4097, 65535];
+    let mut spread = vec![
+        0, 1, 15, 16, 17, 127, 255, 256, 257, 2046, 2047, 2048, 2049, 4094, 4095, 4096, 4097, 65535,
+    ];
     spread.extend((0..8).map(|_| prng.next() as u16));
     spread.extend((0..8).map(|_| prng.below(4096) as u16));
     for a in 0..=255 {
@@ -179,15 +288,24 @@ fn instructions_written(prng: &mut Prng, case: u64) -> Outcome {
             let what = || format!("write of form {form}, a {a}, b {b}");
             let plain = plain::encode(form, a, b);
             same(what, library::write(form, a, b), packed::code(&plain))?;
-            let safe = ht1130::write(form, a, b).map(|code| code.to_vec()).map_err(|r| r.number());
-            same(what, safe, plain.map(|(n, first, second)| [first, second][..n as usize].to_vec()))?;
-            let Ok((_, first, second)) = plain else { continue };
+            let safe = ht1130::write(form, a, b)
+                .map(|code| code.to_vec())
+                .map_err(|r| r.number());
+            same(
+                what,
+                safe,
+                plain.map(|(n, first, second)| [first, second][..n as usize].to_vec()),
+            )?;
+            let Ok((_, first, second)) = plain else {
+                continue;
+            };
             let mut mask = [0; MASK];
             mask[..2].copy_from_slice(&[first, second]);
             let read = library::read(&mask, 0);
             same(what, read, packed::instruction(&plain::read(&mask, 0)))?;
             // Operands that the form has come back as they were.
-            let (form_back, a_back, b_back) = ((read >> 16) as u8, (read >> 24) as u8, (read >> 32) as u16);
+            let (form_back, a_back, b_back) =
+                ((read >> 16) as u8, (read >> 24) as u8, (read >> 32) as u16);
             same(what, form_back, form)?;
             same(what, a_back, if a_back == 0 { 0 } else { a })?;
             same(what, b_back, if b_back == 0 { 0 } else { b })?;
@@ -200,13 +318,21 @@ fn reads_refused(prng: &mut Prng, _: u64) -> Outcome {
     let mask = any_mask(prng);
     for address in 0..=65535 {
         let what = || format!("read at {address}");
-        same(what, library::read(&mask, address), packed::instruction(&plain::read(&mask, address)))?;
+        same(
+            what,
+            library::read(&mask, address),
+            packed::instruction(&plain::read(&mask, address)),
+        )?;
     }
     for length in [0, 1, 2, 4095, 4097, 8192, 65536 + 4096] {
         let mask = vec![0x3E; length];
         for address in [0, 1, 4095, 4096, 65535] {
             let what = || format!("read at {address} of a mask of {length} bytes");
-            same(what, library::read(&mask, address), packed::instruction(&plain::read(&mask, address)))?;
+            same(
+                what,
+                library::read(&mask, address),
+                packed::instruction(&plain::read(&mask, address)),
+            )?;
         }
     }
     Ok(())
@@ -233,7 +359,10 @@ fn machine(prng: &mut Prng) -> ht1130::Machine {
         cpu.control.pc = pick(prng, &[0, 4, 8, 0x7FD, 0x7FE, 0x7FF, 0xFFE, 0xFFF]);
     }
     if prng.below(4) == 0 {
-        cpu.cycles = pick(prng, &[0, 2046, 2047, 4095, u32::MAX, u32::MAX - 1, u32::MAX - 20]);
+        cpu.cycles = pick(
+            prng,
+            &[0, 2046, 2047, 4095, u32::MAX, u32::MAX - 1, u32::MAX - 20],
+        );
     }
     if prng.below(6) == 0 {
         cpu.options.rate = plain::EXTERNAL;
@@ -325,10 +454,19 @@ fn event_on_both(m: &mut ht1130::Machine, event: (u16, u16, u8, u8, u8), mask: &
     let library = number(ht1130::apply_kind(m, kind, count, a, b, c, mask));
     let refusal = plain.apply(kind, count, a, b, c, mask).err().unwrap_or(0);
     let what = || {
-        format!("event kind {kind}, count {count}, a {a}, b {b}, c {c}, mask {}\n  before  {before:X?}", hex(mask))
+        format!(
+            "event kind {kind}, count {count}, a {a}, b {b}, c {c}, mask {}\n  before  {before:X?}",
+            hex(mask)
+        )
     };
     same(|| format!("refusal of {}", what()), library, refusal)?;
-    same_machine(what, m, &plain).map_err(|text| if kind == plain::RUN { text + &first_step(before, count, mask) } else { text })
+    same_machine(what, m, &plain).map_err(|text| {
+        if kind == plain::RUN {
+            text + &first_step(before, count, mask)
+        } else {
+            text
+        }
+    })
 }
 
 /// Names the step at which two runs part.
@@ -339,7 +477,12 @@ fn first_step(mut m: ht1130::Machine, count: u16, mask: &[u8]) -> String {
         let _ = ht1130::apply_kind(&mut m, plain::RUN, 1, 0, 0, 0, mask);
         let _ = plain.apply(plain::RUN, 1, 0, 0, 0, mask);
         let code = [mask[pc % MASK], mask[(pc + 1) % MASK]];
-        let what = || format!("\n  parted at step {step}, PC {pc:03X}, code {:02X} {:02X}", code[0], code[1]);
+        let what = || {
+            format!(
+                "\n  parted at step {step}, PC {pc:03X}, code {:02X} {:02X}",
+                code[0], code[1]
+            )
+        };
         if let Err(text) = same_machine(what, &m, &plain) {
             return text;
         }
@@ -359,12 +502,25 @@ fn report_of_both(m: &ht1130::Machine, length: usize) -> Outcome {
 fn any_event(prng: &mut Prng, steps: u16) -> (u16, u16, u8, u8, u8) {
     let kind = match prng.below(16) {
         0 => prng.below(10) as u16,
-        1 => pick(prng, &[0, 1, 7, 8, 9, 255, 256, 258, 259, 262, 512 + 3, 65535]),
+        1 => pick(
+            prng,
+            &[0, 1, 7, 8, 9, 255, 256, 258, 259, 262, 512 + 3, 65535],
+        ),
         2..=6 => plain::RUN,
         _ => 2 + prng.below(5) as u16,
     };
-    let count = if kind == plain::TMCLK { prng.next() as u16 } else { prng.below(steps as u64 + 1) as u16 };
-    let mut value = |bound: u8| if prng.below(12) == 0 { prng.byte() } else { prng.byte() % bound };
+    let count = if kind == plain::TMCLK {
+        prng.next() as u16
+    } else {
+        prng.below(steps as u64 + 1) as u16
+    };
+    let mut value = |bound: u8| {
+        if prng.below(12) == 0 {
+            prng.byte()
+        } else {
+            prng.byte() % bound
+        }
+    };
     let bound = if kind == plain::INT { 2 } else { 16 };
     (kind, count, value(bound), value(bound), value(bound))
 }
@@ -398,7 +554,11 @@ fn single_event(prng: &mut Prng, _: u64) -> Outcome {
     let steps = pick(prng, &[1, 1, 2, 30, 300]);
     let event = any_event(prng, steps);
     // Only Run needs a mask worth making.
-    let mask = if event.0 == plain::RUN { event_mask(prng) } else { vec![0x35; pick(prng, &[0, 1, MASK])] };
+    let mask = if event.0 == plain::RUN {
+        event_mask(prng)
+    } else {
+        vec![0x35; pick(prng, &[0, 1, MASK])]
+    };
     for length in [REPORT - 1, REPORT, REPORT + 1, 0, 200] {
         report_of_both(&m, length)?;
     }
@@ -410,7 +570,14 @@ fn single_event(prng: &mut Prng, _: u64) -> Outcome {
 fn field_out_of_range(prng: &mut Prng, field: u64) -> Outcome {
     let mask = masks::lively(prng);
     let far = prng.next() as u32 | 0x8080;
-    for value in [over(field) - 1, over(field), over(field) + 1, 0xFF, 0xFFFF, far] {
+    for value in [
+        over(field) - 1,
+        over(field),
+        over(field) + 1,
+        0xFF,
+        0xFFFF,
+        far,
+    ] {
         for kind in 0..10 {
             for (length, a) in [(MASK, 1), (MASK - 1, 1), (MASK, 16)] {
                 let mut m = machine(prng);
@@ -448,7 +615,11 @@ fn options(prng: &mut Prng) -> plain::Options {
 }
 
 fn power_on_both(prng: &mut Prng, m: &mut ht1130::Machine) -> Outcome {
-    let length = if prng.below(8) == 0 { pick(prng, &[0, 1, 6, 165, 167, 332, 4096]) } else { IMAGE };
+    let length = if prng.below(8) == 0 {
+        pick(prng, &[0, 1, 6, 165, 167, 332, 4096])
+    } else {
+        IMAGE
+    };
     let mut image: Vec<u8> = (0..length).map(|_| prng.byte() & 15).collect();
     if length > 0 && prng.below(6) == 0 {
         image[prng.below(length as u64) as usize] = 16 | prng.byte();
@@ -458,14 +629,19 @@ fn power_on_both(prng: &mut Prng, m: &mut ht1130::Machine) -> Outcome {
     let mut plain = to_plain(m);
     let library = number(ht1130::power_on(m, library::options(&options), &image));
     let refusal = plain.power_on(options, &image).err().unwrap_or(0);
-    let what = || format!("power-on with {options:?}, image {}\n  before  {before:X?}", hex(&image));
+    let what = || {
+        format!(
+            "power-on with {options:?}, image {}\n  before  {before:X?}",
+            hex(&image)
+        )
+    };
     same(|| format!("refusal of {}", what()), library, refusal)?;
     same_machine(what, m, &plain)
 }
 
 fn power_on(prng: &mut Prng, case: u64) -> Outcome {
     let mut m = machine(prng);
-    if case % 2 == 0 {
+    if case.is_multiple_of(2) {
         for field in 0..FIELDS {
             set(&mut m, field, prng.next() as u32);
         }
@@ -475,7 +651,11 @@ fn power_on(prng: &mut Prng, case: u64) -> Outcome {
 
 /// Many events on one lent record, good and bad; compared after each.
 fn event_list(prng: &mut Prng, _: u64) -> Outcome {
-    let mask = if prng.below(2) == 0 { masks::lively(prng) } else { any_mask(prng) };
+    let mask = if prng.below(2) == 0 {
+        masks::lively(prng)
+    } else {
+        any_mask(prng)
+    };
     let mut m = machine(prng);
     for _ in 0..prng.below(600) {
         if prng.below(40) == 0 {
@@ -496,14 +676,22 @@ fn event_list(prng: &mut Prng, _: u64) -> Outcome {
 fn script_on_both(mask: &[u8], script: &[u8], room: usize) -> Outcome {
     let what = || format!("script {}\n  room {room}, mask {}", hex(script), hex(mask));
     let plain = packed::script(&plain::check_script(mask, script, room));
-    same(|| format!("check of {}", what()), library::check_script(mask, script, room), plain)?;
+    same(
+        || format!("check of {}", what()),
+        library::check_script(mask, script, room),
+        plain,
+    )?;
     if room > 1 << 24 {
         return Ok(());
     }
     let mut out = [vec![0xA5; room], vec![0xA5; room]];
     let library = library::run_script(mask, script, &mut out[0]);
     let plain = plain::run_script(mask, script, &mut out[1]);
-    same(|| format!("answer of {}", what()), library, packed::script(&plain))?;
+    same(
+        || format!("answer of {}", what()),
+        library,
+        packed::script(&plain),
+    )?;
     same_bytes(|| format!("reports of {}", what()), &out[0], &out[1])
 }
 
@@ -513,13 +701,27 @@ fn room(prng: &mut Prng, records: usize) -> usize {
         0 => exact.saturating_sub(1),
         1 => prng.below(exact as u64 + 1) as usize,
         2 => exact + 1 + prng.below(100) as usize,
-        3 => pick(prng, &[0, usize::MAX, usize::MAX - 47, 1 << 32, 1 << 63, (1 << 32) + exact]),
+        3 => pick(
+            prng,
+            &[
+                0,
+                usize::MAX,
+                usize::MAX - 47,
+                1 << 32,
+                1 << 63,
+                (1 << 32) + exact,
+            ],
+        ),
         _ => exact,
     }
 }
 
 fn script_valid(prng: &mut Prng, case: u64) -> Outcome {
-    let mask = if prng.below(30) == 0 { mask_of_wrong_length(prng) } else { any_mask(prng).to_vec() };
+    let mask = if prng.below(30) == 0 {
+        mask_of_wrong_length(prng)
+    } else {
+        any_mask(prng).to_vec()
+    };
     let records = match case {
         0 => 0,
         1..=30 => 1 + case % 3,
@@ -527,13 +729,21 @@ fn script_valid(prng: &mut Prng, case: u64) -> Outcome {
     };
     let steps = pick(prng, &[1, 10, 100, 1000]);
     let steps = if prng.below(200) == 0 { 65535 } else { steps };
-    let script = if records == 0 { Vec::new() } else { script::valid(prng, records, steps).concat() };
+    let script = if records == 0 {
+        Vec::new()
+    } else {
+        script::valid(prng, records, steps).concat()
+    };
     let room = room(prng, records as usize);
     script_on_both(&mask, &script, room)
 }
 
 fn script_damaged(prng: &mut Prng, _: u64) -> Outcome {
-    let mask = if prng.below(30) == 0 { mask_of_wrong_length(prng) } else { any_mask(prng).to_vec() };
+    let mask = if prng.below(30) == 0 {
+        mask_of_wrong_length(prng)
+    } else {
+        any_mask(prng).to_vec()
+    };
     let records = pick(prng, &[1, 2, 3, 5, 10, 30]);
     let mut script = script::valid(prng, records, 20);
     for _ in 0..pick(prng, &[1, 1, 1, 2, 3, 6]) {
@@ -555,7 +765,11 @@ fn script_longest(prng: &mut Prng, case: u64) -> Outcome {
     if case % 4 == 2 {
         script::damage(prng, &mut records);
     }
-    let room = if case % 4 == 3 { room(prng, records.len()) } else { REPORT * records.len() };
+    let room = if case % 4 == 3 {
+        room(prng, records.len())
+    } else {
+        REPORT * records.len()
+    };
     let mut script = records.concat();
     if case % 8 == 4 {
         script.push(0);

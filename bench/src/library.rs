@@ -8,7 +8,13 @@ pub fn to_plain(machine: &ht1130::Machine) -> plain::Machine {
     let cpu = &machine.cpu;
     plain::Machine {
         acc: cpu.registers.acc,
-        r: [cpu.registers.r0, cpu.registers.r1, cpu.registers.r2, cpu.registers.r3, cpu.registers.r4],
+        r: [
+            cpu.registers.r0,
+            cpu.registers.r1,
+            cpu.registers.r2,
+            cpu.registers.r3,
+            cpu.registers.r4,
+        ],
         pc: cpu.control.pc,
         cf: cpu.control.cf,
         tf: cpu.control.tf,
@@ -41,7 +47,13 @@ pub fn to_plain(machine: &ht1130::Machine) -> plain::Machine {
 }
 
 pub fn options(o: &plain::Options) -> ht1130::Options {
-    ht1130::Options { rate: o.rate, commons: o.commons, pm: o.wake_pm, ps: o.wake_ps, pp: o.wake_pp }
+    ht1130::Options {
+        rate: o.rate,
+        commons: o.commons,
+        pm: o.wake_pm,
+        ps: o.wake_ps,
+        pp: o.wake_pp,
+    }
 }
 
 pub fn number(result: Result<(), ht1130::Refusal>) -> u8 {
@@ -55,7 +67,15 @@ pub fn check(mask: &[u8], marks: &mut [u8]) -> u64 {
 
 pub fn check_script(mask: &[u8], script: &[u8], room: usize) -> u64 {
     // SAFETY: both slices are valid for the call.
-    unsafe { ffi::ht1130_check_script(mask.as_ptr(), mask.len(), script.as_ptr(), script.len(), room) }
+    unsafe {
+        ffi::ht1130_check_script(
+            mask.as_ptr(),
+            mask.len(),
+            script.as_ptr(),
+            script.len(),
+            room,
+        )
+    }
 }
 
 pub fn run_script(mask: &[u8], script: &[u8], out: &mut [u8]) -> u64 {
@@ -90,7 +110,9 @@ pub mod packed {
         match result {
             Err(refusal) => *refusal as u64,
             Ok(None) => 0,
-            Ok(Some(f)) => (f.fault as u64) << 8 | (f.level as u64) << 16 | (f.address as u64) << 32,
+            Ok(Some(f)) => {
+                (f.fault as u64) << 8 | (f.level as u64) << 16 | (f.address as u64) << 32
+            }
         }
     }
 

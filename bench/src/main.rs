@@ -27,7 +27,12 @@ fn arguments() -> Option<Arguments> {
         "all" => (true, true),
         _ => return None,
     };
-    let mut arguments = Arguments { diff, speed, seed: 1130, cases: 4000 };
+    let mut arguments = Arguments {
+        diff,
+        speed,
+        seed: 1130,
+        cases: 4000,
+    };
     while let Some(word) = words.next() {
         let value = words.next()?.parse().ok()?;
         match word.as_str() {

@@ -15,46 +15,52 @@ fn with(parts: &[(usize, &[u8])]) -> Mask {
 
 /// Sums, differences and decimal adjustment on a few nibbles of memory.
 pub fn arithmetic() -> Mask {
-    with(&[(0, &[
-        0x50, 0x00, // MOV R1R0,00h
-        0x46, 0x0B, // MOV R4,Bh
-        0x09, // 004: ADD A,[R1R0]
-        0x36, // DAA
-        0x05, // MOV [R1R0],A
-        0x10, // INC R0
-        0x08, // ADC A,[R1R0]
-        0x36, // DAA
-        0x0C, // INC [R1R0]
-        0x0B, // SUB A,[R1R0]
-        0x40, 0x07, // ADD A,7
-        0x0A, // SBC A,[R1R0]
-        0x31, // INC A
-        0x41, 0x03, // SUB A,3
-        0xC8, 0x16, // JNC 016h
-        0x1B, // XOR A,[R1R0]
-        0x01, // RL A
-        0x19, // 016: DEC R4
-        0xD8, 0x04, // JNZ R4,004h
-        0xE0, 0x02, // JMP 002h
-    ])])
+    with(&[(
+        0,
+        &[
+            0x50, 0x00, // MOV R1R0,00h
+            0x46, 0x0B, // MOV R4,Bh
+            0x09, // 004: ADD A,[R1R0]
+            0x36, // DAA
+            0x05, // MOV [R1R0],A
+            0x10, // INC R0
+            0x08, // ADC A,[R1R0]
+            0x36, // DAA
+            0x0C, // INC [R1R0]
+            0x0B, // SUB A,[R1R0]
+            0x40, 0x07, // ADD A,7
+            0x0A, // SBC A,[R1R0]
+            0x31, // INC A
+            0x41, 0x03, // SUB A,3
+            0xC8, 0x16, // JNC 016h
+            0x1B, // XOR A,[R1R0]
+            0x01, // RL A
+            0x19, // 016: DEC R4
+            0xD8, 0x04, // JNZ R4,004h
+            0xE0, 0x02, // JMP 002h
+        ],
+    )])
 }
 
 /// Copies 00h-3Fh to 40h-7Fh through both pointers, for ever.
 pub fn copy() -> Mask {
-    with(&[(0, &[
-        0x50, 0x00, // MOV R1R0,00h
-        0x60, 0x04, // MOV R3R2,40h
-        0x04, // 004: MOV A,[R1R0]
-        0x07, // MOV [R3R2],A
-        0x10, // INC R0
-        0x14, // INC R2
-        0xA0, 0x04, // JNZ R0,004h
-        0x12, // INC R1
-        0x16, // INC R3
-        0x23, // MOV A,R1
-        0x90, 0x00, // JA2 000h
-        0xE0, 0x04, // JMP 004h
-    ])])
+    with(&[(
+        0,
+        &[
+            0x50, 0x00, // MOV R1R0,00h
+            0x60, 0x04, // MOV R3R2,40h
+            0x04, // 004: MOV A,[R1R0]
+            0x07, // MOV [R3R2],A
+            0x10, // INC R0
+            0x14, // INC R2
+            0xA0, 0x04, // JNZ R0,004h
+            0x12, // INC R1
+            0x16, // INC R3
+            0x23, // MOV A,R1
+            0x90, 0x00, // JA2 000h
+            0xE0, 0x04, // JMP 004h
+        ],
+    )])
 }
 
 /// The timer overflows every 16 counts; the handler loads it again.
@@ -63,20 +69,26 @@ pub fn timer() -> Mask {
         (0x00, &[0xE0, 0x10]), // JMP 010h
         (0x04, &[0xE0, 0x20]), // JMP 020h
         (0x08, &[0x2F]),       // RETI
-        (0x10, &[
-            0x50, 0x00, // MOV R1R0,00h
-            0x47, 0xF0, // TIMER F0h
-            0x38, // TIMER ON
-            0x2C, // EI
-            0x31, // 016: INC A
-            0x09, // ADD A,[R1R0]
-            0xE0, 0x16, // JMP 016h
-        ]),
-        (0x20, &[
-            0x47, 0xF0, // TIMER F0h
-            0x0C, // INC [R1R0]
-            0x2F, // RETI
-        ]),
+        (
+            0x10,
+            &[
+                0x50, 0x00, // MOV R1R0,00h
+                0x47, 0xF0, // TIMER F0h
+                0x38, // TIMER ON
+                0x2C, // EI
+                0x31, // 016: INC A
+                0x09, // ADD A,[R1R0]
+                0xE0, 0x16, // JMP 016h
+            ],
+        ),
+        (
+            0x20,
+            &[
+                0x47, 0xF0, // TIMER F0h
+                0x0C, // INC [R1R0]
+                0x2F, // RETI
+            ],
+        ),
     ])
 }
 
@@ -165,7 +177,10 @@ pub fn lively(prng: &mut Prng) -> Mask {
     put(0x008, &[0x0C, 0x2E]); // INC [R1R0]; RET
     put(0x010, &[0x47, prng.byte(), 0x38, 0x2C]); // TIMER XXh; TIMER ON; EI
     for subroutine in 0..16 {
-        put(0xE00 + 16 * subroutine + 14, &[NOP, 0x2E + (prng.byte() & 1)]); // RET or RETI
+        put(
+            0xE00 + 16 * subroutine + 14,
+            &[NOP, 0x2E + (prng.byte() & 1)],
+        ); // RET or RETI
     }
     for _ in 0..200 {
         let at = 0x20 + prng.below(0xD00) as usize;
@@ -205,7 +220,12 @@ pub fn special(n: u64) -> Mask {
         12 => with(&[(0, &[0x3E]), (4095, &[0x37])]), // HALT over the end
         13 => with(&[(0, &[0x05]), (4095, &[0x52])]), // MOV R1R0 over the end
         14 => with(&[(0, &[0xE7, 0xFE]), (0x7FE, &[0xB0, 0x10])]),
-        15 => with(&[(0, &[0x2C, 0xF1, 0x00]), (0x100, &[0x2E]), (4, &[0x2F]), (8, &[0x2F])]),
+        15 => with(&[
+            (0, &[0x2C, 0xF1, 0x00]),
+            (0x100, &[0x2E]),
+            (4, &[0x2F]),
+            (8, &[0x2F]),
+        ]),
         _ => [0xA1; MASK],
     }
 }

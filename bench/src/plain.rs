@@ -100,7 +100,13 @@ impl Machine {
             ps: 0,
             pp: 0,
             int: 0,
-            options: Options { rate: 0, commons: 0, wake_pm: 0, wake_ps: 0, wake_pp: 0 },
+            options: Options {
+                rate: 0,
+                commons: 0,
+                wake_pm: 0,
+                wake_ps: 0,
+                wake_pp: 0,
+            },
             cycles: 0,
             memory: [0; MEMORY],
         }
@@ -146,10 +152,25 @@ impl Machine {
     }
 
     pub fn in_range(&self) -> bool {
-        let small = self.acc | self.r[0] | self.r[1] | self.r[2] | self.r[3] | self.r[4] | self.pa
-            | self.pm | self.ps | self.pp;
-        let flags = self.cf | self.tf | self.running | self.enabled | self.held | self.stack_cf
-            | self.halted | self.mode | self.int;
+        let small = self.acc
+            | self.r[0]
+            | self.r[1]
+            | self.r[2]
+            | self.r[3]
+            | self.r[4]
+            | self.pa
+            | self.pm
+            | self.ps
+            | self.pp;
+        let flags = self.cf
+            | self.tf
+            | self.running
+            | self.enabled
+            | self.held
+            | self.stack_cf
+            | self.halted
+            | self.mode
+            | self.int;
         small <= 15
             && flags <= 1
             && self.pc | self.stack <= 0xFFF
@@ -162,7 +183,15 @@ impl Machine {
     }
 
     /// One event on a lent machine. What the kind does not name is not looked at.
-    pub fn apply(&mut self, kind: u16, count: u16, a: u8, b: u8, c: u8, mask: &[u8]) -> Result<(), Refusal> {
+    pub fn apply(
+        &mut self,
+        kind: u16,
+        count: u16,
+        a: u8,
+        b: u8,
+        c: u8,
+        mask: &[u8],
+    ) -> Result<(), Refusal> {
         if kind == RUN && mask.len() != MASK {
             return Err(1);
         }
@@ -185,7 +214,8 @@ impl Machine {
 
     fn set_pins(&mut self, pm: u8, ps: u8, pp: u8) {
         let o = &self.options;
-        let wakes = self.pm & !pm & o.wake_pm | self.ps & !ps & o.wake_ps | self.pp & !pp & o.wake_pp;
+        let wakes =
+            self.pm & !pm & o.wake_pm | self.ps & !ps & o.wake_ps | self.pp & !pp & o.wake_pp;
         if self.halted != 0 && wakes != 0 {
             self.halted = 0;
             self.held = 1;
@@ -243,7 +273,7 @@ impl Machine {
         if self.running != 0 && self.options.rate != EXTERNAL {
             let before = self.cycles % 2048 * 4;
             let rate = self.options.rate & 15;
-            self.advance((before + 4 * spent >> rate) - (before >> rate));
+            self.advance(((before + 4 * spent) >> rate) - (before >> rate));
         }
         self.cycles = self.cycles.wrapping_add(spent);
     }
@@ -272,7 +302,7 @@ impl Machine {
 
     /// One-byte instructions, and HALT.
     fn short(&mut self, op: u8, mask: &Mask) -> Result<u32, u8> {
-        let next = self.pc + 1 & 0xFFF;
+        let next = (self.pc + 1) & 0xFFF;
         match op {
             0x00 => {
                 self.cf = self.acc & 1;
@@ -300,26 +330,26 @@ impl Machine {
             0x09 => self.add(self.load(), 0),
             0x0A => self.add(15 - self.load(), self.cf),
             0x0B => self.add(15 - self.load(), 1),
-            0x0C => self.store(self.load() + 1 & 15),
-            0x0D => self.store(self.load() + 15 & 15),
+            0x0C => self.store((self.load() + 1) & 15),
+            0x0D => self.store((self.load() + 15) & 15),
             0x0E => {
                 let m = self.load_at(self.r[3], self.r[2]);
-                self.store_at(self.r[3], self.r[2], m + 1 & 15);
+                self.store_at(self.r[3], self.r[2], (m + 1) & 15);
             }
             0x0F => {
                 let m = self.load_at(self.r[3], self.r[2]);
-                self.store_at(self.r[3], self.r[2], m + 15 & 15);
+                self.store_at(self.r[3], self.r[2], (m + 15) & 15);
             }
-            0x10 => self.r[0] = self.r[0] + 1 & 15,
-            0x11 => self.r[0] = self.r[0] + 15 & 15,
-            0x12 => self.r[1] = self.r[1] + 1 & 15,
-            0x13 => self.r[1] = self.r[1] + 15 & 15,
-            0x14 => self.r[2] = self.r[2] + 1 & 15,
-            0x15 => self.r[2] = self.r[2] + 15 & 15,
-            0x16 => self.r[3] = self.r[3] + 1 & 15,
-            0x17 => self.r[3] = self.r[3] + 15 & 15,
-            0x18 => self.r[4] = self.r[4] + 1 & 15,
-            0x19 => self.r[4] = self.r[4] + 15 & 15,
+            0x10 => self.r[0] = (self.r[0] + 1) & 15,
+            0x11 => self.r[0] = (self.r[0] + 15) & 15,
+            0x12 => self.r[1] = (self.r[1] + 1) & 15,
+            0x13 => self.r[1] = (self.r[1] + 15) & 15,
+            0x14 => self.r[2] = (self.r[2] + 1) & 15,
+            0x15 => self.r[2] = (self.r[2] + 15) & 15,
+            0x16 => self.r[3] = (self.r[3] + 1) & 15,
+            0x17 => self.r[3] = (self.r[3] + 15) & 15,
+            0x18 => self.r[4] = (self.r[4] + 1) & 15,
+            0x19 => self.r[4] = (self.r[4] + 15) & 15,
             0x1A => self.acc &= self.load(),
             0x1B => self.acc ^= self.load(),
             0x1C => self.acc |= self.load(),
@@ -352,13 +382,13 @@ impl Machine {
                 return Ok(1);
             }
             0x30 => self.pa = self.acc,
-            0x31 => self.acc = self.acc + 1 & 15,
+            0x31 => self.acc = (self.acc + 1) & 15,
             0x32 => self.acc = self.pm,
             0x33 => self.acc = self.ps,
             0x34 => self.acc = self.pp,
             0x36 => {
                 if self.acc > 9 || self.cf != 0 {
-                    self.acc = self.acc + 6 & 15;
+                    self.acc = (self.acc + 6) & 15;
                     self.cf = 1;
                 }
             }
@@ -367,7 +397,7 @@ impl Machine {
                     return Err(FAULT_UNREADABLE);
                 }
                 self.halted = 1;
-                self.pc = next + 1 & 0xFFF;
+                self.pc = (next + 1) & 0xFFF;
                 return Ok(2);
             }
             0x38 => self.running = 1,
@@ -377,7 +407,7 @@ impl Machine {
             0x3C => self.timer = self.timer & 0xF0 | self.acc,
             0x3D => self.timer = self.timer & 0x0F | self.acc << 4,
             0x3E => {}
-            0x3F => self.acc = self.acc + 15 & 15,
+            0x3F => self.acc = (self.acc + 15) & 15,
             0x48 => self.mode = 0,
             0x49 => self.mode = 1,
             0x4A => self.channel = SOUND_OFF,
@@ -405,7 +435,7 @@ impl Machine {
 
     /// Two-byte instructions of two cycles.
     fn long(&mut self, op: u8, second: u8) -> Result<u32, u8> {
-        let next = self.pc + 2 & 0xFFF;
+        let next = (self.pc + 2) & 0xFFF;
         let target = (op as u16) << 8 | second as u16;
         if op < 0x70 && op != 0x47 && second > 15 {
             return Err(FAULT_UNREADABLE);
@@ -458,7 +488,11 @@ impl Machine {
                 false
             }
         };
-        self.pc = if taken { next & 0x800 | target & 0x7FF } else { next };
+        self.pc = if taken {
+            next & 0x800 | target & 0x7FF
+        } else {
+            next
+        };
         Ok(2)
     }
 
@@ -505,7 +539,14 @@ impl Machine {
         out[..4].copy_from_slice(&[44, 0, 16, 0]);
         out[4..6].copy_from_slice(&self.pc.to_le_bytes());
         out[6..10].copy_from_slice(&self.cycles.to_le_bytes());
-        out[10..16].copy_from_slice(&[self.level, self.halted, self.fault, self.pa, self.channel, self.mode]);
+        out[10..16].copy_from_slice(&[
+            self.level,
+            self.halted,
+            self.fault,
+            self.pa,
+            self.channel,
+            self.mode,
+        ]);
         let lit = match (self.halted, self.options.commons) {
             (1, _) => 0,
             (_, 3) => 7,
@@ -533,7 +574,10 @@ pub struct ScriptRefusal {
 }
 
 fn refuse(refusal: Refusal, offset: usize) -> Result<usize, ScriptRefusal> {
-    Err(ScriptRefusal { refusal, offset: offset as u16 })
+    Err(ScriptRefusal {
+        refusal,
+        offset: offset as u16,
+    })
 }
 
 fn word(bytes: &[u8], at: usize) -> u16 {
@@ -630,7 +674,9 @@ pub fn run_script(mask: &[u8], script: &[u8], out: &mut [u8]) -> Result<usize, S
     let mut machine = Machine::blank();
     for ((_, kind, payload), out) in records(script).zip(out.chunks_exact_mut(REPORT)) {
         match kind {
-            POWER_ON => machine.power_on(options(payload), &[payload[5]; IMAGE]).expect("checked above"),
+            POWER_ON => machine
+                .power_on(options(payload), &[payload[5]; IMAGE])
+                .expect("checked above"),
             RUN => machine.run(word(payload, 0), mask),
             PINS => machine.set_pins(payload[0], payload[1], payload[2]),
             INT => machine.set_int(payload[0]),
@@ -721,10 +767,40 @@ pub fn decode(first: u8, second: u8) -> Option<Instruction> {
     use form::*;
     let low = first & 15;
     let n = first >> 1 & 7;
-    let one = |form, a| Some(Instruction { form, a, b: 0, length: 1, cycles: 1 });
-    let table = |form, a| Some(Instruction { form, a, b: 0, length: 1, cycles: 2 });
-    let two = |form, a, b| Some(Instruction { form, a, b, length: 2, cycles: 2 });
-    let immediate = |form| if second <= 15 { two(form, second, 0) } else { None };
+    let one = |form, a| {
+        Some(Instruction {
+            form,
+            a,
+            b: 0,
+            length: 1,
+            cycles: 1,
+        })
+    };
+    let table = |form, a| {
+        Some(Instruction {
+            form,
+            a,
+            b: 0,
+            length: 1,
+            cycles: 2,
+        })
+    };
+    let two = |form, a, b| {
+        Some(Instruction {
+            form,
+            a,
+            b,
+            length: 2,
+            cycles: 2,
+        })
+    };
+    let immediate = |form| {
+        if second <= 15 {
+            two(form, second, 0)
+        } else {
+            None
+        }
+    };
     match first {
         0x00 => one(RR_A, 0),
         0x01 => one(RL_A, 0),
@@ -781,10 +857,16 @@ pub fn decode(first: u8, second: u8) -> Option<Instruction> {
         0x4B => one(SOUND_A, 0),
         0x4C | 0x4D => table(READ_R4A, first & 1),
         0x4E | 0x4F => table(READ_MR0A, first & 1),
-        0x50..=0x6F if second <= 15 => two(MOV_PAIR_XX, (first >> 4) - 5, (second << 4 | low) as u16),
+        0x50..=0x6F if second <= 15 => {
+            two(MOV_PAIR_XX, (first >> 4) - 5, (second << 4 | low) as u16)
+        }
         0x50..=0x6F => None,
         0x70..=0x7F => one(MOV_A_X, low),
-        0x80..=0xDF => two(BRANCH, (first >> 3) - 16, ((first & 7) as u16) << 8 | second as u16),
+        0x80..=0xDF => two(
+            BRANCH,
+            (first >> 3) - 16,
+            ((first & 7) as u16) << 8 | second as u16,
+        ),
         0xE0..=0xEF => two(JMP, 0, (low as u16) << 8 | second as u16),
         0xF0..=0xFF => two(CALL, 0, (low as u16) << 8 | second as u16),
     }
@@ -804,10 +886,20 @@ pub fn encode(form: u8, a: u8, b: u16) -> Result<(u8, u8, u8), Refusal> {
     use form::*;
     let one = |code| Ok((1, code, 0));
     let with = |limit: u8, first: u8, stride: u8| {
-        if a <= limit { Ok((1, first + stride * a, 0)) } else { Err(3) }
+        if a <= limit {
+            Ok((1, first + stride * a, 0))
+        } else {
+            Err(3)
+        }
     };
     let immediate = |code| if a <= 15 { Ok((2, code, a)) } else { Err(3) };
-    let jump = |code: u8| if b <= 0xFFF { Ok((2, code | (b >> 8) as u8, b as u8)) } else { Err(3) };
+    let jump = |code: u8| {
+        if b <= 0xFFF {
+            Ok((2, code | (b >> 8) as u8, b as u8))
+        } else {
+            Err(3)
+        }
+    };
     match form {
         ADD_A_M => one(0x09),
         ADC_A_M => one(0x08),
@@ -836,7 +928,9 @@ pub fn encode(form: u8, a: u8, b: u16) -> Result<(u8, u8, u8), Refusal> {
         MOV_A_PAIR => with(1, 0x04, 2),
         MOV_PAIR_A => with(1, 0x05, 2),
         MOV_A_X => with(15, 0x70, 1),
-        MOV_PAIR_XX if a <= 1 && b <= 0xFF => Ok((2, 0x50 + 16 * a + (b & 15) as u8, (b >> 4) as u8)),
+        MOV_PAIR_XX if a <= 1 && b <= 0xFF => {
+            Ok((2, 0x50 + 16 * a + (b & 15) as u8, (b >> 4) as u8))
+        }
         MOV_R4_X => immediate(0x46),
         RL_A => one(0x01),
         RLC_A => one(0x03),
@@ -903,7 +997,7 @@ pub fn check(mask: &[u8], marks: &mut [u8]) -> Result<Option<Failure>, Refusal> 
         let target = (first as u16) << 8 | second as u16;
         let fault = match first {
             0x80..=0xDF => {
-                let next = address + 2 & 0xFFF;
+                let next = (address + 2) & 0xFFF;
                 reach(&mut work, next & 0x800 | target & 0x7FF, level);
                 reach(&mut work, next, level);
                 0
@@ -914,7 +1008,7 @@ pub fn check(mask: &[u8], marks: &mut [u8]) -> Result<Option<Failure>, Refusal> 
             }
             0xF0..=0xFF if level == 0 => {
                 reach(&mut work, target & 0xFFF, 1);
-                reach(&mut work, address + 2 & 0xFFF, 0);
+                reach(&mut work, (address + 2) & 0xFFF, 0);
                 0
             }
             0xF0..=0xFF => FAULT_CALL,
@@ -927,13 +1021,21 @@ pub fn check(mask: &[u8], marks: &mut [u8]) -> Result<Option<Failure>, Refusal> 
                         reach(&mut work, 4, 2);
                         reach(&mut work, 8, 2);
                     }
-                    reach(&mut work, address + instruction.length as u16 & 0xFFF, level);
+                    reach(
+                        &mut work,
+                        (address + instruction.length as u16) & 0xFFF,
+                        level,
+                    );
                     0
                 }
             },
         };
         if fault != 0 && lowest.is_none_or(|l| (address, level) < (l.address, l.level)) {
-            lowest = Some(Failure { fault, address, level });
+            lowest = Some(Failure {
+                fault,
+                address,
+                level,
+            });
         }
     }
     Ok(lowest)
@@ -943,7 +1045,13 @@ pub fn check(mask: &[u8], marks: &mut [u8]) -> Result<Option<Failure>, Refusal> 
 mod tests {
     use super::*;
 
-    const OPTIONS: Options = Options { rate: 2, commons: 4, wake_pm: 0, wake_ps: 0, wake_pp: 0 };
+    const OPTIONS: Options = Options {
+        rate: 2,
+        commons: 4,
+        wake_pm: 0,
+        wake_ps: 0,
+        wake_pp: 0,
+    };
 
     fn machine() -> Machine {
         let mut machine = Machine::blank();
@@ -968,15 +1076,38 @@ mod tests {
 
     #[test]
     fn sums() {
-        let m = step(Machine { acc: 9, ..machine() }, &[0x40, 8]);
+        let m = step(
+            Machine {
+                acc: 9,
+                ..machine()
+            },
+            &[0x40, 8],
+        );
         assert_eq!((m.acc, m.cf), (1, 1));
-        let mut m = Machine { acc: 15, cf: 1, ..machine() };
+        let mut m = Machine {
+            acc: 15,
+            cf: 1,
+            ..machine()
+        };
         m.memory[0] = 15;
         let m = step(m, &[0x08]);
         assert_eq!((m.acc, m.cf), (15, 1));
-        let m = step(Machine { acc: 4, cf: 1, ..machine() }, &[0x36]);
+        let m = step(
+            Machine {
+                acc: 4,
+                cf: 1,
+                ..machine()
+            },
+            &[0x36],
+        );
         assert_eq!((m.acc, m.cf), (10, 1));
-        let m = step(Machine { acc: 9, ..machine() }, &[0x36]);
+        let m = step(
+            Machine {
+                acc: 9,
+                ..machine()
+            },
+            &[0x36],
+        );
         assert_eq!((m.acc, m.cf), (9, 0));
         let m = step(machine(), &[0x3F]);
         assert_eq!(m.acc, 15);
@@ -984,15 +1115,31 @@ mod tests {
 
     #[test]
     fn borrow_is_carry_0() {
-        let m = step(Machine { acc: 3, ..machine() }, &[0x41, 3]);
+        let m = step(
+            Machine {
+                acc: 3,
+                ..machine()
+            },
+            &[0x41, 3],
+        );
         assert_eq!((m.acc, m.cf), (0, 1));
-        let m = step(Machine { acc: 3, ..machine() }, &[0x41, 4]);
+        let m = step(
+            Machine {
+                acc: 3,
+                ..machine()
+            },
+            &[0x41, 4],
+        );
         assert_eq!((m.acc, m.cf), (15, 0));
     }
 
     #[test]
     fn memory_that_is_not_there() {
-        let m = Machine { acc: 5, r: [0, 8, 0, 0, 0], ..machine() };
+        let m = Machine {
+            acc: 5,
+            r: [0, 8, 0, 0, 0],
+            ..machine()
+        };
         let stored = step(m, &[0x05]);
         assert_eq!(stored.memory, m.memory);
         assert_eq!(step(stored, &[0x3E, 0x04]).acc, 5);
@@ -1001,29 +1148,66 @@ mod tests {
 
     #[test]
     fn branches_keep_bit_11_of_the_moved_pc() {
-        assert_eq!(step(Machine { pc: 0x7FE, ..machine() }, &[0xB0, 0x10]).pc, 0x810);
-        assert_eq!(step(Machine { pc: 0x7FD, ..machine() }, &[0xB0, 0x10]).pc, 0x010);
+        assert_eq!(
+            step(
+                Machine {
+                    pc: 0x7FE,
+                    ..machine()
+                },
+                &[0xB0, 0x10]
+            )
+            .pc,
+            0x810
+        );
+        assert_eq!(
+            step(
+                Machine {
+                    pc: 0x7FD,
+                    ..machine()
+                },
+                &[0xB0, 0x10]
+            )
+            .pc,
+            0x010
+        );
     }
 
     #[test]
     fn read_takes_the_moved_page() {
         let mut mask = mask_at(0x1FF, &[0x4C]);
         mask[0x200] = 0xA5;
-        let mut m = Machine { pc: 0x1FF, ..machine() };
+        let mut m = Machine {
+            pc: 0x1FF,
+            ..machine()
+        };
         m.apply(RUN, 1, 0, 0, 0, &mask).unwrap();
         assert_eq!((m.r[4], m.acc, m.cycles), (10, 5, 2));
     }
 
     #[test]
     fn timer_passes_255() {
-        let mut m = Machine { timer: 254, running: 1, ..machine() };
+        let mut m = Machine {
+            timer: 254,
+            running: 1,
+            ..machine()
+        };
         m.apply(RUN, 2, 0, 0, 0, &[0x3E; MASK]).unwrap();
         assert_eq!((m.timer, m.tf), (0, 1));
     }
 
     #[test]
     fn held_edge_goes_first() {
-        let m = step(Machine { enabled: 1, held: 1, tf: 1, pc: 0x123, cf: 1, ..machine() }, &[]);
+        let m = step(
+            Machine {
+                enabled: 1,
+                held: 1,
+                tf: 1,
+                pc: 0x123,
+                cf: 1,
+                ..machine()
+            },
+            &[],
+        );
         assert_eq!((m.pc, m.held, m.tf, m.level, m.cycles), (8, 0, 1, 2, 2));
         assert_eq!((m.stack, m.stack_cf), (0x123, 1));
     }
@@ -1039,7 +1223,12 @@ mod tests {
     #[test]
     fn faults_leave_the_rest() {
         let before = machine();
-        for (code, fault) in [(&[0x35][..], 1), (&[0x40, 0x15], 1), (&[0x2E], 3), (&[0x2F], 3)] {
+        for (code, fault) in [
+            (&[0x35][..], 1),
+            (&[0x40, 0x15], 1),
+            (&[0x2E], 3),
+            (&[0x2F], 3),
+        ] {
             assert_eq!(step(before, code), Machine { fault, ..before });
         }
         let before = Machine { level: 1, ..before };
@@ -1051,10 +1240,28 @@ mod tests {
         let mut marks = [0; MASK];
         assert_eq!(check(&[0x3E; MASK], &mut marks), Ok(None));
         assert!(marks.iter().all(|&mark| mark == 1));
-        let failure = check(&mask_at(0, &[0x40, 0x15]), &mut marks).unwrap().unwrap();
-        assert_eq!(failure, Failure { fault: 1, address: 0, level: 0 });
-        let failure = check(&mask_at(0, &[0xF0, 0x10]), &mut marks).unwrap().unwrap();
-        assert_eq!(failure, Failure { fault: 2, address: 0, level: 1 });
+        let failure = check(&mask_at(0, &[0x40, 0x15]), &mut marks)
+            .unwrap()
+            .unwrap();
+        assert_eq!(
+            failure,
+            Failure {
+                fault: 1,
+                address: 0,
+                level: 0
+            }
+        );
+        let failure = check(&mask_at(0, &[0xF0, 0x10]), &mut marks)
+            .unwrap()
+            .unwrap();
+        assert_eq!(
+            failure,
+            Failure {
+                fault: 2,
+                address: 0,
+                level: 1
+            }
+        );
         check(&mask_at(0, &[0xE1, 0x00]), &mut marks).unwrap();
         assert_eq!((marks[4], marks[8]), (0, 0));
     }
@@ -1066,8 +1273,14 @@ mod tests {
         let mut out = [0; 96];
         assert_eq!(run_script(&mask, &script, &mut out), Ok(2));
         let hex = |bytes: &[u8]| bytes.iter().map(|b| format!("{b:02X}")).collect::<String>();
-        assert_eq!(hex(&out[..48]), format!("2C0010000000000000000000000F1000{:064}", 0));
-        assert_eq!(hex(&out[48..]), format!("2C001000020002000000000000051000{:064}", 0));
+        assert_eq!(
+            hex(&out[..48]),
+            format!("2C0010000000000000000000000F1000{:064}", 0)
+        );
+        assert_eq!(
+            hex(&out[48..]),
+            format!("2C001000020002000000000000051000{:064}", 0)
+        );
     }
 
     #[test]
@@ -1077,7 +1290,10 @@ mod tests {
         assert_eq!(m.apply(RUN, 1, 0, 0, 0, &mask[1..]), Err(1));
         assert_eq!(m.power_on(OPTIONS, &[16; 165]), Err(2));
         assert_eq!(m.apply(PINS, 0, 16, 0, 0, &[]), Err(3));
-        assert_eq!(m.power_on(Options { rate: 6, ..OPTIONS }, &[0; IMAGE]), Err(4));
+        assert_eq!(
+            m.power_on(Options { rate: 6, ..OPTIONS }, &[0; IMAGE]),
+            Err(4)
+        );
         assert_eq!(m, machine());
         m.pc = 4096;
         assert_eq!(m.apply(RES, 0, 0, 0, 0, &[]), Err(5));
@@ -1090,7 +1306,10 @@ mod tests {
         assert_eq!(refused(&power, 47), at(9, 0));
         let two = |tail: &[u8]| [&power[..], tail].concat();
         assert_eq!(refused(&two(&[1, 0, 4, 0, 2]), 96), at(3, 10));
-        assert_eq!(refused(&two(&[6, 0, 1, 0, 6, 4, 0, 0, 0, 0]), 96), at(4, 10));
+        assert_eq!(
+            refused(&two(&[6, 0, 1, 0, 6, 4, 0, 0, 0, 0]), 96),
+            at(4, 10)
+        );
         assert_eq!(refused(&two(&[1, 0, 9, 0, 2]), 96), at(7, 10));
         assert_eq!(refused(&two(&[2, 0, 9, 0, 2]), 96), at(6, 10));
     }

@@ -29,7 +29,10 @@ pub fn power_on(prng: &mut Prng) -> Vec<u8> {
 fn event(prng: &mut Prng, steps: u16) -> Vec<u8> {
     match prng.below(8) {
         0..=2 => record(RUN, &(prng.below(steps as u64 + 1) as u16).to_le_bytes()),
-        3 | 4 => record(PINS, &[prng.byte() & 15, prng.byte() & 15, prng.byte() & 15]),
+        3 | 4 => record(
+            PINS,
+            &[prng.byte() & 15, prng.byte() & 15, prng.byte() & 15],
+        ),
         5 => record(INT, &[prng.byte() & 1]),
         6 => record(TMCLK, &(prng.next() as u16).to_le_bytes()),
         _ => record(RES, &[]),
@@ -40,7 +43,11 @@ fn event(prng: &mut Prng, steps: u16) -> Vec<u8> {
 pub fn valid(prng: &mut Prng, records: u64, steps: u16) -> Vec<Vec<u8>> {
     let mut script = vec![power_on(prng)];
     for _ in 1..records {
-        let next = if prng.below(24) == 0 { power_on(prng) } else { event(prng, steps) };
+        let next = if prng.below(24) == 0 {
+            power_on(prng)
+        } else {
+            event(prng, steps)
+        };
         script.push(next);
     }
     script
@@ -86,11 +93,13 @@ pub fn damage(prng: &mut Prng, script: &mut Vec<Vec<u8>>) {
                 script.push(Vec::new());
             }
         }
-        9 => *record = self::record(PINS, &{
-            let mut pins = [1; 3];
-            pins[prng.below(3) as usize] = bad;
-            pins
-        }),
+        9 => {
+            *record = self::record(PINS, &{
+                let mut pins = [1; 3];
+                pins[prng.below(3) as usize] = bad;
+                pins
+            })
+        }
         10 => *record = self::record(INT, &[[2, 3, 128, 255][prng.below(4) as usize]]),
         11 => {
             let mut broken = power_on(prng);

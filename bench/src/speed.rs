@@ -12,11 +12,20 @@ use std::time::{Duration, Instant};
 /// Many short turns: others use the machine too.
 const TURNS: usize = 41;
 
-const OPTIONS: plain::Options = plain::Options { rate: 2, commons: 4, wake_pm: 15, wake_ps: 15, wake_pp: 15 };
+const OPTIONS: plain::Options = plain::Options {
+    rate: 2,
+    commons: 4,
+    wake_pm: 15,
+    wake_ps: 15,
+    wake_pp: 15,
+};
 
 pub fn run() {
     println!("speed: least of {TURNS} turns; machines powered on and buffers cleared before each run, untimed");
-    println!("{:<44}{:>12}{:>12}{:>8}", "", "plain ns", "library ns", "ratio");
+    println!(
+        "{:<44}{:>12}{:>12}{:>8}",
+        "", "plain ns", "library ns", "ratio"
+    );
     let runs = [
         ("arithmetic", masks::arithmetic()),
         ("memory copy", masks::copy()),
@@ -29,7 +38,10 @@ pub fn run() {
     let mut prng = Prng::new(1130);
     let checked = [
         ("random bytes", far_reaching(&mut prng)),
-        ("random instructions", masks::random_instructions(&mut prng, false)),
+        (
+            "random instructions",
+            masks::random_instructions(&mut prng, false),
+        ),
         ("worst mask", masks::worst()),
     ];
     for (name, mask) in &checked {
@@ -37,7 +49,9 @@ pub fn run() {
     }
     script_row();
     event_row("apply RES, a call", |n| (plain::RES, [n as u8, 0, 0]));
-    event_row("apply pins, a call", |n| (plain::PINS, [n as u8 & 15, (n >> 4) as u8 & 15, 15]));
+    event_row("apply pins, a call", |n| {
+        (plain::PINS, [n as u8 & 15, (n >> 4) as u8 & 15, 15])
+    });
     event_row("apply Run of 0 steps, a call", |_| (plain::RUN, [0; 3]));
     println!("aims: Run at most 3 times plain, the checker at most 2");
 }
@@ -59,14 +73,22 @@ fn pairs(mask: &Mask) -> u64 {
     marks.iter().map(|mark| mark.count_ones() as u64).sum()
 }
 
-fn row(name: &str, units: u64, mut plain: impl FnMut() -> Duration, mut library: impl FnMut() -> Duration) {
+fn row(
+    name: &str,
+    units: u64,
+    mut plain: impl FnMut() -> Duration,
+    mut library: impl FnMut() -> Duration,
+) {
     let mut least = [Duration::MAX; 2];
     for _ in 0..TURNS {
         least[0] = least[0].min(plain());
         least[1] = least[1].min(library());
     }
     let [plain, library] = least.map(|time| time.as_nanos() as f64 / units as f64);
-    println!("{name:<44}{plain:>12.3}{library:>12.3}{:>8.2}", library / plain);
+    println!(
+        "{name:<44}{plain:>12.3}{library:>12.3}{:>8.2}",
+        library / plain
+    );
 }
 
 fn timed(work: impl FnOnce()) -> Duration {
@@ -78,8 +100,11 @@ fn timed(work: impl FnOnce()) -> Duration {
 fn powered() -> (plain::Machine, ht1130::Machine) {
     let mut plain = plain::Machine::blank();
     let mut library = ht1130::Machine::blank();
-    plain.power_on(OPTIONS, &[5; IMAGE]).expect("options in range");
-    ht1130::power_on(&mut library, library::options(&OPTIONS), &[5; IMAGE]).expect("options in range");
+    plain
+        .power_on(OPTIONS, &[5; IMAGE])
+        .expect("options in range");
+    ht1130::power_on(&mut library, library::options(&OPTIONS), &[5; IMAGE])
+        .expect("options in range");
     (plain, library)
 }
 
@@ -94,7 +119,8 @@ fn run_row(name: &str, mask: &Mask) {
             ours = powered().0;
             timed(|| {
                 for _ in 0..RUNS {
-                    ours.apply(plain::RUN, STEPS, 0, 0, 0, black_box(mask)).expect("a valid machine");
+                    ours.apply(plain::RUN, STEPS, 0, 0, 0, black_box(mask))
+                        .expect("a valid machine");
                 }
             })
         },
@@ -102,7 +128,8 @@ fn run_row(name: &str, mask: &Mask) {
             theirs = powered().1;
             timed(|| {
                 for _ in 0..RUNS {
-                    ht1130::apply_kind(&mut theirs, plain::RUN, STEPS, 0, 0, 0, black_box(mask)).expect("a valid machine");
+                    ht1130::apply_kind(&mut theirs, plain::RUN, STEPS, 0, 0, 0, black_box(mask))
+                        .expect("a valid machine");
                 }
             })
         },
@@ -132,12 +159,18 @@ fn check_row(name: &str, mask: &Mask) {
             (0..CHECKS)
                 .map(|_| {
                     theirs.fill(0);
-                    timed(|| their_verdict = library::check(black_box(mask), black_box(&mut theirs)))
+                    timed(|| {
+                        their_verdict = library::check(black_box(mask), black_box(&mut theirs))
+                    })
                 })
                 .sum()
         },
     );
-    assert_eq!(their_verdict, packed::verdict(&our_verdict), "{name}: the verdicts differ");
+    assert_eq!(
+        their_verdict,
+        packed::verdict(&our_verdict),
+        "{name}: the verdicts differ"
+    );
     assert_eq!(theirs, ours, "{name}: the marks differ");
 }
 
@@ -159,12 +192,16 @@ fn script_row() {
         || {
             ours.fill(0);
             timed(|| {
-                plain::run_script(black_box(&mask), black_box(&script), &mut ours).expect("a valid script");
+                plain::run_script(black_box(&mask), black_box(&script), &mut ours)
+                    .expect("a valid script");
             })
         },
         || {
             theirs.fill(0);
-            timed(|| ht1130::run_script(black_box(&mask), black_box(&script), &mut theirs).expect("a valid script"))
+            timed(|| {
+                ht1130::run_script(black_box(&mask), black_box(&script), &mut theirs)
+                    .expect("a valid script")
+            })
         },
     );
     assert_eq!(theirs, ours, "the reports differ");
@@ -182,7 +219,8 @@ fn event_row(name: &str, event: fn(u32) -> (u16, [u8; 3])) {
             timed(|| {
                 for n in 0..CALLS {
                     let (kind, [a, b, c]) = event(n);
-                    ours.apply(black_box(kind), 0, a, b, c, &mask).expect("a valid machine");
+                    ours.apply(black_box(kind), 0, a, b, c, &mask)
+                        .expect("a valid machine");
                 }
             })
         },
@@ -191,7 +229,8 @@ fn event_row(name: &str, event: fn(u32) -> (u16, [u8; 3])) {
             timed(|| {
                 for n in 0..CALLS {
                     let (kind, [a, b, c]) = event(n);
-                    ht1130::apply_kind(&mut theirs, black_box(kind), 0, a, b, c, &mask).expect("a valid machine");
+                    ht1130::apply_kind(&mut theirs, black_box(kind), 0, a, b, c, &mask)
+                        .expect("a valid machine");
                 }
             })
         },

@@ -30,7 +30,11 @@ fn check_and_run(mask: &[u8], script: &[u8]) -> Result<(), Box<dyn Error>> {
     let mut marks = [0; MASK];
     match ht1130::check(mask, &mut marks)? {
         Verdict::Passed => println!("mask passed"),
-        Verdict::Failed { fault, address, level } => {
+        Verdict::Failed {
+            fault,
+            address,
+            level,
+        } => {
             println!("mask may fault with {fault} at {address:03X} in level {level}")
         }
     }
@@ -48,7 +52,12 @@ fn check_and_run(mask: &[u8], script: &[u8]) -> Result<(), Box<dyn Error>> {
 fn print_report(report: &[u8; REPORT]) {
     let pc = u16::from_le_bytes([report[4], report[5]]);
     let cycles = u32::from_le_bytes([report[6], report[7], report[8], report[9]]);
-    let [level, halted, fault, pa, channel, mode] = report[10..16] else { unreachable!("six bytes") };
-    let display: String = report[16..].iter().map(|nibble| format!("{nibble:X}")).collect();
+    let [level, halted, fault, pa, channel, mode] = report[10..16] else {
+        unreachable!("six bytes")
+    };
+    let display: String = report[16..]
+        .iter()
+        .map(|nibble| format!("{nibble:X}"))
+        .collect();
     println!("PC {pc:03X} cycles {cycles} level {level} halted {halted} fault {fault} PA {pa:X} sound {channel}/{mode} {display}");
 }

@@ -155,7 +155,13 @@ pub struct Options {
 
 impl Default for Options {
     fn default() -> Options {
-        Options { rate: 0, commons: 4, pm: 0, ps: 0, pp: 0 }
+        Options {
+            rate: 0,
+            commons: 4,
+            pm: 0,
+            ps: 0,
+            pp: 0,
+        }
     }
 }
 
@@ -203,15 +209,54 @@ impl Machine {
     pub const fn blank() -> Machine {
         Machine {
             cpu: Cpu {
-                registers: Registers { acc: 0, r0: 0, r1: 0, r2: 0, r3: 0, r4: 0 },
-                control: Control { pc: 0, cf: 0, tf: 0 },
-                timer: Timer { count: 0, running: 0 },
-                interrupts: Interrupts { enabled: 0, held: 0, level: 0 },
-                stack: Stack { address: 0, carry: 0 },
-                status: Status { halted: 0, fault: 0 },
-                outputs: Outputs { pa: 0, channel: 0, mode: 0 },
-                pins: Pins { pm: 0, ps: 0, pp: 0, intr: 0 },
-                options: Options { rate: 0, commons: 0, pm: 0, ps: 0, pp: 0 },
+                registers: Registers {
+                    acc: 0,
+                    r0: 0,
+                    r1: 0,
+                    r2: 0,
+                    r3: 0,
+                    r4: 0,
+                },
+                control: Control {
+                    pc: 0,
+                    cf: 0,
+                    tf: 0,
+                },
+                timer: Timer {
+                    count: 0,
+                    running: 0,
+                },
+                interrupts: Interrupts {
+                    enabled: 0,
+                    held: 0,
+                    level: 0,
+                },
+                stack: Stack {
+                    address: 0,
+                    carry: 0,
+                },
+                status: Status {
+                    halted: 0,
+                    fault: 0,
+                },
+                outputs: Outputs {
+                    pa: 0,
+                    channel: 0,
+                    mode: 0,
+                },
+                pins: Pins {
+                    pm: 0,
+                    ps: 0,
+                    pp: 0,
+                    intr: 0,
+                },
+                options: Options {
+                    rate: 0,
+                    commons: 0,
+                    pm: 0,
+                    ps: 0,
+                    pp: 0,
+                },
                 cycles: 0,
             },
             memory: [0; 160],
@@ -354,7 +399,7 @@ pub enum Verdict {
     },
 }
 
-/// An instruction, by the numbers that `ht1130.h` lists.
+/// An instruction, by the numbers of [`form`].
 #[derive(Clone, Copy, PartialEq, Eq, Hash, Debug)]
 pub struct Instruction {
     /// The line of the data sheet's instruction summary.
@@ -367,6 +412,42 @@ pub struct Instruction {
     pub length: u8,
     /// Machine cycles.
     pub cycles: u8,
+}
+
+/// Constants numbered from 0, and their names.
+macro_rules! numbered {
+    ($($name:ident)*) => {
+        #[allow(non_camel_case_types, clippy::upper_case_acronyms)]
+        enum Order { $($name),* }
+        $(#[allow(missing_docs)] pub const $name: u8 = Order::$name as u8;)*
+        /// The names, by number.
+        pub const NAMES: &[&str] = &[$(stringify!($name)),*];
+    };
+}
+
+/// The forms of [`Instruction::form`]: the lines of the data sheet's instruction
+/// summary, in its order. M is the memory at R1R0.
+///
+/// Operands, in a: X a nibble, RN a register 0-4, XX a byte, PAIR (0 R1R0, 1
+/// R3R2), PORT (0 PM, 1 PS, 2 PP), PAGE (0 the current, 1 page 15). A target is
+/// in b, and so is XX of `MOV_PAIR_XX`. `BRANCH` has a [`branch`]
+/// in a.
+pub mod form {
+    numbered! {
+        ADD_A_M ADC_A_M SUB_A_M SBC_A_M ADD_A_X SUB_A_X DAA AND_A_M OR_A_M XOR_A_M AND_M_A OR_M_A
+        XOR_M_A AND_A_X OR_A_X XOR_A_X INC_A INC_RN INC_PAIR DEC_A DEC_RN DEC_PAIR MOV_A_RN MOV_RN_A
+        MOV_A_PAIR MOV_PAIR_A MOV_A_X MOV_PAIR_XX MOV_R4_X RL_A RLC_A RR_A RRC_A IN_A_PORT OUT_PA_A
+        JMP BRANCH CALL RET RETI CLC STC EI DI NOP TIMER_XX TIMER_ON TIMER_OFF MOV_A_TMRL MOV_A_TMRH
+        MOV_TMRL_A MOV_TMRH_A READ_R4A_PAGE READ_MR0A_PAGE SOUND_X SOUND_A SOUND_ONE SOUND_LOOP
+        SOUND_OFF HALT
+    }
+}
+
+/// What a `BRANCH` tests: the five leading bits of its code less 16.
+pub mod branch {
+    numbered! {
+        JA0 JA1 JA2 JA3 JNZ_R0 JNZ_R1 JZ_A JNZ_A JC JNC JTMR JNZ_R4
+    }
 }
 
 /// The bytes of an instruction; dereferences to a slice of one or two.
@@ -411,7 +492,12 @@ pub mod ffi {
             mask_len: usize,
         ) -> u8;
         pub fn ht1130_report(machine: *const Machine, out: *mut u8, out_len: usize) -> u8;
-        pub fn ht1130_check(mask: *const u8, mask_len: usize, marks: *mut u8, marks_len: usize) -> u64;
+        pub fn ht1130_check(
+            mask: *const u8,
+            mask_len: usize,
+            marks: *mut u8,
+            marks_len: usize,
+        ) -> u64;
         pub fn ht1130_check_script(
             mask: *const u8,
             mask_len: usize,
@@ -451,9 +537,26 @@ fn high(answer: u64) -> u16 {
 ///
 /// Refused: `BufferLength`, `Value`, `Option`.
 pub fn power_on(machine: &mut Machine, options: Options, image: &[u8]) -> Result<(), Refusal> {
-    let Options { rate, commons, pm, ps, pp } = options;
+    let Options {
+        rate,
+        commons,
+        pm,
+        ps,
+        pp,
+    } = options;
     // SAFETY: the record and the slice are valid for the call and cannot overlap.
-    accepted(unsafe { ffi::ht1130_power_on(machine, rate, commons, pm, ps, pp, image.as_ptr(), image.len()) })
+    accepted(unsafe {
+        ffi::ht1130_power_on(
+            machine,
+            rate,
+            commons,
+            pm,
+            ps,
+            pp,
+            image.as_ptr(),
+            image.len(),
+        )
+    })
 }
 
 /// Applies an event to a machine. Only `Run` looks at the mask; the others take
@@ -510,16 +613,24 @@ pub fn report_bytes(machine: &Machine) -> Result<[u8; REPORT], Refusal> {
 /// Refused: `MaskLength`, `BufferLength`.
 pub fn check(mask: &[u8], marks: &mut [u8]) -> Result<Verdict, Refusal> {
     // SAFETY: both slices are valid for the call and cannot overlap.
-    let answer = unsafe { ffi::ht1130_check(mask.as_ptr(), mask.len(), marks.as_mut_ptr(), marks.len()) };
+    let answer =
+        unsafe { ffi::ht1130_check(mask.as_ptr(), mask.len(), marks.as_mut_ptr(), marks.len()) };
     accepted(part(answer, 0))?;
     Ok(match part(answer, 1) {
         0 => Verdict::Passed,
-        fault => Verdict::Failed { fault, address: high(answer), level: part(answer, 2) },
+        fault => Verdict::Failed {
+            fault,
+            address: high(answer),
+            level: part(answer, 2),
+        },
     })
 }
 
 fn script_answer(answer: u64) -> Result<(), ScriptRefusal> {
-    accepted(part(answer, 0)).map_err(|refusal| ScriptRefusal { refusal, offset: high(answer) })
+    accepted(part(answer, 0)).map_err(|refusal| ScriptRefusal {
+        refusal,
+        offset: high(answer),
+    })
 }
 
 /// Checks a whole script for a report buffer of `room` bytes; runs nothing.
@@ -528,7 +639,13 @@ fn script_answer(answer: u64) -> Result<(), ScriptRefusal> {
 pub fn check_script(mask: &[u8], script: &[u8], room: usize) -> Result<(), ScriptRefusal> {
     // SAFETY: both slices are valid for the call.
     script_answer(unsafe {
-        ffi::ht1130_check_script(mask.as_ptr(), mask.len(), script.as_ptr(), script.len(), room)
+        ffi::ht1130_check_script(
+            mask.as_ptr(),
+            mask.len(),
+            script.as_ptr(),
+            script.len(),
+            room,
+        )
     })
 }
 
@@ -584,5 +701,8 @@ pub fn write(form: u8, a: u8, b: u16) -> Result<Code, Refusal> {
     // SAFETY: numbers only.
     let answer = unsafe { ffi::ht1130_write(form, a, b) };
     accepted(part(answer, 0))?;
-    Ok(Code { bytes: [part(answer, 2), part(answer, 3)], length: part(answer, 1) })
+    Ok(Code {
+        bytes: [part(answer, 2), part(answer, 3)],
+        length: part(answer, 1),
+    })
 }

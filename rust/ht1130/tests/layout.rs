@@ -67,7 +67,11 @@ fn c_and_rust_agree() {
          #define M ht1130_machine\n\
          int main(void) {\n    printf(\"size %zu\\nalign %zu\\n\", sizeof(M), alignof(M));\n",
     );
-    let mut expected = format!("size {}\nalign {}\n", size_of::<Machine>(), align_of::<Machine>());
+    let mut expected = format!(
+        "size {}\nalign {}\n",
+        size_of::<Machine>(),
+        align_of::<Machine>()
+    );
     for (name, offset, size) in rust_fields() {
         body += &format!(
             "    printf(\"{name} %zu %zu\\n\", offsetof(M, {name}), sizeof ((M *)0)->{name});\n"
@@ -77,6 +81,48 @@ fn c_and_rust_agree() {
     body += "    return 0;\n}\n";
     assert_eq!(run_c("layout", &body), expected);
     assert_eq!((size_of::<Machine>(), align_of::<Machine>()), (200, 4));
+}
+
+#[test]
+fn c_and_rust_number_alike() {
+    let mut body = String::from("#include <stdio.h>\n#include \"ht1130.h\"\nint main(void) {\n");
+    let mut expected = String::new();
+    let kinds = [
+        ("RUN", ht1130::RUN),
+        ("PINS", ht1130::PINS),
+        ("INT", ht1130::INT),
+        ("TMCLK", ht1130::TMCLK),
+        ("RES", ht1130::RES),
+    ];
+    let sizes = [
+        ("MASK", MASK),
+        ("IMAGE", IMAGE),
+        ("REPORT", REPORT),
+        ("SCRIPT", ht1130::SCRIPT),
+    ];
+    let numbers = kinds
+        .into_iter()
+        .map(|(name, n)| (name, n as usize))
+        .chain(sizes)
+        .chain(
+            ht1130::form::NAMES
+                .iter()
+                .enumerate()
+                .map(|(n, name)| (*name, n)),
+        )
+        .chain(
+            ht1130::branch::NAMES
+                .iter()
+                .enumerate()
+                .map(|(n, name)| (*name, n)),
+        );
+    for (name, number) in numbers {
+        body += &format!("    printf(\"{name} %d\\n\", HT1130_{name});\n");
+        expected += &format!("{name} {number}\n");
+    }
+    body += "    return 0;\n}\n";
+    assert_eq!(run_c("numbers", &body), expected);
+    assert_eq!((ht1130::form::HALT, ht1130::branch::JNZ_R4), (59, 11));
 }
 
 /// A record as bytes, so that Rust's layout has no part in what follows.
@@ -122,7 +168,16 @@ impl Record {
         let image = image();
         // SAFETY: the record has the header's size and alignment, the image its length.
         let refusal = unsafe {
-            ffi::ht1130_power_on(record.0.as_mut_ptr().cast(), rate, 3, 1, 2, 4, image.as_ptr(), image.len())
+            ffi::ht1130_power_on(
+                record.0.as_mut_ptr().cast(),
+                rate,
+                3,
+                1,
+                2,
+                4,
+                image.as_ptr(),
+                image.len(),
+            )
         };
         assert_eq!(refusal, 0);
         record
@@ -131,7 +186,16 @@ impl Record {
     fn apply(&mut self, kind: u16, count: u16, [a, b, c]: [u8; 3], mask: &[u8]) {
         // SAFETY: as above, and the mask is a slice.
         let refusal = unsafe {
-            ffi::ht1130_apply(self.0.as_mut_ptr().cast(), kind, count, a, b, c, mask.as_ptr(), mask.len())
+            ffi::ht1130_apply(
+                self.0.as_mut_ptr().cast(),
+                kind,
+                count,
+                a,
+                b,
+                c,
+                mask.as_ptr(),
+                mask.len(),
+            )
         };
         assert_eq!(refusal, 0);
     }
@@ -256,19 +320,46 @@ fn events_land_where_the_header_says() {
         &|r| r.apply(ht1130::PINS, 0, [3, 5, 9], &[]),
         &[(at::PM, &[3]), (at::PS, &[5]), (at::PP, &[9])],
     );
-    check(&|r| r.apply(ht1130::INT, 0, [0; 3], &[]), &[(at::INTR, &[0]), (at::HELD, &[1])]);
-    check(&|r| r.step(&[0x38]), &[(at::RUNNING, &[1]), (at::PC, &[1]), (at::CYCLES, &[1])]); // TIMER ON
-    check(&|r| r.apply(ht1130::TMCLK, 0x1A7, [0; 3], &[]), &[(at::COUNT, &[0xA7]), (at::TF, &[1])]);
+    check(
+        &|r| r.apply(ht1130::INT, 0, [0; 3], &[]),
+        &[(at::INTR, &[0]), (at::HELD, &[1])],
+    );
+    check(
+        &|r| r.step(&[0x38]),
+        &[(at::RUNNING, &[1]), (at::PC, &[1]), (at::CYCLES, &[1])],
+    ); // TIMER ON
+    check(
+        &|r| r.apply(ht1130::TMCLK, 0x1A7, [0; 3], &[]),
+        &[(at::COUNT, &[0xA7]), (at::TF, &[1])],
+    );
     // CALL ABCh at 5FFh
     check(&|r| r.pc(0x5FF), &[(at::PC, &[0xFF, 0x05])]);
     check(
         &|r| r.step(&[0xFA, 0xBC]),
-        &[(at::PC, &[0xBC, 0x0A]), (at::STACK, &[0x01, 0x06]), (at::LEVEL, &[1]), (at::CYCLES, &[3])],
+        &[
+            (at::PC, &[0xBC, 0x0A]),
+            (at::STACK, &[0x01, 0x06]),
+            (at::LEVEL, &[1]),
+            (at::CYCLES, &[3]),
+        ],
     );
-    check(&|r| r.step(&[0x2B]), &[(at::PC, &[0xBD]), (at::CF, &[1]), (at::CYCLES, &[4])]); // STC
-    check(&|r| r.step(&[0x2C]), &[(at::PC, &[0xBE]), (at::ENABLED, &[1]), (at::CYCLES, &[5])]); // EI
-    // RET
-    check(&|r| r.step(&[0x2E]), &[(at::PC, &[0x01, 0x06]), (at::LEVEL, &[0]), (at::CYCLES, &[6])]);
+    check(
+        &|r| r.step(&[0x2B]),
+        &[(at::PC, &[0xBD]), (at::CF, &[1]), (at::CYCLES, &[4])],
+    ); // STC
+    check(
+        &|r| r.step(&[0x2C]),
+        &[(at::PC, &[0xBE]), (at::ENABLED, &[1]), (at::CYCLES, &[5])],
+    ); // EI
+       // RET
+    check(
+        &|r| r.step(&[0x2E]),
+        &[
+            (at::PC, &[0x01, 0x06]),
+            (at::LEVEL, &[0]),
+            (at::CYCLES, &[6]),
+        ],
+    );
     // The held edge is taken at last.
     check(
         &|r| r.step(&[]),
@@ -281,7 +372,7 @@ fn events_land_where_the_header_says() {
         ],
     );
     check(&|r| r.step(&[0x35]), &[(at::FAULT, &[1])]); // no instruction
-    // RES
+                                                       // RES
     check(
         &|r| r.apply(ht1130::RES, 0, [0; 3], &[]),
         &[
@@ -292,8 +383,14 @@ fn events_land_where_the_header_says() {
             (at::FAULT, &[0]),
         ],
     );
-    check(&|r| r.cycles(0x00FF_FFFF), &[(at::CYCLES, &[0xFF, 0xFF, 0xFF, 0])]);
-    check(&|r| r.step(&[0x3E]), &[(at::PC, &[1]), (at::CYCLES, &[0, 0, 0, 1])]); // NOP
+    check(
+        &|r| r.cycles(0x00FF_FFFF),
+        &[(at::CYCLES, &[0xFF, 0xFF, 0xFF, 0])],
+    );
+    check(
+        &|r| r.step(&[0x3E]),
+        &[(at::PC, &[1]), (at::CYCLES, &[0, 0, 0, 1])],
+    ); // NOP
 }
 
 /// The library reads where it writes.
@@ -302,13 +399,25 @@ fn reports_come_from_where_the_header_says() {
     let mut record = expected(9);
     record.pc(0x9AB);
     record.cycles(0x1234_5678);
-    for (offset, value) in [(at::LEVEL, 2), (at::FAULT, 3), (at::PA, 6), (at::CHANNEL, 14), (at::MODE, 1)] {
+    for (offset, value) in [
+        (at::LEVEL, 2),
+        (at::FAULT, 3),
+        (at::PA, 6),
+        (at::CHANNEL, 14),
+        (at::MODE, 1),
+    ] {
         record.put(offset, &[value]);
     }
     let mut out = [0; REPORT];
     // SAFETY: the record has the header's size and alignment, the buffer its length.
-    assert_eq!(unsafe { ffi::ht1130_report(record.0.as_ptr().cast(), out.as_mut_ptr(), out.len()) }, 0);
-    assert_eq!(out[..16], [44, 0, 16, 0, 0xAB, 0x09, 0x78, 0x56, 0x34, 0x12, 2, 0, 3, 6, 14, 1]);
+    assert_eq!(
+        unsafe { ffi::ht1130_report(record.0.as_ptr().cast(), out.as_mut_ptr(), out.len()) },
+        0
+    );
+    assert_eq!(
+        out[..16],
+        [44, 0, 16, 0, 0xAB, 0x09, 0x78, 0x56, 0x34, 0x12, 2, 0, 3, 6, 14, 1]
+    );
     for (s, nibble) in out[16..].iter().enumerate() {
         assert_eq!(*nibble, memory(128 + s) & 7, "segment {s}"); // 3 commons
     }
@@ -354,11 +463,32 @@ fn rubbish_above_narrow_arguments_does_not_matter() {
     // arguments go in the same registers.
     unsafe {
         let (image, length) = (image.as_ptr(), image.len());
-        let refusal = wide::ht1130_power_on(machine, byte(9), byte(3), byte(1), byte(2), byte(4), image, length);
+        let refusal = wide::ht1130_power_on(
+            machine,
+            byte(9),
+            byte(3),
+            byte(1),
+            byte(2),
+            byte(4),
+            image,
+            length,
+        );
         assert_eq!(refusal, 0);
         let apply = |kind, count, a| {
             let (mask, length) = (mask.as_ptr(), mask.len());
-            assert_eq!(wide::ht1130_apply(machine, word(kind), word(count), byte(a), byte(5), byte(9), mask, length), 0);
+            assert_eq!(
+                wide::ht1130_apply(
+                    machine,
+                    word(kind),
+                    word(count),
+                    byte(a),
+                    byte(5),
+                    byte(9),
+                    mask,
+                    length
+                ),
+                0
+            );
         };
         apply(ht1130::PINS, 0, 3);
         apply(ht1130::INT, 0, 0);
@@ -367,7 +497,10 @@ fn rubbish_above_narrow_arguments_does_not_matter() {
             wide::ht1130_read(mask.as_ptr(), mask.len(), word(4095)),
             ffi::ht1130_read(mask.as_ptr(), mask.len(), 4095)
         );
-        assert_eq!(wide::ht1130_write(byte(36), byte(11), word(2047)), ffi::ht1130_write(36, 11, 2047));
+        assert_eq!(
+            wide::ht1130_write(byte(36), byte(11), word(2047)),
+            ffi::ht1130_write(36, 11, 2047)
+        );
     }
     let mut expected = expected(9);
     expected.put(at::PM, &[3, 5, 9, 0]);
