@@ -117,19 +117,6 @@ fn same<T: PartialEq + Debug>(what: impl FnOnce() -> String, library: T, plain: 
     ))
 }
 
-/// As `same`, but names the first byte that differs.
-fn same_bytes(what: impl FnOnce() -> String, library: &[u8], plain: &[u8]) -> Outcome {
-    match library.iter().zip(plain).position(|(l, p)| l != p) {
-        None => Ok(()),
-        Some(at) => Err(format!(
-            "{}: byte {at}, library {:02X}, plain {:02X}",
-            what(),
-            library[at],
-            plain[at]
-        )),
-    }
-}
-
 fn same_machine(
     what: impl FnOnce() -> String,
     library: &ht1130::Machine,
@@ -155,6 +142,67 @@ fn same_machine(
         pm ps pp int options cycles memory
     }
     Err(text)
+}
+
+/// Bytes on either side of each buffer that a call may write to; compared too.
+const FENCE: usize = 64;
+
+/// Two buffers of so many bytes, one for each engine, with their fences.
+struct Buffers {
+    bytes: [Vec<u8>; 2],
+    inner: std::ops::Range<usize>,
+}
+
+impl Buffers {
+    fn new(length: usize) -> Buffers {
+        let fenced = vec![0xA5; length + 2 * FENCE];
+        Buffers {
+            bytes: [fenced.clone(), fenced],
+            inner: FENCE..FENCE + length,
+        }
+    }
+
+    fn library(&mut self) -> &mut [u8] {
+        &mut self.bytes[0][self.inner.clone()]
+    }
+
+    fn plain(&mut self) -> &mut [u8] {
+        &mut self.bytes[1][self.inner.clone()]
+    }
+
+    fn same(&self, what: impl FnOnce() -> String) -> Outcome {
+        let [library, plain] = &self.bytes;
+        match library.iter().zip(plain).position(|(l, p)| l != p) {
+            None => Ok(()),
+            Some(at) => Err(format!(
+                "{}: byte {}, library {:02X}, plain {:02X}",
+                what(),
+                at as isize - FENCE as isize,
+                library[at],
+                plain[at]
+            )),
+        }
+    }
+}
+
+/// Lends the library a record between two others, which have to stay.
+fn fenced<T>(
+    m: &mut ht1130::Machine,
+    call: impl FnOnce(&mut ht1130::Machine) -> T,
+) -> Result<T, String> {
+    let mut other = ht1130::Machine::blank();
+    for field in 0..FIELDS {
+        set(&mut other, field, 0xA5A5_A5A5);
+    }
+    let mut row = [other, *m, other];
+    let answer = call(&mut row[1]);
+    *m = row[1];
+    same(
+        || "records beside the lent one".into(),
+        [row[0], row[2]],
+        [other; 2],
+    )?;
+    Ok(answer)
 }
 
 fn hex(bytes: &[u8]) -> String {
@@ -214,16 +262,7 @@ fn mask_checked(prng: &mut Prng, case: u64) -> Outcome {
     } else {
         any_mask(prng)
     };
-    let mut marks = [[0xA5; MASK]; 2];
-    let library = library::check(&mask, &mut marks[0]);
-    let plain = plain::check(&mask, &mut marks[1]);
-    let what = || format!("check of the mask {}", hex(&mask));
-    same(what, library, packed::verdict(&plain))?;
-    same_bytes(
-        || format!("marks of the mask {}", hex(&mask)),
-        &marks[0],
-        &marks[1],
-    )
+    marks_of_both(&mask, MASK)
 }
 
 fn check_refused(prng: &mut Prng, _: u64) -> Outcome {
@@ -233,15 +272,23 @@ fn check_refused(prng: &mut Prng, _: u64) -> Outcome {
         1 => (mask_of_wrong_length(prng), wrong),
         _ => (any_mask(prng).to_vec(), wrong),
     };
-    let mut marks = vec![0xA5; length];
-    let library = library::check(&mask, &mut marks);
-    let what = || format!("check of a mask of {} bytes, marks of {length}", mask.len());
-    same(
-        what,
-        library,
-        packed::verdict(&plain::check(&mask, &mut vec![0; length])),
-    )?;
-    same(|| "marks after a refusal".into(), marks, vec![0xA5; length])
+    marks_of_both(&mask, length)
+}
+
+fn marks_of_both(mask: &[u8], length: usize) -> Outcome {
+    let lent = mask.to_vec();
+    let mut marks = Buffers::new(length);
+    let library = library::check(&lent, marks.library());
+    let plain = plain::check(mask, marks.plain());
+    let what = || {
+        format!(
+            "check with marks of {length} bytes of the mask {}",
+            hex(mask)
+        )
+    };
+    same(what, library, packed::verdict(&plain))?;
+    marks.same(what)?;
+    same(|| "mask after its check".into(), &lent[..], mask)
 }
 
 // Instructions
@@ -451,7 +498,11 @@ fn event_on_both(m: &mut ht1130::Machine, event: (u16, u16, u8, u8, u8), mask: &
     let before = *m;
     let (kind, count, a, b, c) = event;
     let mut plain = to_plain(m);
-    let library = number(ht1130::apply_kind(m, kind, count, a, b, c, mask));
+    let lent = mask.to_vec();
+    let library = fenced(m, |m| {
+        number(ht1130::apply_kind(m, kind, count, a, b, c, &lent))
+    })?;
+    same(|| "mask after an event".into(), &lent[..], mask)?;
     let refusal = plain.apply(kind, count, a, b, c, mask).err().unwrap_or(0);
     let what = || {
         format!(
@@ -491,12 +542,14 @@ fn first_step(mut m: ht1130::Machine, count: u16, mask: &[u8]) -> String {
 }
 
 fn report_of_both(m: &ht1130::Machine, length: usize) -> Outcome {
-    let mut out = [vec![0xA5; length], vec![0xA5; length]];
-    let library = number(ht1130::report(m, &mut out[0]));
-    let plain = to_plain(m).report(&mut out[1]).err().unwrap_or(0);
+    let lent = *m;
+    let mut out = Buffers::new(length);
+    let library = number(ht1130::report(&lent, out.library()));
+    let plain = to_plain(m).report(out.plain()).err().unwrap_or(0);
     let what = || format!("report to {length} bytes of {m:X?}");
     same(|| format!("refusal of {}", what()), library, plain)?;
-    same_bytes(what, &out[0], &out[1])
+    out.same(what)?;
+    same(|| "machine after its report".into(), lent, *m)
 }
 
 fn any_event(prng: &mut Prng, steps: u16) -> (u16, u16, u8, u8, u8) {
@@ -627,7 +680,8 @@ fn power_on_both(prng: &mut Prng, m: &mut ht1130::Machine) -> Outcome {
     let options = options(prng);
     let before = *m;
     let mut plain = to_plain(m);
-    let library = number(ht1130::power_on(m, library::options(&options), &image));
+    let lent = library::options(&options);
+    let library = fenced(m, |m| number(ht1130::power_on(m, lent, &image)))?;
     let refusal = plain.power_on(options, &image).err().unwrap_or(0);
     let what = || {
         format!(
@@ -684,15 +738,18 @@ fn script_on_both(mask: &[u8], script: &[u8], room: usize) -> Outcome {
     if room > 1 << 24 {
         return Ok(());
     }
-    let mut out = [vec![0xA5; room], vec![0xA5; room]];
-    let library = library::run_script(mask, script, &mut out[0]);
-    let plain = plain::run_script(mask, script, &mut out[1]);
+    let mut out = Buffers::new(room);
+    let lent = (mask.to_vec(), script.to_vec());
+    let library = library::run_script(&lent.0, &lent.1, out.library());
+    same(|| "mask after a script".into(), &lent.0[..], mask)?;
+    same(|| "script after its run".into(), &lent.1[..], script)?;
+    let plain = plain::run_script(mask, script, out.plain());
     same(
         || format!("answer of {}", what()),
         library,
         packed::script(&plain),
     )?;
-    same_bytes(|| format!("reports of {}", what()), &out[0], &out[1])
+    out.same(|| format!("reports of {}", what()))
 }
 
 fn room(prng: &mut Prng, records: usize) -> usize {
