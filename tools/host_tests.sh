@@ -5,8 +5,13 @@
 set -euo pipefail
 cd "$(dirname "$0")/.."
 
-export HT1130_LIB_DIR="$(realpath "${HT1130_LIB_DIR:-target/staticlib}")"
-export CARGO_TARGET_DIR="$PWD/target/cargo"
+HT1130_LIB_DIR=$(realpath "${HT1130_LIB_DIR:-target/staticlib}")
+CARGO_TARGET_DIR=$PWD/target/cargo
+export HT1130_LIB_DIR CARGO_TARGET_DIR
+if [ ! -f "$HT1130_LIB_DIR/libhost.a" ]; then
+    echo "no libhost.a in $HT1130_LIB_DIR" >&2
+    exit 1
+fi
 work=target/host_tests
 mkdir -p "$work"
 
