@@ -1,0 +1,835 @@
+//! Differential tests: the library against the plain engine, every field and
+//! every byte.
+
+use crate::library::{self, number, packed, to_plain};
+use crate::plain::{self, Mask, IMAGE, MASK, REPORT};
+use crate::prng::Prng;
+use crate::{masks, script};
+use std::fmt::Debug;
+
+/// What differed, in words.
+type Outcome = Result<(), String>;
+
+/// A sort of test: its name, the share of `cases` it takes, and one case.
+struct Sort {
+    name: &'static str,
+    cases: fn(u64) -> u64,
+    case: fn(&mut Prng, u64) -> Outcome,
+}
+
+const SORTS: [Sort; 12] = [
+    Sort {
+        name: "instructions read",
+        cases: |_| 256,
+        case: instructions_read,
+    },
+    Sort {
+        name: "instructions written",
+        cases: |_| 256,
+        case: instructions_written,
+    },
+    Sort {
+        name: "reads refused",
+        cases: |_| 1,
+        case: reads_refused,
+    },
+    Sort {
+        name: "masks checked",
+        cases: |n| n,
+        case: mask_checked,
+    },
+    Sort {
+        name: "checks refused",
+        cases: |n| n / 10,
+        case: check_refused,
+    },
+    Sort {
+        name: "power-ons",
+        cases: |n| 4 * n,
+        case: power_on,
+    },
+    Sort {
+        name: "fields out of range",
+        cases: |_| FIELDS,
+        case: field_out_of_range,
+    },
+    Sort {
+        name: "single events",
+        cases: |n| 20 * n,
+        case: single_event,
+    },
+    Sort {
+        name: "event lists on one record",
+        cases: |n| n / 10,
+        case: event_list,
+    },
+    Sort {
+        name: "scripts, valid",
+        cases: |n| 2 * n,
+        case: script_valid,
+    },
+    Sort {
+        name: "scripts, damaged",
+        cases: |n| 10 * n,
+        case: script_damaged,
+    },
+    Sort {
+        name: "scripts, longest",
+        cases: |n| n / 100,
+        case: script_longest,
+    },
+];
+
+/// Runs all sorts, `cases` being the number of random masks to check and the
+/// measure of the other sorts; false after a difference.
+pub fn run(seed: u64, cases: u64) -> bool {
+    println!("diff: seed {seed}, cases {cases}");
+    for sort in &SORTS {
+        let count = (sort.cases)(cases).max(1);
+        for case in 0..count {
+            // Each case has a generator of its own, so that it can be named.
+            let mut prng = Prng::new(seed);
+            for byte in sort.name.bytes() {
+                prng = Prng::new(prng.next() ^ byte as u64);
+            }
+            let mut prng = Prng::new(prng.next().wrapping_add(case));
+            if let Err(what) = (sort.case)(&mut prng, case) {
+                println!(
+                    "DIFFERENCE in {}, seed {seed}, case {case}:\n{what}",
+                    sort.name
+                );
+                return false;
+            }
+        }
+        println!("{count:>8}  {}", sort.name);
+    }
+    println!("no difference");
+    true
+}
+
+fn same<T: PartialEq + Debug>(what: impl FnOnce() -> String, library: T, plain: T) -> Outcome {
+    if library == plain {
+        return Ok(());
+    }
+    Err(format!(
+        "{}\n  library {library:X?}\n  plain   {plain:X?}",
+        what()
+    ))
+}
+
+fn same_machine(
+    what: impl FnOnce() -> String,
+    library: &ht1130::Machine,
+    plain: &plain::Machine,
+) -> Outcome {
+    let library = to_plain(library);
+    if library == *plain {
+        return Ok(());
+    }
+    let mut text = what();
+    macro_rules! name_differing {
+        ($($field:ident)*) => {
+            $(if library.$field != plain.$field {
+                text += &format!(
+                    "\n  {}: library {:X?}, plain {:X?}",
+                    stringify!($field), library.$field, plain.$field,
+                );
+            })*
+        };
+    }
+    name_differing! {
+        acc r pc cf tf timer running enabled held level stack stack_cf halted fault pa channel mode
+        pm ps pp int options cycles memory
+    }
+    Err(text)
+}
+
+/// Bytes on either side of each buffer that a call may write to; compared too.
+const FENCE: usize = 64;
+
+/// Two buffers of so many bytes, one for each engine, with their fences.
+struct Buffers {
+    bytes: [Vec<u8>; 2],
+    inner: std::ops::Range<usize>,
+}
+
+impl Buffers {
+    fn new(length: usize) -> Buffers {
+        let fenced = vec![0xA5; length + 2 * FENCE];
+        Buffers {
+            bytes: [fenced.clone(), fenced],
+            inner: FENCE..FENCE + length,
+        }
+    }
+
+    fn library(&mut self) -> &mut [u8] {
+        &mut self.bytes[0][self.inner.clone()]
+    }
+
+    fn plain(&mut self) -> &mut [u8] {
+        &mut self.bytes[1][self.inner.clone()]
+    }
+
+    fn same(&self, what: impl FnOnce() -> String) -> Outcome {
+        let [library, plain] = &self.bytes;
+        match library.iter().zip(plain).position(|(l, p)| l != p) {
+            None => Ok(()),
+            Some(at) => Err(format!(
+                "{}: byte {}, library {:02X}, plain {:02X}",
+                what(),
+                at as isize - FENCE as isize,
+                library[at],
+                plain[at]
+            )),
+        }
+    }
+}
+
+/// Lends the library a record between two others, which have to stay.
+fn fenced<T>(
+    m: &mut ht1130::Machine,
+    call: impl FnOnce(&mut ht1130::Machine) -> T,
+) -> Result<T, String> {
+    let mut other = ht1130::Machine::blank();
+    for field in 0..FIELDS {
+        set(&mut other, field, 0xA5A5_A5A5);
+    }
+    let mut row = [other, *m, other];
+    let answer = call(&mut row[1]);
+    *m = row[1];
+    same(
+        || "records beside the lent one".into(),
+        [row[0], row[2]],
+        [other; 2],
+    )?;
+    Ok(answer)
+}
+
+fn hex(bytes: &[u8]) -> String {
+    const MOST: usize = 400;
+    let shown: String = bytes
+        .iter()
+        .take(MOST)
+        .map(|b| format!("{b:02X} "))
+        .collect();
+    format!(
+        "{shown}{}({} bytes)",
+        if bytes.len() > MOST { "... " } else { "" },
+        bytes.len()
+    )
+}
+
+fn pick<T: Copy>(prng: &mut Prng, from: &[T]) -> T {
+    from[prng.below(from.len() as u64) as usize]
+}
+
+// Masks
+
+fn any_mask(prng: &mut Prng) -> Mask {
+    match prng.below(8) {
+        0 => masks::random_bytes(prng),
+        1 => masks::random_instructions(prng, false),
+        2 | 3 => masks::random_instructions(prng, true),
+        4 | 5 => masks::lively(prng),
+        6 => masks::sparse(prng),
+        _ => masks::special(prng.below(masks::SPECIAL)),
+    }
+}
+
+fn mask_of_wrong_length(prng: &mut Prng) -> Vec<u8> {
+    let length = pick(
+        prng,
+        &[
+            0,
+            1,
+            2,
+            48,
+            166,
+            4095,
+            4097,
+            8192,
+            65535,
+            65536,
+            65536 + 4096,
+        ],
+    );
+    vec![0x3E; length]
+}
+
+fn mask_checked(prng: &mut Prng, case: u64) -> Outcome {
+    let mask = if case < masks::SPECIAL {
+        masks::special(case)
+    } else {
+        any_mask(prng)
+    };
+    marks_of_both(&mask, MASK)
+}
+
+fn check_refused(prng: &mut Prng, _: u64) -> Outcome {
+    let wrong = pick(prng, &[0, 1, 48, 4095, 4097, 8192]);
+    let (mask, length) = match prng.below(3) {
+        0 => (mask_of_wrong_length(prng), MASK),
+        1 => (mask_of_wrong_length(prng), wrong),
+        _ => (any_mask(prng).to_vec(), wrong),
+    };
+    marks_of_both(&mask, length)
+}
+
+fn marks_of_both(mask: &[u8], length: usize) -> Outcome {
+    let lent = mask.to_vec();
+    let mut marks = Buffers::new(length);
+    let library = library::check(&lent, marks.library());
+    let plain = plain::check(mask, marks.plain());
+    let what = || {
+        format!(
+            "check with marks of {length} bytes of the mask {}",
+            hex(mask)
+        )
+    };
+    same(what, library, packed::verdict(&plain))?;
+    marks.same(what)?;
+    same(|| "mask after its check".into(), &lent[..], mask)
+}
+
+// Instructions
+
+fn instructions_read(_: &mut Prng, case: u64) -> Outcome {
+    let first = case as u8;
+    let mut mask = [0x3E; MASK];
+    for second in 0..=255 {
+        for address in [0, 0x7FF, MASK - 1] {
+            mask[address] = first;
+            mask[(address + 1) % MASK] = second;
+            let what = || format!("read of {first:02X} {second:02X} at {address:03X}");
+            let plain = plain::read(&mask, address as u16);
+            same(
+                what,
+                library::read(&mask, address as u16),
+                packed::instruction(&plain),
+            )?;
+            let Ok(Some(i)) = plain else { continue };
+            let written = packed::code(&Ok((
+                i.length,
+                first,
+                if i.length == 2 { second } else { 0 },
+            )));
+            let what = || format!("written back: {first:02X} {second:02X}, {i:?}");
+            same(what, library::write(i.form, i.a, i.b), written)?;
+            let safe = ht1130::read(&mask, address as u16)
+                .map(|r| r.map(|i| (i.form, i.a, i.b, i.length, i.cycles)));
+            same(what, safe, Ok(Some((i.form, i.a, i.b, i.length, i.cycles))))?;
+        }
+    }
+    Ok(())
+}
+
+fn instructions_written(prng: &mut Prng, case: u64) -> Outcome {
+    let form = case as u8;
+    let mut spread = vec![
+        0, 1, 15, 16, 17, 127, 255, 256, 257, 2046, 2047, 2048, 2049, 4094, 4095, 4096, 4097, 65535,
+    ];
+    spread.extend((0..8).map(|_| prng.next() as u16));
+    spread.extend((0..8).map(|_| prng.below(4096) as u16));
+    for a in 0..=255 {
+        for &b in &spread {
+            let what = || format!("write of form {form}, a {a}, b {b}");
+            let plain = plain::encode(form, a, b);
+            same(what, library::write(form, a, b), packed::code(&plain))?;
+            let safe = ht1130::write(form, a, b)
+                .map(|code| code.to_vec())
+                .map_err(|r| r.number());
+            same(
+                what,
+                safe,
+                plain.map(|(n, first, second)| [first, second][..n as usize].to_vec()),
+            )?;
+            let Ok((_, first, second)) = plain else {
+                continue;
+            };
+            let mut mask = [0; MASK];
+            mask[..2].copy_from_slice(&[first, second]);
+            let read = library::read(&mask, 0);
+            same(what, read, packed::instruction(&plain::read(&mask, 0)))?;
+            // Operands that the form has come back as they were.
+            let (form_back, a_back, b_back) =
+                ((read >> 16) as u8, (read >> 24) as u8, (read >> 32) as u16);
+            same(what, form_back, form)?;
+            same(what, a_back, if a_back == 0 { 0 } else { a })?;
+            same(what, b_back, if b_back == 0 { 0 } else { b })?;
+        }
+    }
+    Ok(())
+}
+
+fn reads_refused(prng: &mut Prng, _: u64) -> Outcome {
+    let mask = any_mask(prng);
+    for address in 0..=65535 {
+        let what = || format!("read at {address}");
+        same(
+            what,
+            library::read(&mask, address),
+            packed::instruction(&plain::read(&mask, address)),
+        )?;
+    }
+    for length in [0, 1, 2, 4095, 4097, 8192, 65536 + 4096] {
+        let mask = vec![0x3E; length];
+        for address in [0, 1, 4095, 4096, 65535] {
+            let what = || format!("read at {address} of a mask of {length} bytes");
+            same(
+                what,
+                library::read(&mask, address),
+                packed::instruction(&plain::read(&mask, address)),
+            )?;
+        }
+    }
+    Ok(())
+}
+
+// Machines
+
+/// A machine in range.
+fn machine(prng: &mut Prng) -> ht1130::Machine {
+    let mut m = ht1130::Machine::blank();
+    for field in 0..FIELDS {
+        let value = prng.next() as u32;
+        set(&mut m, field, within(field, value));
+    }
+    let cpu = &mut m.cpu;
+    // Runs that go on are worth more than ones that do not start.
+    if prng.below(4) != 0 {
+        cpu.status.halted = 0;
+    }
+    if cpu.status.halted == 1 || prng.below(8) != 0 {
+        cpu.status.fault = 0;
+    }
+    if prng.below(4) == 0 {
+        cpu.control.pc = pick(prng, &[0, 4, 8, 0x7FD, 0x7FE, 0x7FF, 0xFFE, 0xFFF]);
+    }
+    if prng.below(4) == 0 {
+        cpu.cycles = pick(
+            prng,
+            &[0, 2046, 2047, 4095, u32::MAX, u32::MAX - 1, u32::MAX - 20],
+        );
+    }
+    if prng.below(6) == 0 {
+        cpu.options.rate = plain::EXTERNAL;
+    }
+    if prng.below(4) == 0 {
+        cpu.timer.count = 250 + prng.below(6) as u8;
+    }
+    m
+}
+
+/// Fields by number: 31 of the processor, then the memory.
+const FIELDS: u64 = 31 + 160;
+
+fn set(m: &mut ht1130::Machine, field: u64, value: u32) {
+    let byte = value as u8;
+    let cpu = &mut m.cpu;
+    match field {
+        0 => cpu.registers.acc = byte,
+        1 => cpu.registers.r0 = byte,
+        2 => cpu.registers.r1 = byte,
+        3 => cpu.registers.r2 = byte,
+        4 => cpu.registers.r3 = byte,
+        5 => cpu.registers.r4 = byte,
+        6 => cpu.control.pc = value as u16,
+        7 => cpu.control.cf = byte,
+        8 => cpu.control.tf = byte,
+        9 => cpu.timer.count = byte,
+        10 => cpu.timer.running = byte,
+        11 => cpu.interrupts.enabled = byte,
+        12 => cpu.interrupts.held = byte,
+        13 => cpu.interrupts.level = byte,
+        14 => cpu.stack.address = value as u16,
+        15 => cpu.stack.carry = byte,
+        16 => cpu.status.halted = byte,
+        17 => cpu.status.fault = byte,
+        18 => cpu.outputs.pa = byte,
+        19 => cpu.outputs.channel = byte,
+        20 => cpu.outputs.mode = byte,
+        21 => cpu.pins.pm = byte,
+        22 => cpu.pins.ps = byte,
+        23 => cpu.pins.pp = byte,
+        24 => cpu.pins.intr = byte,
+        25 => cpu.options.rate = byte,
+        26 => cpu.options.commons = byte,
+        27 => cpu.options.pm = byte,
+        28 => cpu.options.ps = byte,
+        29 => cpu.options.pp = byte,
+        30 => cpu.cycles = value,
+        31.. => m.memory[field as usize - 31] = byte,
+    }
+}
+
+/// The field's value in its range that a random number picks.
+fn within(field: u64, value: u32) -> u32 {
+    match field {
+        6 | 14 => value % 4096,
+        7 | 8 | 10 | 11 | 12 | 15 | 16 | 20 | 24 => value % 2,
+        9 => value % 256,
+        13 => value % 3,
+        17 => value % 4,
+        19 => value % 17,
+        25 => script::RATES[value as usize % 14] as u32,
+        26 => 3 + value % 2,
+        30 => value,
+        _ => value % 16,
+    }
+}
+
+/// The first value over the field's range.
+fn over(field: u64) -> u32 {
+    match field {
+        6 | 14 => 4096,
+        7 | 8 | 10 | 11 | 12 | 15 | 16 | 20 | 24 => 2,
+        9 | 30 => 256,
+        13 => 3,
+        17 => 4,
+        19 => 17,
+        25 => 6,
+        26 => 2,
+        _ => 16,
+    }
+}
+
+/// The same event on both; all fields compared after it, refused or not.
+fn event_on_both(m: &mut ht1130::Machine, event: (u16, u16, u8, u8, u8), mask: &[u8]) -> Outcome {
+    let before = *m;
+    let (kind, count, a, b, c) = event;
+    let mut plain = to_plain(m);
+    let lent = mask.to_vec();
+    let library = fenced(m, |m| {
+        number(ht1130::apply_kind(m, kind, count, a, b, c, &lent))
+    })?;
+    same(|| "mask after an event".into(), &lent[..], mask)?;
+    let refusal = plain.apply(kind, count, a, b, c, mask).err().unwrap_or(0);
+    let what = || {
+        format!(
+            "event kind {kind}, count {count}, a {a}, b {b}, c {c}, mask {}\n  before  {before:X?}",
+            hex(mask)
+        )
+    };
+    same(|| format!("refusal of {}", what()), library, refusal)?;
+    same_machine(what, m, &plain).map_err(|text| {
+        if kind == plain::RUN {
+            text + &first_step(before, count, mask)
+        } else {
+            text
+        }
+    })
+}
+
+/// Names the step at which two runs part.
+fn first_step(mut m: ht1130::Machine, count: u16, mask: &[u8]) -> String {
+    for step in 1..=count {
+        let mut plain = to_plain(&m);
+        let pc = plain.pc as usize;
+        let _ = ht1130::apply_kind(&mut m, plain::RUN, 1, 0, 0, 0, mask);
+        let _ = plain.apply(plain::RUN, 1, 0, 0, 0, mask);
+        let code = [mask[pc % MASK], mask[(pc + 1) % MASK]];
+        let what = || {
+            format!(
+                "\n  parted at step {step}, PC {pc:03X}, code {:02X} {:02X}",
+                code[0], code[1]
+            )
+        };
+        if let Err(text) = same_machine(what, &m, &plain) {
+            return text;
+        }
+    }
+    "\n  step by step they agree".into()
+}
+
+fn report_of_both(m: &ht1130::Machine, length: usize) -> Outcome {
+    let lent = *m;
+    let mut out = Buffers::new(length);
+    let library = number(ht1130::report(&lent, out.library()));
+    let plain = to_plain(m).report(out.plain()).err().unwrap_or(0);
+    let what = || format!("report to {length} bytes of {m:X?}");
+    same(|| format!("refusal of {}", what()), library, plain)?;
+    out.same(what)?;
+    same(|| "machine after its report".into(), lent, *m)
+}
+
+fn any_event(prng: &mut Prng, steps: u16) -> (u16, u16, u8, u8, u8) {
+    let kind = match prng.below(16) {
+        0 => prng.below(10) as u16,
+        1 => pick(
+            prng,
+            &[0, 1, 7, 8, 9, 255, 256, 258, 259, 262, 512 + 3, 65535],
+        ),
+        2..=6 => plain::RUN,
+        _ => 2 + prng.below(5) as u16,
+    };
+    let count = if kind == plain::TMCLK {
+        prng.next() as u16
+    } else {
+        prng.below(steps as u64 + 1) as u16
+    };
+    let mut value = |bound: u8| {
+        if prng.below(12) == 0 {
+            prng.byte()
+        } else {
+            prng.byte() % bound
+        }
+    };
+    let bound = if kind == plain::INT { 2 } else { 16 };
+    (kind, count, value(bound), value(bound), value(bound))
+}
+
+fn event_mask(prng: &mut Prng) -> Vec<u8> {
+    if prng.below(12) == 0 {
+        mask_of_wrong_length(prng)
+    } else {
+        any_mask(prng).to_vec()
+    }
+}
+
+fn single_event(prng: &mut Prng, _: u64) -> Outcome {
+    let mut m = machine(prng);
+    match prng.below(8) {
+        0 => {
+            let field = prng.below(FIELDS);
+            set(&mut m, field, prng.next() as u32);
+        }
+        1 => {
+            for field in 0..FIELDS {
+                set(&mut m, field, prng.next() as u32);
+            }
+        }
+        2 => {
+            m.cpu.status.halted = 1;
+            m.cpu.status.fault = prng.byte() % 4;
+        }
+        _ => {}
+    }
+    let steps = pick(prng, &[1, 1, 2, 30, 300]);
+    let event = any_event(prng, steps);
+    // Only Run needs a mask worth making.
+    let mask = if event.0 == plain::RUN {
+        event_mask(prng)
+    } else {
+        vec![0x35; pick(prng, &[0, 1, MASK])]
+    };
+    for length in [REPORT - 1, REPORT, REPORT + 1, 0, 200] {
+        report_of_both(&m, length)?;
+    }
+    event_on_both(&mut m, event, &mask)?;
+    report_of_both(&m, REPORT)
+}
+
+/// Each field alone just over its range, and far over it, under every kind.
+fn field_out_of_range(prng: &mut Prng, field: u64) -> Outcome {
+    let mask = masks::lively(prng);
+    let far = prng.next() as u32 | 0x8080;
+    for value in [
+        over(field) - 1,
+        over(field),
+        over(field) + 1,
+        0xFF,
+        0xFFFF,
+        far,
+    ] {
+        for kind in 0..10 {
+            for (length, a) in [(MASK, 1), (MASK - 1, 1), (MASK, 16)] {
+                let mut m = machine(prng);
+                set(&mut m, field, value);
+                event_on_both(&mut m, (kind, 40, a, 1, 1), &mask[..length])?;
+            }
+        }
+        let mut m = machine(prng);
+        set(&mut m, field, value);
+        for length in [REPORT - 1, REPORT, REPORT + 1] {
+            report_of_both(&m, length)?;
+        }
+    }
+    Ok(())
+}
+
+fn options(prng: &mut Prng) -> plain::Options {
+    let mut options = plain::Options {
+        rate: pick(prng, &script::RATES),
+        commons: 3 + prng.byte() % 2,
+        wake_pm: prng.byte() & 15,
+        wake_ps: prng.byte() & 15,
+        wake_pp: prng.byte() & 15,
+    };
+    match prng.below(10) {
+        0 => options.rate = prng.byte(),
+        1 => options.commons = prng.byte() % 8,
+        2 => options.wake_pm = prng.byte(),
+        3 => options.wake_ps = prng.byte(),
+        4 => options.wake_pp = prng.byte(),
+        5 => options.rate = prng.byte() % 16,
+        _ => {}
+    }
+    options
+}
+
+fn power_on_both(prng: &mut Prng, m: &mut ht1130::Machine) -> Outcome {
+    let length = if prng.below(8) == 0 {
+        pick(prng, &[0, 1, 6, 165, 167, 332, 4096])
+    } else {
+        IMAGE
+    };
+    let mut image: Vec<u8> = (0..length).map(|_| prng.byte() & 15).collect();
+    if length > 0 && prng.below(6) == 0 {
+        image[prng.below(length as u64) as usize] = 16 | prng.byte();
+    }
+    let options = options(prng);
+    let before = *m;
+    let mut plain = to_plain(m);
+    let lent = library::options(&options);
+    let library = fenced(m, |m| number(ht1130::power_on(m, lent, &image)))?;
+    let refusal = plain.power_on(options, &image).err().unwrap_or(0);
+    let what = || {
+        format!(
+            "power-on with {options:?}, image {}\n  before  {before:X?}",
+            hex(&image)
+        )
+    };
+    same(|| format!("refusal of {}", what()), library, refusal)?;
+    same_machine(what, m, &plain)
+}
+
+fn power_on(prng: &mut Prng, case: u64) -> Outcome {
+    let mut m = machine(prng);
+    if case.is_multiple_of(2) {
+        for field in 0..FIELDS {
+            set(&mut m, field, prng.next() as u32);
+        }
+    }
+    power_on_both(prng, &mut m)
+}
+
+/// Many events on one lent record, good and bad; compared after each.
+fn event_list(prng: &mut Prng, _: u64) -> Outcome {
+    let mask = if prng.below(2) == 0 {
+        masks::lively(prng)
+    } else {
+        any_mask(prng)
+    };
+    let mut m = machine(prng);
+    for _ in 0..prng.below(600) {
+        if prng.below(40) == 0 {
+            power_on_both(prng, &mut m)?;
+            continue;
+        }
+        let steps = pick(prng, &[1, 10, 100, 100, 2000]);
+        let event = any_event(prng, steps);
+        let length = if prng.below(30) == 0 { MASK - 1 } else { MASK };
+        event_on_both(&mut m, event, &mask[..length])?;
+        report_of_both(&m, REPORT)?;
+    }
+    event_on_both(&mut m, (plain::RUN, 65535, 0, 0, 0), &mask)
+}
+
+// Scripts
+
+fn script_on_both(mask: &[u8], script: &[u8], room: usize) -> Outcome {
+    let what = || format!("script {}\n  room {room}, mask {}", hex(script), hex(mask));
+    let plain = packed::script(&plain::check_script(mask, script, room));
+    same(
+        || format!("check of {}", what()),
+        library::check_script(mask, script, room),
+        plain,
+    )?;
+    if room > 1 << 24 {
+        return Ok(());
+    }
+    let mut out = Buffers::new(room);
+    let lent = (mask.to_vec(), script.to_vec());
+    let library = library::run_script(&lent.0, &lent.1, out.library());
+    same(|| "mask after a script".into(), &lent.0[..], mask)?;
+    same(|| "script after its run".into(), &lent.1[..], script)?;
+    let plain = plain::run_script(mask, script, out.plain());
+    same(
+        || format!("answer of {}", what()),
+        library,
+        packed::script(&plain),
+    )?;
+    out.same(|| format!("reports of {}", what()))
+}
+
+fn room(prng: &mut Prng, records: usize) -> usize {
+    let exact = REPORT * records;
+    match prng.below(8) {
+        0 => exact.saturating_sub(1),
+        1 => prng.below(exact as u64 + 1) as usize,
+        2 => exact + 1 + prng.below(100) as usize,
+        3 => pick(
+            prng,
+            &[
+                0,
+                usize::MAX,
+                usize::MAX - 47,
+                1 << 32,
+                1 << 63,
+                (1 << 32) + exact,
+            ],
+        ),
+        _ => exact,
+    }
+}
+
+fn script_valid(prng: &mut Prng, case: u64) -> Outcome {
+    let mask = if prng.below(30) == 0 {
+        mask_of_wrong_length(prng)
+    } else {
+        any_mask(prng).to_vec()
+    };
+    let records = match case {
+        0 => 0,
+        1..=30 => 1 + case % 3,
+        _ => pick(prng, &[1, 2, 3, 10, 40, 100]),
+    };
+    let steps = pick(prng, &[1, 10, 100, 1000]);
+    let steps = if prng.below(200) == 0 { 65535 } else { steps };
+    let script = if records == 0 {
+        Vec::new()
+    } else {
+        script::valid(prng, records, steps).concat()
+    };
+    let room = room(prng, records as usize);
+    script_on_both(&mask, &script, room)
+}
+
+fn script_damaged(prng: &mut Prng, _: u64) -> Outcome {
+    let mask = if prng.below(30) == 0 {
+        mask_of_wrong_length(prng)
+    } else {
+        any_mask(prng).to_vec()
+    };
+    let records = pick(prng, &[1, 2, 3, 5, 10, 30]);
+    let mut script = script::valid(prng, records, 20);
+    for _ in 0..pick(prng, &[1, 1, 1, 2, 3, 6]) {
+        script::damage(prng, &mut script);
+    }
+    let room = room(prng, script.len());
+    let mut script = script.concat();
+    match prng.below(10) {
+        0 => script.truncate(prng.below(script.len() as u64 + 1) as usize),
+        1 => script.extend([0, 0, 6][..prng.below(4) as usize].iter()),
+        _ => {}
+    }
+    script_on_both(&mask, &script, room)
+}
+
+fn script_longest(prng: &mut Prng, case: u64) -> Outcome {
+    let mask = any_mask(prng);
+    let mut records = script::longest(prng, case % 4 == 1);
+    if case % 4 == 2 {
+        script::damage(prng, &mut records);
+    }
+    let room = if case % 4 == 3 {
+        room(prng, records.len())
+    } else {
+        REPORT * records.len()
+    };
+    let mut script = records.concat();
+    if case % 8 == 4 {
+        script.push(0);
+    }
+    script_on_both(&mask, &script, room)
+}

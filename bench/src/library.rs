@@ -1,0 +1,148 @@
+//! The library as the comparison needs it: records turned into the plain
+//! engine's, and answers in their eight raw bytes.
+
+use crate::plain;
+use ht1130::ffi;
+
+pub fn to_plain(machine: &ht1130::Machine) -> plain::Machine {
+    let cpu = &machine.cpu;
+    plain::Machine {
+        acc: cpu.registers.acc,
+        r: [
+            cpu.registers.r0,
+            cpu.registers.r1,
+            cpu.registers.r2,
+            cpu.registers.r3,
+            cpu.registers.r4,
+        ],
+        pc: cpu.control.pc,
+        cf: cpu.control.cf,
+        tf: cpu.control.tf,
+        timer: cpu.timer.count,
+        running: cpu.timer.running,
+        enabled: cpu.interrupts.enabled,
+        held: cpu.interrupts.held,
+        level: cpu.interrupts.level,
+        stack: cpu.stack.address,
+        stack_cf: cpu.stack.carry,
+        halted: cpu.status.halted,
+        fault: cpu.status.fault,
+        pa: cpu.outputs.pa,
+        channel: cpu.outputs.channel,
+        mode: cpu.outputs.mode,
+        pm: cpu.pins.pm,
+        ps: cpu.pins.ps,
+        pp: cpu.pins.pp,
+        int: cpu.pins.intr,
+        options: plain::Options {
+            rate: cpu.options.rate,
+            commons: cpu.options.commons,
+            wake_pm: cpu.options.pm,
+            wake_ps: cpu.options.ps,
+            wake_pp: cpu.options.pp,
+        },
+        cycles: cpu.cycles,
+        memory: machine.memory,
+    }
+}
+
+pub fn options(o: &plain::Options) -> ht1130::Options {
+    ht1130::Options {
+        rate: o.rate,
+        commons: o.commons,
+        pm: o.wake_pm,
+        ps: o.wake_ps,
+        pp: o.wake_pp,
+    }
+}
+
+pub fn number(result: Result<(), ht1130::Refusal>) -> u8 {
+    result.map_or_else(|refusal| refusal.number(), |()| 0)
+}
+
+pub fn check(mask: &[u8], marks: &mut [u8]) -> u64 {
+    // SAFETY: both slices are valid for the call and cannot overlap.
+    unsafe { ffi::ht1130_check(mask.as_ptr(), mask.len(), marks.as_mut_ptr(), marks.len()) }
+}
+
+pub fn check_script(mask: &[u8], script: &[u8], room: usize) -> u64 {
+    // SAFETY: both slices are valid for the call.
+    unsafe {
+        ffi::ht1130_check_script(
+            mask.as_ptr(),
+            mask.len(),
+            script.as_ptr(),
+            script.len(),
+            room,
+        )
+    }
+}
+
+pub fn run_script(mask: &[u8], script: &[u8], out: &mut [u8]) -> u64 {
+    // SAFETY: the slices are valid for the call; `out` cannot overlap the others.
+    unsafe {
+        ffi::ht1130_run_script(
+            mask.as_ptr(),
+            mask.len(),
+            script.as_ptr(),
+            script.len(),
+            out.as_mut_ptr(),
+            out.len(),
+        )
+    }
+}
+
+pub fn read(mask: &[u8], address: u16) -> u64 {
+    // SAFETY: the slice is valid for the call.
+    unsafe { ffi::ht1130_read(mask.as_ptr(), mask.len(), address) }
+}
+
+pub fn write(form: u8, a: u8, b: u16) -> u64 {
+    // SAFETY: numbers only.
+    unsafe { ffi::ht1130_write(form, a, b) }
+}
+
+/// The plain engine's answers as the header packs them.
+pub mod packed {
+    use crate::plain::{Failure, Instruction, Refusal, ScriptRefusal};
+
+    pub fn verdict(result: &Result<Option<Failure>, Refusal>) -> u64 {
+        match result {
+            Err(refusal) => *refusal as u64,
+            Ok(None) => 0,
+            Ok(Some(f)) => {
+                (f.fault as u64) << 8 | (f.level as u64) << 16 | (f.address as u64) << 32
+            }
+        }
+    }
+
+    pub fn script(result: &Result<usize, ScriptRefusal>) -> u64 {
+        match result {
+            Err(r) => r.refusal as u64 | (r.offset as u64) << 32,
+            Ok(_) => 0,
+        }
+    }
+
+    pub fn instruction(result: &Result<Option<Instruction>, Refusal>) -> u64 {
+        match result {
+            Err(refusal) => *refusal as u64,
+            Ok(None) => 1 << 8,
+            Ok(Some(i)) => {
+                (i.form as u64) << 16
+                    | (i.a as u64) << 24
+                    | (i.b as u64) << 32
+                    | (i.length as u64) << 48
+                    | (i.cycles as u64) << 56
+            }
+        }
+    }
+
+    pub fn code(result: &Result<(u8, u8, u8), Refusal>) -> u64 {
+        match result {
+            Err(refusal) => *refusal as u64,
+            Ok((length, first, second)) => {
+                (*length as u64) << 8 | (*first as u64) << 16 | (*second as u64) << 24
+            }
+        }
+    }
+}

@@ -1,0 +1,59 @@
+//! Compares the proved library with a plain engine: what they do, and how fast.
+
+mod diff;
+mod library;
+mod masks;
+mod plain;
+mod prng;
+mod script;
+mod speed;
+
+use std::process::ExitCode;
+
+const USAGE: &str = "usage: bench diff [--seed N] [--cases N] | speed | all [--seed N] [--cases N]";
+
+struct Arguments {
+    diff: bool,
+    speed: bool,
+    seed: u64,
+    cases: u64,
+}
+
+fn arguments() -> Option<Arguments> {
+    let mut words = std::env::args().skip(1);
+    let (diff, speed) = match words.next()?.as_str() {
+        "diff" => (true, false),
+        "speed" => (false, true),
+        "all" => (true, true),
+        _ => return None,
+    };
+    let mut arguments = Arguments {
+        diff,
+        speed,
+        seed: 1130,
+        cases: 4000,
+    };
+    while let Some(word) = words.next() {
+        let value = words.next()?.parse().ok()?;
+        match word.as_str() {
+            "--seed" if diff => arguments.seed = value,
+            "--cases" if diff => arguments.cases = value,
+            _ => return None,
+        }
+    }
+    Some(arguments)
+}
+
+fn main() -> ExitCode {
+    let Some(arguments) = arguments() else {
+        eprintln!("{USAGE}");
+        return ExitCode::from(2);
+    };
+    if arguments.diff && !diff::run(arguments.seed, arguments.cases) {
+        return ExitCode::FAILURE;
+    }
+    if arguments.speed {
+        speed::run();
+    }
+    ExitCode::SUCCESS
+}

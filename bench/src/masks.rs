@@ -1,0 +1,253 @@
+//! Masks: hand-made ones for speed, each a loop that never ends, and random ones.
+
+use crate::plain::{decode, Mask, MASK};
+use crate::prng::Prng;
+
+const NOP: u8 = 0x3E;
+
+fn with(parts: &[(usize, &[u8])]) -> Mask {
+    let mut mask = [NOP; MASK];
+    for (at, bytes) in parts {
+        mask[*at..at + bytes.len()].copy_from_slice(bytes);
+    }
+    mask
+}
+
+/// Sums, differences and decimal adjustment on a few nibbles of memory.
+pub fn arithmetic() -> Mask {
+    with(&[(
+        0,
+        &[
+            0x50, 0x00, // MOV R1R0,00h
+            0x46, 0x0B, // MOV R4,Bh
+            0x09, // 004: ADD A,[R1R0]
+            0x36, // DAA
+            0x05, // MOV [R1R0],A
+            0x10, // INC R0
+            0x08, // ADC A,[R1R0]
+            0x36, // DAA
+            0x0C, // INC [R1R0]
+            0x0B, // SUB A,[R1R0]
+            0x40, 0x07, // ADD A,7
+            0x0A, // SBC A,[R1R0]
+            0x31, // INC A
+            0x41, 0x03, // SUB A,3
+            0xC8, 0x16, // JNC 016h
+            0x1B, // XOR A,[R1R0]
+            0x01, // RL A
+            0x19, // 016: DEC R4
+            0xD8, 0x04, // JNZ R4,004h
+            0xE0, 0x02, // JMP 002h
+        ],
+    )])
+}
+
+/// Copies 00h-3Fh to 40h-7Fh through both pointers, for ever.
+pub fn copy() -> Mask {
+    with(&[(
+        0,
+        &[
+            0x50, 0x00, // MOV R1R0,00h
+            0x60, 0x04, // MOV R3R2,40h
+            0x04, // 004: MOV A,[R1R0]
+            0x07, // MOV [R3R2],A
+            0x10, // INC R0
+            0x14, // INC R2
+            0xA0, 0x04, // JNZ R0,004h
+            0x12, // INC R1
+            0x16, // INC R3
+            0x23, // MOV A,R1
+            0x90, 0x00, // JA2 000h
+            0xE0, 0x04, // JMP 004h
+        ],
+    )])
+}
+
+/// The timer overflows every 16 counts; the handler loads it again.
+pub fn timer() -> Mask {
+    with(&[
+        (0x00, &[0xE0, 0x10]), // JMP 010h
+        (0x04, &[0xE0, 0x20]), // JMP 020h
+        (0x08, &[0x2F]),       // RETI
+        (
+            0x10,
+            &[
+                0x50, 0x00, // MOV R1R0,00h
+                0x47, 0xF0, // TIMER F0h
+                0x38, // TIMER ON
+                0x2C, // EI
+                0x31, // 016: INC A
+                0x09, // ADD A,[R1R0]
+                0xE0, 0x16, // JMP 016h
+            ],
+        ),
+        (
+            0x20,
+            &[
+                0x47, 0xF0, // TIMER F0h
+                0x0C, // INC [R1R0]
+                0x2F, // RETI
+            ],
+        ),
+    ])
+}
+
+/// All four table reads, from page 1 and page 15.
+pub fn tables() -> Mask {
+    let mut mask = with(&[(0, &[0xE1, 0x00])]); // JMP 100h
+    let mut prng = Prng::new(1130);
+    for at in (0x110..0x200).chain(0xF00..0x1000) {
+        mask[at] = prng.byte();
+    }
+    let code = [
+        0x4C, // 100: READ R4A
+        0x4E, // READ MR0A
+        0x10, // INC R0
+        0x4D, // READF R4A
+        0x4F, // READF MR0A
+        0x31, // INC A
+        0x4C, // READ R4A
+        0x12, // INC R1
+        0xE1, 0x00, // JMP 100h
+    ];
+    mask[0x100..0x100 + code.len()].copy_from_slice(&code);
+    mask
+}
+
+/// A mask of random bytes.
+pub fn random_bytes(prng: &mut Prng) -> Mask {
+    std::array::from_fn(|_| prng.byte())
+}
+
+/// Random instructions, one after the other. `tame` leaves out what soon ends
+/// a run: HALT, CALL, RET and RETI.
+pub fn random_instructions(prng: &mut Prng, tame: bool) -> Mask {
+    let mut mask = [NOP; MASK];
+    let mut at = 0;
+    while at < MASK {
+        let (length, first, second) = instruction(prng, tame);
+        if at + length > MASK {
+            continue;
+        }
+        mask[at] = first;
+        if length == 2 {
+            mask[at + 1] = second;
+        }
+        at += length;
+    }
+    mask
+}
+
+fn instruction(prng: &mut Prng, tame: bool) -> (usize, u8, u8) {
+    loop {
+        let first = prng.byte();
+        let second = match first {
+            0x37 => 0x3E,
+            0x40..=0x46 | 0x50..=0x6F => prng.byte() & 15,
+            _ => prng.byte(),
+        };
+        let ends = matches!(first, 0x2E | 0x2F | 0x37 | 0xF0..=0xFF);
+        if let Some(instruction) = decode(first, second).filter(|_| !(tame && ends)) {
+            return (instruction.length as usize, first, second);
+        }
+    }
+}
+
+/// NOPs with a few random instructions among them.
+pub fn sparse(prng: &mut Prng) -> Mask {
+    let mut mask = [NOP; MASK];
+    for _ in 0..prng.below(60) {
+        let (length, first, second) = instruction(prng, false);
+        let at = prng.below(MASK as u64) as usize;
+        mask[at] = first;
+        if length == 2 {
+            mask[(at + 1) % MASK] = second;
+        }
+    }
+    mask
+}
+
+/// A program that passes through all levels: random code that calls
+/// subroutines, both handlers, the timer and interrupts on.
+pub fn lively(prng: &mut Prng) -> Mask {
+    let mut mask = random_instructions(prng, true);
+    let mut put = |at: usize, code: &[u8]| mask[at..at + code.len()].copy_from_slice(code);
+    put(0x000, &[0xE0, 0x10]); // JMP 010h
+    put(0x004, &[0x18, 0x2F]); // INC R4; RETI
+    put(0x008, &[0x0C, 0x2E]); // INC [R1R0]; RET
+    put(0x010, &[0x47, prng.byte(), 0x38, 0x2C]); // TIMER XXh; TIMER ON; EI
+    for subroutine in 0..16 {
+        put(
+            0xE00 + 16 * subroutine + 14,
+            &[NOP, 0x2E + (prng.byte() & 1)],
+        ); // RET or RETI
+    }
+    for _ in 0..200 {
+        let at = 0x20 + prng.below(0xD00) as usize;
+        put(at, &[0xFE, prng.byte() & 0xF0]); // CALL E?0h
+    }
+    for _ in 0..prng.below(4) {
+        let at = 0x20 + prng.below(0xD00) as usize;
+        put(at, &[0x37, 0x3E]); // HALT
+    }
+    mask
+}
+
+/// Reaches every address in every level, most of them in more than one way.
+pub fn worst() -> Mask {
+    let mut mask: Mask = std::array::from_fn(|at| 0xA0 | at as u8 & 1); // JNZ R0,0A1h or 1A0h
+    mask[..0xA0].fill(NOP);
+    mask[..3].copy_from_slice(&[0x2C, 0xF0, 0x03]); // EI; CALL 003h
+    mask[0xFFE..].copy_from_slice(&[0xA0, 0x02]); // JNZ R0,002h: the moved PC is 0
+    mask
+}
+
+/// Hand-made masks and ones with an odd end, for the comparison.
+pub fn special(n: u64) -> Mask {
+    match n {
+        0 => arithmetic(),
+        1 => copy(),
+        2 => timer(),
+        3 => tables(),
+        4 => worst(),
+        5 => [NOP; MASK],
+        6 => [0x35; MASK],
+        7 => [0xFF; MASK],
+        8 => [0x2C; MASK],
+        9 => with(&[(0, &[0x40, 0x15])]),
+        10 => with(&[(0, &[0xF0, 0x10])]),
+        11 => with(&[(0, &[0x2F])]),
+        12 => with(&[(0, &[0x3E]), (4095, &[0x37])]), // HALT over the end
+        13 => with(&[(0, &[0x05]), (4095, &[0x52])]), // MOV R1R0 over the end
+        14 => with(&[(0, &[0xE7, 0xFE]), (0x7FE, &[0xB0, 0x10])]),
+        15 => with(&[
+            (0, &[0x2C, 0xF1, 0x00]),
+            (0x100, &[0x2E]),
+            (4, &[0x2F]),
+            (8, &[0x2F]),
+        ]),
+        _ => [0xA1; MASK],
+    }
+}
+
+pub const SPECIAL: u64 = 17;
+
+#[cfg(test)]
+mod tests {
+    use super::*;
+    use crate::plain::check;
+
+    #[test]
+    fn worst_reaches_all_pairs() {
+        let mut marks = [0; MASK];
+        check(&worst(), &mut marks).unwrap();
+        assert!(marks.iter().all(|&mark| mark == 7));
+    }
+
+    #[test]
+    fn masks_for_speed_pass() {
+        for mask in [arithmetic(), copy(), timer(), tables()] {
+            assert_eq!(check(&mask, &mut [0; MASK]), Ok(None));
+        }
+    }
+}

@@ -1,0 +1,239 @@
+//! How fast the library is beside the plain engine: the same process, the same
+//! input, in turns, the least time of each.
+
+use crate::library::{self, packed, to_plain};
+use crate::masks;
+use crate::plain::{self, Mask, IMAGE, MASK, REPORT};
+use crate::prng::Prng;
+use crate::script::record;
+use std::hint::black_box;
+use std::time::{Duration, Instant};
+
+/// Many short turns: others use the machine too.
+const TURNS: usize = 41;
+
+const OPTIONS: plain::Options = plain::Options {
+    rate: 2,
+    commons: 4,
+    wake_pm: 15,
+    wake_ps: 15,
+    wake_pp: 15,
+};
+
+pub fn run() {
+    println!("speed: least of {TURNS} turns; machines powered on and buffers cleared before each run, untimed");
+    println!(
+        "{:<44}{:>12}{:>12}{:>8}",
+        "", "plain ns", "library ns", "ratio"
+    );
+    let runs = [
+        ("arithmetic", masks::arithmetic()),
+        ("memory copy", masks::copy()),
+        ("timer interrupts", masks::timer()),
+        ("table reads", masks::tables()),
+    ];
+    for (name, mask) in &runs {
+        run_row(&format!("Run, {name}, a step"), mask);
+    }
+    let mut prng = Prng::new(1130);
+    let checked = [
+        ("random bytes", far_reaching(&mut prng)),
+        (
+            "random instructions",
+            masks::random_instructions(&mut prng, false),
+        ),
+        ("worst mask", masks::worst()),
+    ];
+    for (name, mask) in &checked {
+        check_row(name, mask);
+    }
+    script_row();
+    event_row("apply RES, a call", |n| (plain::RES, [n as u8, 0, 0]));
+    event_row("apply pins, a call", |n| {
+        (plain::PINS, [n as u8 & 15, (n >> 4) as u8 & 15, 15])
+    });
+    event_row("apply Run of 0 steps, a call", |_| (plain::RUN, [0; 3]));
+    println!("aims: Run at most 3 times plain, the checker at most 2");
+}
+
+/// Random bytes; most such masks reach a few pairs only and would measure the
+/// call rather than the walk.
+fn far_reaching(prng: &mut Prng) -> Mask {
+    loop {
+        let mask = masks::random_bytes(prng);
+        if pairs(&mask) > 2000 {
+            return mask;
+        }
+    }
+}
+
+fn pairs(mask: &Mask) -> u64 {
+    let mut marks = [0; MASK];
+    plain::check(mask, &mut marks).expect("buffers of the right length");
+    marks.iter().map(|mark| mark.count_ones() as u64).sum()
+}
+
+fn row(
+    name: &str,
+    units: u64,
+    mut plain: impl FnMut() -> Duration,
+    mut library: impl FnMut() -> Duration,
+) {
+    let mut least = [Duration::MAX; 2];
+    for _ in 0..TURNS {
+        least[0] = least[0].min(plain());
+        least[1] = least[1].min(library());
+    }
+    let [plain, library] = least.map(|time| time.as_nanos() as f64 / units as f64);
+    println!(
+        "{name:<44}{plain:>12.3}{library:>12.3}{:>8.2}",
+        library / plain
+    );
+}
+
+fn timed(work: impl FnOnce()) -> Duration {
+    let start = Instant::now();
+    work();
+    start.elapsed()
+}
+
+fn powered() -> (plain::Machine, ht1130::Machine) {
+    let mut plain = plain::Machine::blank();
+    let mut library = ht1130::Machine::blank();
+    plain
+        .power_on(OPTIONS, &[5; IMAGE])
+        .expect("options in range");
+    ht1130::power_on(&mut library, library::options(&OPTIONS), &[5; IMAGE])
+        .expect("options in range");
+    (plain, library)
+}
+
+fn run_row(name: &str, mask: &Mask) {
+    const RUNS: u64 = 10;
+    const STEPS: u16 = 65535;
+    let (mut ours, mut theirs) = powered();
+    row(
+        name,
+        RUNS * STEPS as u64,
+        || {
+            ours = powered().0;
+            timed(|| {
+                for _ in 0..RUNS {
+                    ours.apply(plain::RUN, STEPS, 0, 0, 0, black_box(mask))
+                        .expect("a valid machine");
+                }
+            })
+        },
+        || {
+            theirs = powered().1;
+            timed(|| {
+                for _ in 0..RUNS {
+                    ht1130::apply_kind(&mut theirs, plain::RUN, STEPS, 0, 0, 0, black_box(mask))
+                        .expect("a valid machine");
+                }
+            })
+        },
+    );
+    assert_eq!(to_plain(&theirs), ours, "{name}: the machines differ");
+    assert_eq!(ours.fault, 0, "{name}: the mask runs on");
+}
+
+fn check_row(name: &str, mask: &Mask) {
+    const CHECKS: u32 = 10;
+    let (mut ours, mut theirs) = ([0; MASK], [0; MASK]);
+    let (mut our_verdict, mut their_verdict) = (Ok(None), 0);
+    let pairs = pairs(mask);
+    // Clearing is untimed, so each check is timed alone.
+    row(
+        &format!("check, {name}, a pair of {pairs}"),
+        pairs * CHECKS as u64,
+        || {
+            (0..CHECKS)
+                .map(|_| {
+                    ours.fill(0);
+                    timed(|| our_verdict = plain::check(black_box(mask), black_box(&mut ours)))
+                })
+                .sum()
+        },
+        || {
+            (0..CHECKS)
+                .map(|_| {
+                    theirs.fill(0);
+                    timed(|| {
+                        their_verdict = library::check(black_box(mask), black_box(&mut theirs))
+                    })
+                })
+                .sum()
+        },
+    );
+    assert_eq!(
+        their_verdict,
+        packed::verdict(&our_verdict),
+        "{name}: the verdicts differ"
+    );
+    assert_eq!(theirs, ours, "{name}: the marks differ");
+}
+
+fn script_row() {
+    let mask = masks::timer();
+    let mut script = record(plain::POWER_ON, &[2, 4, 15, 15, 15, 5]);
+    let mut records = 1;
+    while script.len() + 24 <= plain::SCRIPT {
+        script.extend(record(plain::RUN, &[1, 0]));
+        script.extend(record(plain::PINS, &[records as u8 & 15, 3, 15]));
+        script.extend(record(plain::INT, &[records as u8 & 1]));
+        script.extend(record(plain::RUN, &[2, 0]));
+        records += 4;
+    }
+    let (mut ours, mut theirs) = (vec![0; REPORT * records], vec![0; REPORT * records]);
+    row(
+        &format!("script of {records} short, a record"),
+        records as u64,
+        || {
+            ours.fill(0);
+            timed(|| {
+                plain::run_script(black_box(&mask), black_box(&script), &mut ours)
+                    .expect("a valid script");
+            })
+        },
+        || {
+            theirs.fill(0);
+            timed(|| {
+                ht1130::run_script(black_box(&mask), black_box(&script), &mut theirs)
+                    .expect("a valid script")
+            })
+        },
+    );
+    assert_eq!(theirs, ours, "the reports differ");
+}
+
+fn event_row(name: &str, event: fn(u32) -> (u16, [u8; 3])) {
+    const CALLS: u32 = 20_000;
+    let mask = masks::arithmetic();
+    let (mut ours, mut theirs) = powered();
+    row(
+        name,
+        CALLS as u64,
+        || {
+            ours = powered().0;
+            timed(|| {
+                for n in 0..CALLS {
+                    let (kind, [a, b, c]) = event(n);
+                    ours.apply(black_box(kind), 0, a, b, c, &mask)
+                        .expect("a valid machine");
+                }
+            })
+        },
+        || {
+            theirs = powered().1;
+            timed(|| {
+                for n in 0..CALLS {
+                    let (kind, [a, b, c]) = event(n);
+                    ht1130::apply_kind(&mut theirs, black_box(kind), 0, a, b, c, &mask)
+                        .expect("a valid machine");
+                }
+            })
+        },
+    );
+    assert_eq!(to_plain(&theirs), ours, "{name}: the machines differ");
+}

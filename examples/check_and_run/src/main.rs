@@ -1,0 +1,63 @@
+//! A host in Rust: it checks a mask, runs a script on it, and prints a line for
+//! each report.
+//!
+//!     check_and_run MASK SCRIPT
+
+use ht1130::{Verdict, MASK, REPORT};
+use std::error::Error;
+use std::process::ExitCode;
+
+fn main() -> ExitCode {
+    let arguments: Vec<_> = std::env::args_os().skip(1).collect();
+    let [mask, script] = &arguments[..] else {
+        eprintln!("usage: check_and_run MASK SCRIPT");
+        return ExitCode::from(2);
+    };
+    let done = std::fs::read(mask)
+        .and_then(|mask| Ok((mask, std::fs::read(script)?)))
+        .map_err(Box::<dyn Error>::from)
+        .and_then(|(mask, script)| check_and_run(&mask, &script));
+    match done {
+        Ok(()) => ExitCode::SUCCESS,
+        Err(error) => {
+            eprintln!("check_and_run: {error}");
+            ExitCode::FAILURE
+        }
+    }
+}
+
+fn check_and_run(mask: &[u8], script: &[u8]) -> Result<(), Box<dyn Error>> {
+    let mut marks = [0; MASK];
+    match ht1130::check(mask, &mut marks)? {
+        Verdict::Passed => println!("mask passed"),
+        Verdict::Failed {
+            fault,
+            address,
+            level,
+        } => {
+            println!("mask may fault with {fault} at {address:03X} in level {level}")
+        }
+    }
+    for level in 0..3 {
+        let reached = marks.iter().filter(|&mark| mark >> level & 1 == 1).count();
+        println!("level {level}: {reached} addresses");
+    }
+
+    for report in ht1130::reports(mask, script)? {
+        print_report(&report);
+    }
+    Ok(())
+}
+
+fn print_report(report: &[u8; REPORT]) {
+    let pc = u16::from_le_bytes([report[4], report[5]]);
+    let cycles = u32::from_le_bytes([report[6], report[7], report[8], report[9]]);
+    let [level, halted, fault, pa, channel, mode] = report[10..16] else {
+        unreachable!("six bytes")
+    };
+    let display: String = report[16..]
+        .iter()
+        .map(|nibble| format!("{nibble:X}"))
+        .collect();
+    println!("PC {pc:03X} cycles {cycles} level {level} halted {halted} fault {fault} PA {pa:X} sound {channel}/{mode} {display}");
+}

@@ -1,0 +1,708 @@
+//! The Holtek HT1130, a 4-bit microcontroller with an LCD driver: a proved
+//! engine and mask checker.
+//!
+//! This crate is the Rust side of `ht1130.h`. It keeps no state and, but for
+//! [`reports`], allocates nothing: a call works on what it is lent. Bad input is
+//! refused before anything happens, so after an `Err` every lent machine and
+//! buffer is as it was.
+//!
+//! ```
+//! use ht1130::{Event, Machine, Options, IMAGE, MASK};
+//!
+//! let mut mask = [0x3E; MASK]; // NOP throughout
+//! mask[..2].copy_from_slice(&[0x75, 0x30]); // MOV A,5; OUT PA,A
+//!
+//! let mut machine = Machine::blank();
+//! ht1130::power_on(&mut machine, Options::default(), &[0; IMAGE])?;
+//! ht1130::apply(&mut machine, Event::Run(2), &mask)?;
+//! assert_eq!(machine.cpu.outputs.pa, 5);
+//! # Ok::<(), ht1130::Refusal>(())
+//! ```
+
+#![deny(unsafe_op_in_unsafe_fn)]
+#![warn(missing_docs)]
+
+use std::error::Error;
+use std::fmt;
+
+/// Bytes of a mask, and of its marks.
+pub const MASK: usize = 4096;
+/// Nibbles of a starting image: ACC, R0-R4, then the data memory.
+pub const IMAGE: usize = 166;
+/// Bytes of a report.
+pub const REPORT: usize = 48;
+/// The most bytes a script may have.
+pub const SCRIPT: usize = 65535;
+/// The timer rate that stands for the external clock.
+pub const EXTERNAL_CLOCK: u8 = 255;
+/// The sound channel that stands for off.
+pub const SOUND_OFF: u8 = 16;
+
+/// The working registers, each a nibble.
+#[repr(C)]
+#[derive(Clone, Copy, PartialEq, Eq, Debug)]
+pub struct Registers {
+    /// The accumulator.
+    pub acc: u8,
+    /// R0, low half of the pointer R1R0.
+    pub r0: u8,
+    /// R1, high half of the pointer R1R0.
+    pub r1: u8,
+    /// R2, low half of the pointer R3R2.
+    pub r2: u8,
+    /// R3, high half of the pointer R3R2.
+    pub r3: u8,
+    /// R4.
+    pub r4: u8,
+}
+
+/// Program counter and flags.
+#[repr(C)]
+#[derive(Clone, Copy, PartialEq, Eq, Debug)]
+pub struct Control {
+    /// The program counter, 0 to 4,095.
+    pub pc: u16,
+    /// The carry flag, 0 or 1.
+    pub cf: u8,
+    /// The timer flag, 0 or 1.
+    pub tf: u8,
+}
+
+/// The timer.
+#[repr(C)]
+#[derive(Clone, Copy, PartialEq, Eq, Debug)]
+pub struct Timer {
+    /// Its count.
+    pub count: u8,
+    /// Whether it counts, 0 or 1.
+    pub running: u8,
+}
+
+/// The interrupt state.
+#[repr(C)]
+#[derive(Clone, Copy, PartialEq, Eq, Debug)]
+pub struct Interrupts {
+    /// The enable flag, 0 or 1.
+    pub enabled: u8,
+    /// A held edge, 0 or 1.
+    pub held: u8,
+    /// 0 main program, 1 subroutine, 2 interrupt.
+    pub level: u8,
+}
+
+/// The stack register.
+#[repr(C)]
+#[derive(Clone, Copy, PartialEq, Eq, Debug)]
+pub struct Stack {
+    /// The address to return to, 0 to 4,095.
+    pub address: u16,
+    /// The carry flag that RETI brings back, 0 or 1.
+    pub carry: u8,
+}
+
+/// Why the machine does not step.
+#[repr(C)]
+#[derive(Clone, Copy, PartialEq, Eq, Debug)]
+pub struct Status {
+    /// 1 after HALT, until something wakes the machine.
+    pub halted: u8,
+    /// 0 none, 1 not an instruction, 2 CALL outside the main program, 3 return inside it.
+    pub fault: u8,
+}
+
+/// What the machine puts out.
+#[repr(C)]
+#[derive(Clone, Copy, PartialEq, Eq, Debug)]
+pub struct Outputs {
+    /// Port A, a nibble.
+    pub pa: u8,
+    /// The sound channel, 0 to 15, or [`SOUND_OFF`].
+    pub channel: u8,
+    /// The sound mode, 0 once, 1 loop.
+    pub mode: u8,
+}
+
+/// The levels at the input pins.
+#[repr(C)]
+#[derive(Clone, Copy, PartialEq, Eq, Debug)]
+pub struct Pins {
+    /// Port M, a nibble.
+    pub pm: u8,
+    /// Port S, a nibble.
+    pub ps: u8,
+    /// Port P, a nibble.
+    pub pp: u8,
+    /// INT, 0 or 1.
+    pub intr: u8,
+}
+
+/// The mask options. The default is rate 0, 4 commons, no wake bits.
+#[repr(C)]
+#[derive(Clone, Copy, PartialEq, Eq, Debug)]
+pub struct Options {
+    /// The timer counts at the system clock over 2 to this: 0 to 13 but not 6,
+    /// or [`EXTERNAL_CLOCK`].
+    pub rate: u8,
+    /// LCD commons, 3 or 4.
+    pub commons: u8,
+    /// The bits of port M that wake a halted machine.
+    pub pm: u8,
+    /// The bits of port S that wake a halted machine.
+    pub ps: u8,
+    /// The bits of port P that wake a halted machine.
+    pub pp: u8,
+}
+
+impl Default for Options {
+    fn default() -> Options {
+        Options {
+            rate: 0,
+            commons: 4,
+            pm: 0,
+            ps: 0,
+            pp: 0,
+        }
+    }
+}
+
+/// A machine without its memory.
+#[repr(C)]
+#[derive(Clone, Copy, PartialEq, Eq, Debug)]
+pub struct Cpu {
+    /// ACC, R0-R4.
+    pub registers: Registers,
+    /// PC, CF, TF.
+    pub control: Control,
+    /// The timer.
+    pub timer: Timer,
+    /// The interrupt state and the level.
+    pub interrupts: Interrupts,
+    /// The stack register.
+    pub stack: Stack,
+    /// Halted, fault.
+    pub status: Status,
+    /// PA and sound.
+    pub outputs: Outputs,
+    /// The input pins.
+    pub pins: Pins,
+    /// The mask options.
+    pub options: Options,
+    /// The cycles spent since power-on; goes on past its largest value to 0.
+    pub cycles: u32,
+}
+
+/// The machine record, laid out as `ht1130_machine`.
+///
+/// Any field may be written; a call refuses what is out of range with
+/// [`Refusal::Machine`].
+#[repr(C)]
+#[derive(Clone, Copy, PartialEq, Eq, Debug)]
+pub struct Machine {
+    /// All but the memory.
+    pub cpu: Cpu,
+    /// Data memory 00h-7Fh, then the display E0h-FFh, nibbles.
+    pub memory: [u8; 160],
+}
+
+impl Machine {
+    /// A record of zeros. It is no valid machine: power it on first.
+    pub const fn blank() -> Machine {
+        Machine {
+            cpu: Cpu {
+                registers: Registers {
+                    acc: 0,
+                    r0: 0,
+                    r1: 0,
+                    r2: 0,
+                    r3: 0,
+                    r4: 0,
+                },
+                control: Control {
+                    pc: 0,
+                    cf: 0,
+                    tf: 0,
+                },
+                timer: Timer {
+                    count: 0,
+                    running: 0,
+                },
+                interrupts: Interrupts {
+                    enabled: 0,
+                    held: 0,
+                    level: 0,
+                },
+                stack: Stack {
+                    address: 0,
+                    carry: 0,
+                },
+                status: Status {
+                    halted: 0,
+                    fault: 0,
+                },
+                outputs: Outputs {
+                    pa: 0,
+                    channel: 0,
+                    mode: 0,
+                },
+                pins: Pins {
+                    pm: 0,
+                    ps: 0,
+                    pp: 0,
+                    intr: 0,
+                },
+                options: Options {
+                    rate: 0,
+                    commons: 0,
+                    pm: 0,
+                    ps: 0,
+                    pp: 0,
+                },
+                cycles: 0,
+            },
+            memory: [0; 160],
+        }
+    }
+}
+
+/// Why a call was refused; the lowest number that holds.
+#[repr(u8)]
+#[derive(Clone, Copy, PartialEq, Eq, PartialOrd, Ord, Hash, Debug)]
+pub enum Refusal {
+    /// The mask has not [`MASK`] bytes.
+    MaskLength = 1,
+    /// The image, marks or report buffer has not its length.
+    BufferLength = 2,
+    /// A nibble over 15, INT over 1, or an operand outside its range.
+    Value = 3,
+    /// A mask option outside its list.
+    Option = 4,
+    /// A machine field or an address out of range, or halted with a fault.
+    Machine = 5,
+    /// A script too long, a record cut off or of a wrong length.
+    RecordLength = 6,
+    /// An unknown kind of event.
+    Kind = 7,
+    /// A script that does not start with power-on.
+    NoPowerOn = 8,
+    /// Less than [`REPORT`] bytes of report buffer for each record.
+    ReportRoom = 9,
+}
+
+impl Refusal {
+    /// The number, 1 to 9.
+    pub const fn number(self) -> u8 {
+        self as u8
+    }
+
+    fn from_number(number: u8) -> Option<Refusal> {
+        Some(match number {
+            0 => return None,
+            1 => Refusal::MaskLength,
+            2 => Refusal::BufferLength,
+            3 => Refusal::Value,
+            4 => Refusal::Option,
+            5 => Refusal::Machine,
+            6 => Refusal::RecordLength,
+            7 => Refusal::Kind,
+            8 => Refusal::NoPowerOn,
+            9 => Refusal::ReportRoom,
+            _ => unreachable!("the library has refusals 1 to 9"),
+        })
+    }
+}
+
+impl fmt::Display for Refusal {
+    fn fmt(&self, f: &mut fmt::Formatter<'_>) -> fmt::Result {
+        f.write_str(match self {
+            Refusal::MaskLength => "mask is not 4,096 bytes",
+            Refusal::BufferLength => "image, marks or report buffer has the wrong length",
+            Refusal::Value => "value out of range",
+            Refusal::Option => "mask option outside its list",
+            Refusal::Machine => "machine field or address out of range",
+            Refusal::RecordLength => "script too long, record cut off or payload length wrong",
+            Refusal::Kind => "unknown kind of event",
+            Refusal::NoPowerOn => "script does not start with power-on",
+            Refusal::ReportRoom => "report buffer too short for the script",
+        })
+    }
+}
+
+impl Error for Refusal {}
+
+/// Why a script was refused, and where.
+#[derive(Clone, Copy, PartialEq, Eq, Hash, Debug)]
+pub struct ScriptRefusal {
+    /// The reason.
+    pub refusal: Refusal,
+    /// Where the record starts that is to blame; 0 where no one record is.
+    pub offset: u16,
+}
+
+impl fmt::Display for ScriptRefusal {
+    fn fmt(&self, f: &mut fmt::Formatter<'_>) -> fmt::Result {
+        write!(f, "{} at byte {}", self.refusal, self.offset)
+    }
+}
+
+impl Error for ScriptRefusal {
+    fn source(&self) -> Option<&(dyn Error + 'static)> {
+        Some(&self.refusal)
+    }
+}
+
+/// Something that happens to a machine.
+#[derive(Clone, Copy, PartialEq, Eq, Hash, Debug)]
+pub enum Event {
+    /// At most so many steps; fewer when the machine halts or faults.
+    Run(u16),
+    /// New levels at the input ports, nibbles.
+    Pins {
+        /// Port M.
+        pm: u8,
+        /// Port S.
+        ps: u8,
+        /// Port P.
+        pp: u8,
+    },
+    /// A new level at INT, 0 or 1.
+    Int(u8),
+    /// So many rising edges at TMCLK.
+    Tmclk(u16),
+    /// A reset.
+    Res,
+}
+
+/// The kind of [`Event::Run`], by number.
+pub const RUN: u16 = 2;
+/// The kind of [`Event::Pins`], by number.
+pub const PINS: u16 = 3;
+/// The kind of [`Event::Int`], by number.
+pub const INT: u16 = 4;
+/// The kind of [`Event::Tmclk`], by number.
+pub const TMCLK: u16 = 5;
+/// The kind of [`Event::Res`], by number.
+pub const RES: u16 = 6;
+
+/// What the checker says of a mask.
+#[derive(Clone, Copy, PartialEq, Eq, Hash, Debug)]
+pub enum Verdict {
+    /// No list of events makes it fault.
+    Passed,
+    /// The lowest address, then level, where it may fault.
+    Failed {
+        /// 1 to 3, as in [`Status::fault`].
+        fault: u8,
+        /// The address of the instruction.
+        address: u16,
+        /// The level it runs in.
+        level: u8,
+    },
+}
+
+/// An instruction, by the numbers of [`form`].
+#[derive(Clone, Copy, PartialEq, Eq, Hash, Debug)]
+pub struct Instruction {
+    /// The line of the data sheet's instruction summary.
+    pub form: u8,
+    /// The first operand, 0 where the form has none.
+    pub a: u8,
+    /// The second operand or the target, 0 where the form has none.
+    pub b: u16,
+    /// Bytes.
+    pub length: u8,
+    /// Machine cycles.
+    pub cycles: u8,
+}
+
+/// Constants numbered from 0, and their names.
+macro_rules! numbered {
+    ($($name:ident)*) => {
+        #[allow(non_camel_case_types, clippy::upper_case_acronyms)]
+        enum Order { $($name),* }
+        $(#[allow(missing_docs)] pub const $name: u8 = Order::$name as u8;)*
+        /// The names, by number.
+        pub const NAMES: &[&str] = &[$(stringify!($name)),*];
+    };
+}
+
+/// The forms of [`Instruction::form`]: the lines of the data sheet's instruction
+/// summary, in its order. M is the memory at R1R0.
+///
+/// Operands, in a: X a nibble, RN a register 0-4, XX a byte, PAIR (0 R1R0, 1
+/// R3R2), PORT (0 PM, 1 PS, 2 PP), PAGE (0 the current, 1 page 15). A target is
+/// in b, and so is XX of `MOV_PAIR_XX`. `BRANCH` has a [`branch`]
+/// in a.
+pub mod form {
+    numbered! {
+        ADD_A_M ADC_A_M SUB_A_M SBC_A_M ADD_A_X SUB_A_X DAA AND_A_M OR_A_M XOR_A_M AND_M_A OR_M_A
+        XOR_M_A AND_A_X OR_A_X XOR_A_X INC_A INC_RN INC_PAIR DEC_A DEC_RN DEC_PAIR MOV_A_RN MOV_RN_A
+        MOV_A_PAIR MOV_PAIR_A MOV_A_X MOV_PAIR_XX MOV_R4_X RL_A RLC_A RR_A RRC_A IN_A_PORT OUT_PA_A
+        JMP BRANCH CALL RET RETI CLC STC EI DI NOP TIMER_XX TIMER_ON TIMER_OFF MOV_A_TMRL MOV_A_TMRH
+        MOV_TMRL_A MOV_TMRH_A READ_R4A_PAGE READ_MR0A_PAGE SOUND_X SOUND_A SOUND_ONE SOUND_LOOP
+        SOUND_OFF HALT
+    }
+}
+
+/// What a `BRANCH` tests: the five leading bits of its code less 16.
+pub mod branch {
+    numbered! {
+        JA0 JA1 JA2 JA3 JNZ_R0 JNZ_R1 JZ_A JNZ_A JC JNC JTMR JNZ_R4
+    }
+}
+
+/// The bytes of an instruction; dereferences to a slice of one or two.
+#[derive(Clone, Copy, PartialEq, Eq, Hash, Debug)]
+pub struct Code {
+    bytes: [u8; 2],
+    length: u8,
+}
+
+impl std::ops::Deref for Code {
+    type Target = [u8];
+
+    fn deref(&self) -> &[u8] {
+        &self.bytes[..self.length as usize]
+    }
+}
+
+/// The functions of `ht1130.h` as they are. The rest of this crate is safe.
+#[allow(missing_docs)]
+pub mod ffi {
+    use super::Machine;
+
+    extern "C" {
+        pub fn ht1130_power_on(
+            machine: *mut Machine,
+            rate: u8,
+            commons: u8,
+            wake_pm: u8,
+            wake_ps: u8,
+            wake_pp: u8,
+            image: *const u8,
+            image_len: usize,
+        ) -> u8;
+        pub fn ht1130_apply(
+            machine: *mut Machine,
+            kind: u16,
+            count: u16,
+            a: u8,
+            b: u8,
+            c: u8,
+            mask: *const u8,
+            mask_len: usize,
+        ) -> u8;
+        pub fn ht1130_report(machine: *const Machine, out: *mut u8, out_len: usize) -> u8;
+        pub fn ht1130_check(
+            mask: *const u8,
+            mask_len: usize,
+            marks: *mut u8,
+            marks_len: usize,
+        ) -> u64;
+        pub fn ht1130_check_script(
+            mask: *const u8,
+            mask_len: usize,
+            script: *const u8,
+            script_len: usize,
+            room: usize,
+        ) -> u64;
+        pub fn ht1130_run_script(
+            mask: *const u8,
+            mask_len: usize,
+            script: *const u8,
+            script_len: usize,
+            out: *mut u8,
+            out_len: usize,
+        ) -> u64;
+        pub fn ht1130_read(mask: *const u8, mask_len: usize, address: u16) -> u64;
+        pub fn ht1130_write(form: u8, a: u8, b: u16) -> u64;
+    }
+}
+
+fn accepted(refusal: u8) -> Result<(), Refusal> {
+    Refusal::from_number(refusal).map_or(Ok(()), Err)
+}
+
+/// Byte `n` of an answer.
+fn part(answer: u64, n: u32) -> u8 {
+    (answer >> (8 * n)) as u8
+}
+
+/// The high half of an answer begins with an address, an offset or a target.
+fn high(answer: u64) -> u16 {
+    (answer >> 32) as u16
+}
+
+/// Powers a machine on with options and an image of [`IMAGE`] nibbles: ACC,
+/// R0-R4, memory. What the record held before does not matter.
+///
+/// Refused: `BufferLength`, `Value`, `Option`.
+pub fn power_on(machine: &mut Machine, options: Options, image: &[u8]) -> Result<(), Refusal> {
+    let Options {
+        rate,
+        commons,
+        pm,
+        ps,
+        pp,
+    } = options;
+    // SAFETY: the record and the slice are valid for the call and cannot overlap.
+    accepted(unsafe {
+        ffi::ht1130_power_on(
+            machine,
+            rate,
+            commons,
+            pm,
+            ps,
+            pp,
+            image.as_ptr(),
+            image.len(),
+        )
+    })
+}
+
+/// Applies an event to a machine. Only `Run` looks at the mask; the others take
+/// any slice, an empty one too.
+///
+/// Refused: `MaskLength`, `Value`, `Machine`.
+pub fn apply(machine: &mut Machine, event: Event, mask: &[u8]) -> Result<(), Refusal> {
+    match event {
+        Event::Run(steps) => apply_kind(machine, RUN, steps, 0, 0, 0, mask),
+        Event::Pins { pm, ps, pp } => apply_kind(machine, PINS, 0, pm, ps, pp, mask),
+        Event::Int(level) => apply_kind(machine, INT, 0, level, 0, 0, mask),
+        Event::Tmclk(edges) => apply_kind(machine, TMCLK, edges, 0, 0, 0, mask),
+        Event::Res => apply_kind(machine, RES, 0, 0, 0, 0, mask),
+    }
+}
+
+/// Applies an event given by numbers; what the kind does not name is not
+/// looked at. PINS takes PM, PS, PP as a, b, c; INT its level as a.
+///
+/// Refused: as [`apply`], and `Kind` for a kind other than 2 to 6.
+pub fn apply_kind(
+    machine: &mut Machine,
+    kind: u16,
+    count: u16,
+    a: u8,
+    b: u8,
+    c: u8,
+    mask: &[u8],
+) -> Result<(), Refusal> {
+    // SAFETY: the record and the slice are valid for the call and cannot overlap.
+    accepted(unsafe { ffi::ht1130_apply(machine, kind, count, a, b, c, mask.as_ptr(), mask.len()) })
+}
+
+/// Writes a machine's report to a buffer of [`REPORT`] bytes.
+///
+/// Refused: `BufferLength`, `Machine`.
+pub fn report(machine: &Machine, out: &mut [u8]) -> Result<(), Refusal> {
+    // SAFETY: the record and the slice are valid for the call and cannot overlap.
+    accepted(unsafe { ffi::ht1130_report(machine, out.as_mut_ptr(), out.len()) })
+}
+
+/// A machine's report.
+///
+/// Refused: `Machine`.
+pub fn report_bytes(machine: &Machine) -> Result<[u8; REPORT], Refusal> {
+    let mut out = [0; REPORT];
+    report(machine, &mut out)?;
+    Ok(out)
+}
+
+/// Checks a mask and writes [`MASK`] marks, also where it fails: 1 the code at
+/// this address may run in level 0, 2 in level 1, 4 in level 2, added.
+///
+/// Refused: `MaskLength`, `BufferLength`.
+pub fn check(mask: &[u8], marks: &mut [u8]) -> Result<Verdict, Refusal> {
+    // SAFETY: both slices are valid for the call and cannot overlap.
+    let answer =
+        unsafe { ffi::ht1130_check(mask.as_ptr(), mask.len(), marks.as_mut_ptr(), marks.len()) };
+    accepted(part(answer, 0))?;
+    Ok(match part(answer, 1) {
+        0 => Verdict::Passed,
+        fault => Verdict::Failed {
+            fault,
+            address: high(answer),
+            level: part(answer, 2),
+        },
+    })
+}
+
+fn script_answer(answer: u64) -> Result<(), ScriptRefusal> {
+    accepted(part(answer, 0)).map_err(|refusal| ScriptRefusal {
+        refusal,
+        offset: high(answer),
+    })
+}
+
+/// Checks a whole script for a report buffer of `room` bytes; runs nothing.
+///
+/// Refused: all but `BufferLength` and `Machine`.
+pub fn check_script(mask: &[u8], script: &[u8], room: usize) -> Result<(), ScriptRefusal> {
+    // SAFETY: both slices are valid for the call.
+    script_answer(unsafe {
+        ffi::ht1130_check_script(
+            mask.as_ptr(),
+            mask.len(),
+            script.as_ptr(),
+            script.len(),
+            room,
+        )
+    })
+}
+
+/// Checks a script as [`check_script`] does, then runs it: [`REPORT`] bytes for
+/// each record. Bytes of `out` after the last report stay.
+pub fn run_script(mask: &[u8], script: &[u8], out: &mut [u8]) -> Result<(), ScriptRefusal> {
+    // SAFETY: the slices are valid for the call; `out` cannot overlap the others.
+    script_answer(unsafe {
+        ffi::ht1130_run_script(
+            mask.as_ptr(),
+            mask.len(),
+            script.as_ptr(),
+            script.len(),
+            out.as_mut_ptr(),
+            out.len(),
+        )
+    })
+}
+
+/// Runs a script as [`run_script`] does, and returns a report for each record.
+pub fn reports(mask: &[u8], script: &[u8]) -> Result<Vec<[u8; REPORT]>, ScriptRefusal> {
+    // No record has under 4 bytes, and a longer script is refused.
+    let mut out = vec![[0; REPORT]; script.len().min(SCRIPT) / 4];
+    run_script(mask, script, out.as_flattened_mut())?;
+    // A report starts with 44, and what follows the last one is still 0.
+    let count = out.iter().take_while(|report| report[0] != 0).count();
+    out.truncate(count);
+    Ok(out)
+}
+
+/// The instruction at an address of a mask, or `None` where the bytes read as
+/// none. The byte after the last is the first.
+///
+/// Refused: `MaskLength`, `Machine` for an address over 4,095.
+pub fn read(mask: &[u8], address: u16) -> Result<Option<Instruction>, Refusal> {
+    // SAFETY: the slice is valid for the call.
+    let answer = unsafe { ffi::ht1130_read(mask.as_ptr(), mask.len(), address) };
+    accepted(part(answer, 0))?;
+    Ok((part(answer, 1) == 0).then(|| Instruction {
+        form: part(answer, 2),
+        a: part(answer, 3),
+        b: high(answer),
+        length: part(answer, 6),
+        cycles: part(answer, 7),
+    }))
+}
+
+/// The bytes of an instruction. Operands that the form does not have are not
+/// looked at.
+///
+/// Refused: `Value` for an unknown form or an operand outside its range.
+pub fn write(form: u8, a: u8, b: u16) -> Result<Code, Refusal> {
+    // SAFETY: numbers only.
+    let answer = unsafe { ffi::ht1130_write(form, a, b) };
+    accepted(part(answer, 0))?;
+    Ok(Code {
+        bytes: [part(answer, 2), part(answer, 3)],
+        length: part(answer, 1),
+    })
+}

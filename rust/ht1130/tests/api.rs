@@ -1,0 +1,210 @@
+//! The safe functions, as a caller meets them.
+
+use ht1130::{branch, form, Event, Instruction, Machine, Options, Refusal, ScriptRefusal, Verdict};
+use ht1130::{EXTERNAL_CLOCK, IMAGE, MASK, REPORT, SOUND_OFF};
+
+/// NOP but for what is given.
+fn mask(parts: &[(usize, &[u8])]) -> [u8; MASK] {
+    let mut mask = [0x3E; MASK];
+    for (at, code) in parts {
+        mask[*at..at + code.len()].copy_from_slice(code);
+    }
+    mask
+}
+
+fn powered(options: Options) -> Machine {
+    let mut machine = Machine::blank();
+    ht1130::power_on(&mut machine, options, &[0; IMAGE]).unwrap();
+    machine
+}
+
+const POWER_ON: [u8; 10] = [6, 0, 1, 0, 2, 4, 0, 0, 0, 0];
+
+#[test]
+fn events() {
+    let halt = mask(&[(0, &[0x37, 0x3E])]);
+    let mut m = powered(Options {
+        ps: 2,
+        ..Options::default()
+    });
+    assert_eq!(m.cpu.outputs.channel, SOUND_OFF);
+    ht1130::apply(&mut m, Event::Run(10), &halt).unwrap();
+    assert_eq!(
+        (m.cpu.status.halted, m.cpu.control.pc, m.cpu.cycles),
+        (1, 2, 2)
+    );
+    ht1130::apply(
+        &mut m,
+        Event::Pins {
+            pm: 1,
+            ps: 13,
+            pp: 15,
+        },
+        &[],
+    )
+    .unwrap();
+    assert_eq!((m.cpu.status.halted, m.cpu.interrupts.held), (0, 1));
+    assert_eq!((m.cpu.pins.pm, m.cpu.pins.ps, m.cpu.pins.pp), (1, 13, 15));
+    ht1130::apply(&mut m, Event::Int(0), &[]).unwrap();
+    assert_eq!(m.cpu.pins.intr, 0);
+    ht1130::apply(&mut m, Event::Res, &[]).unwrap();
+    assert_eq!((m.cpu.control.pc, m.cpu.interrupts.held), (0, 0));
+
+    let mut m = powered(Options {
+        rate: EXTERNAL_CLOCK,
+        ..Options::default()
+    });
+    m.cpu.timer.running = 1;
+    ht1130::apply(&mut m, Event::Tmclk(258), &[]).unwrap();
+    assert_eq!((m.cpu.timer.count, m.cpu.control.tf), (2, 1));
+}
+
+#[test]
+fn refusals() {
+    let nops = mask(&[]);
+    let mut m = powered(Options::default());
+    let before = m;
+    let pins = Event::Pins {
+        pm: 0,
+        ps: 16,
+        pp: 0,
+    };
+    assert_eq!(
+        ht1130::apply(&mut m, Event::Run(1), &nops[1..]),
+        Err(Refusal::MaskLength)
+    );
+    assert_eq!(ht1130::apply(&mut m, pins, &[]), Err(Refusal::Value));
+    assert_eq!(
+        ht1130::apply(&mut m, Event::Int(2), &[]),
+        Err(Refusal::Value)
+    );
+    assert_eq!(
+        ht1130::apply_kind(&mut m, 1, 0, 0, 0, 0, &nops),
+        Err(Refusal::Kind)
+    );
+    assert_eq!(ht1130::report(&m, &mut [0; 47]), Err(Refusal::BufferLength));
+    assert_eq!(
+        ht1130::power_on(&mut m, Options::default(), &[0; 165]),
+        Err(Refusal::BufferLength)
+    );
+    let six = Options {
+        rate: 6,
+        ..Options::default()
+    };
+    assert_eq!(
+        ht1130::power_on(&mut m, six, &[0; IMAGE]),
+        Err(Refusal::Option)
+    );
+    assert_eq!(m, before);
+    assert_eq!(
+        ht1130::report_bytes(&Machine::blank()),
+        Err(Refusal::Machine)
+    );
+    assert_eq!(
+        ht1130::check(&nops, &mut [0; 4097]),
+        Err(Refusal::BufferLength)
+    );
+    assert_eq!(ht1130::read(&nops, 4096), Err(Refusal::Machine));
+    assert_eq!(
+        ht1130::write(form::BRANCH, branch::JC, 2048),
+        Err(Refusal::Value)
+    );
+    assert_eq!(ht1130::write(60, 0, 0), Err(Refusal::Value));
+}
+
+#[test]
+fn scripts() {
+    let nops = mask(&[]);
+    let refused = |script: &[u8], room| ht1130::check_script(&nops, script, room).unwrap_err();
+    let at = |refusal, offset| ScriptRefusal { refusal, offset };
+    assert_eq!(refused(&[5, 0, 6], 48), at(Refusal::RecordLength, 0));
+    assert_eq!(refused(&[], 48), at(Refusal::NoPowerOn, 0));
+    assert_eq!(refused(&POWER_ON, 47), at(Refusal::ReportRoom, 0));
+    let unknown = [&POWER_ON[..], &[0, 0, 9, 0]].concat();
+    assert_eq!(refused(&unknown, 96), at(Refusal::Kind, 10));
+    assert_eq!(
+        refused(&unknown, 96).to_string(),
+        "unknown kind of event at byte 10"
+    );
+
+    let run = [&POWER_ON[..], &[2, 0, 2, 0, 3, 0]].concat();
+    let mut out = [0xA5; 2 * REPORT + 1];
+    ht1130::run_script(&nops, &run, &mut out).unwrap();
+    assert_eq!(
+        (out[REPORT], out[REPORT + 4], out[2 * REPORT]),
+        (44, 3, 0xA5)
+    );
+    let reports = ht1130::reports(&nops, &run).unwrap();
+    assert_eq!(reports.as_flattened(), &out[..2 * REPORT]);
+    assert_eq!(ht1130::reports(&nops, &[]), Err(at(Refusal::NoPowerOn, 0)));
+    assert_eq!(
+        ht1130::reports(&nops, &[0; 70_000]),
+        Err(at(Refusal::RecordLength, 0))
+    );
+}
+
+#[test]
+fn checks() {
+    let mut marks = [0; MASK];
+    assert_eq!(ht1130::check(&mask(&[]), &mut marks), Ok(Verdict::Passed));
+    assert_eq!(marks, [1; MASK]);
+    let verdict = ht1130::check(&mask(&[(0, &[0xF1, 0x23])]), &mut marks);
+    assert_eq!(
+        verdict,
+        Ok(Verdict::Failed {
+            fault: 2,
+            address: 0,
+            level: 1
+        })
+    );
+    let verdict = ht1130::check(&mask(&[(0x123, &[0x2E])]), &mut marks);
+    assert_eq!(
+        verdict,
+        Ok(Verdict::Failed {
+            fault: 3,
+            address: 0x123,
+            level: 0
+        })
+    );
+}
+
+#[test]
+fn instructions() {
+    let code = ht1130::write(form::BRANCH, branch::JTMR, 0x123).unwrap();
+    assert_eq!(*code, [0xD1, 0x23]);
+    assert_eq!(*ht1130::write(form::NOP, 0, 0).unwrap(), [0x3E]);
+    let read = ht1130::read(&mask(&[(5, &code)]), 5).unwrap();
+    let expected = Instruction {
+        form: form::BRANCH,
+        a: branch::JTMR,
+        b: 0x123,
+        length: 2,
+        cycles: 2,
+    };
+    assert_eq!(read, Some(expected));
+    assert_eq!(form::NAMES[form::BRANCH as usize], "BRANCH");
+    assert_eq!(ht1130::read(&mask(&[(0, &[0x35])]), 0), Ok(None));
+}
+
+/// The library keeps no state, so threads do not disturb each other.
+#[test]
+fn threads() {
+    let work = |n: u8| {
+        let mask = mask(&[(0, &[0x2C, 0xF1, n, 0xE0, 0x03]), (0x100, &[0x2E; 256])]);
+        let mut marks = [0; MASK];
+        let verdict = ht1130::check(&mask, &mut marks).unwrap();
+        let script = [&POWER_ON[..], &[2, 0, 2, 0, n, n]].concat();
+        (
+            verdict,
+            marks.to_vec(),
+            ht1130::reports(&mask, &script).unwrap(),
+        )
+    };
+    let alone: Vec<_> = (0..8).map(work).collect();
+    std::thread::scope(|scope| {
+        for n in 0..8 {
+            let expected = &alone[n as usize];
+            scope.spawn(move || (0..50).for_each(|_| assert!(work(n) == *expected)));
+        }
+    });
+}

@@ -1,0 +1,45 @@
+#!/usr/bin/env bash
+# Tests the host library from C and Rust: header, record layout, examples, and
+# a comparison with a plain engine. Needs libhost.a, in target/staticlib or in
+# HT1130_LIB_DIR.
+set -euo pipefail
+cd "$(dirname "$0")/.."
+
+HT1130_LIB_DIR=$(realpath "${HT1130_LIB_DIR:-target/staticlib}")
+CARGO_TARGET_DIR=$PWD/target/cargo
+export HT1130_LIB_DIR CARGO_TARGET_DIR
+if [ ! -f "$HT1130_LIB_DIR/libhost.a" ]; then
+    echo "no libhost.a in $HT1130_LIB_DIR" >&2
+    exit 1
+fi
+work=target/host_tests
+mkdir -p "$work"
+
+say() { printf '== %s\n' "$*"; }
+cargo_in() { (cd "$1" && shift && cargo "$@"); }
+
+say "header: C99, C11 and C++"
+for standard in c99 c11; do
+    gcc -std=$standard -pedantic -Wall -Wextra -Werror -fsyntax-only -x c include/ht1130.h
+done
+g++ -std=c++11 -pedantic -Wall -Wextra -Werror -fsyntax-only -x c++ include/ht1130.h
+
+say "examples/segments.c"
+gcc -std=c11 -O2 -Wall -Wextra -Werror -I include -o "$work/segments" examples/segments.c "$HT1130_LIB_DIR/libhost.a"
+"$work/segments" > "$work/segments.out"
+diff examples/segments.out "$work/segments.out"
+
+say "rust/ht1130"
+cargo_in rust/ht1130 test --offline --release --quiet
+
+say "examples/check_and_run"
+cargo_in examples/check_and_run build --offline --release --quiet
+target/cargo/release/check_and_run demo/mask.bin demo/script.bin > "$work/check_and_run.out"
+diff examples/check_and_run.out "$work/check_and_run.out"
+
+say "bench: the plain engine's own tests, then the library against it"
+cargo_in bench test --offline --release --quiet
+cargo_in bench build --offline --release --quiet
+target/cargo/release/bench diff --seed 1130
+
+say "host tests passed"
