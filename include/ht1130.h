@@ -6,8 +6,11 @@
  * memory that it is lent and returns.
  *
  * Pointers. Each is valid for its length for the whole call and not NULL, also
- * where the length is 0. What a call may write (no `const`) overlaps nothing
- * else that it is lent.
+ * where the length is 0 (pass any object's address then). What a call may write
+ * (no `const`) overlaps nothing else that it is lent. Calls on different memory
+ * may run at the same time.
+ *
+ * Stack. ht1130_check takes about 48 KB, the other calls under 2 KB.
  *
  * Refusals. Bad input is refused before anything happens: the machine record
  * and every lent buffer are then as they were. The numbers, lowest first:
@@ -35,8 +38,9 @@ enum { HT1130_MASK = 4096, HT1130_IMAGE = 166, HT1130_REPORT = 48, HT1130_SCRIPT
 
 /*
  * The machine record: 200 bytes, 4-byte aligned. Bytes 15, 19, 34 and 35 are
- * padding. A host may read and write any field; a call refuses what is out of
- * range with 5. The offset of each field stands beside it.
+ * padding of no defined value: compare fields, not bytes. A host may read and
+ * write any field; a call refuses what is out of range with 5. The offset of
+ * each part stands beside it.
  */
 typedef struct ht1130_machine {
     struct { uint8_t acc, r0, r1, r2, r3, r4; } registers;    /*  0  nibbles */
@@ -47,7 +51,7 @@ typedef struct ht1130_machine {
     struct { uint8_t halted, fault; } status;                 /* 20  0, 1; 0-3 */
     struct { uint8_t pa, channel, mode; } outputs;            /* 22  nibble; 0-15, 16 off; 0 once, 1 loop */
     struct { uint8_t pm, ps, pp, intr; } pins;                /* 25  nibbles; INT 0, 1 */
-    struct { uint8_t rate, commons, pm, ps, pp; } options;    /* 29  0-13 but 6, 255 external; 3, 4; wake nibbles */
+    struct { uint8_t rate, commons, pm, ps, pp; } options;    /* 29  0-13 but 6, 255 external; 3, 4; wake nibbles of the ports */
     uint32_t cycles;                                          /* 36  goes on past its largest value to 0 */
     uint8_t memory[160];                                      /* 40  data memory 00h-7Fh, then E0h-FFh, nibbles */
 } ht1130_machine;
@@ -66,7 +70,8 @@ enum { HT1130_RUN = 2, HT1130_PINS = 3, HT1130_INT = 4, HT1130_TMCLK = 5, HT1130
  * An event. RUN takes at most `count` steps of the mask, fewer when it halts or
  * faults; PINS sets PM, PS, PP to a, b, c; INT sets the pin to a; TMCLK counts
  * `count` rising edges; RES resets. What a kind does not name is not looked at,
- * the mask included. Returns 0, or refuses with 1, 3, 5, or 7 for another kind.
+ * the mask included. Returns 0, or refuses with 1, 3, 5, or 7 for another kind
+ * (5 goes before 7). Kind 1 is ht1130_power_on.
  */
 uint8_t ht1130_apply(ht1130_machine *machine, uint16_t kind, uint16_t count, uint8_t a, uint8_t b,
                      uint8_t c, const uint8_t *mask, size_t mask_len);
@@ -102,16 +107,17 @@ uint64_t ht1130_check_script(const uint8_t *mask, size_t mask_len, const uint8_t
                              size_t script_len, size_t room);
 
 /*
- * The same check, then the script: a report of 48 bytes for each record. Bytes
- * of `out` after the last report stay. A refused script writes nothing.
+ * The same check for out_len bytes, then the script: a report of 48 bytes for
+ * each of its records, from the first byte of `out` on. Bytes after the last
+ * report stay. A refused script writes nothing.
  */
 uint64_t ht1130_run_script(const uint8_t *mask, size_t mask_len, const uint8_t *script,
                            size_t script_len, uint8_t *out, size_t out_len);
 
 /*
  * The instruction at an address. Refuses with 1 or 5; fault 1 where the bytes
- * read as none. Else a form and its operands, as in the list below, its length
- * in bytes and its cycles.
+ * read as none, and then all else is 0. Else a form and its operands, as in the
+ * list below, its length in bytes and its cycles.
  */
 uint64_t ht1130_read(const uint8_t *mask, size_t mask_len, uint16_t address);
 #define HT1130_FORM(answer) ((uint8_t)((answer) >> 16))
