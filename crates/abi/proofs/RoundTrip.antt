@@ -12,9 +12,9 @@ use borrow.Author.Tests.{ltb-true}
 use Rattle.isa.specs.Code.{bytesOf, inRange}
 use Rattle.isa.specs.Reading.{Reads, Reading, decoded}
 use Rattle.isa.specs.Timing.{Columns, lengthOf, cyclesOf}
-use Rattle.isa.specs.Fetching.{refused, byteAt, pick, withTiming, fetching}
-use Rattle.isa.specs.Writing as Writing
-use Rattle.isa.specs.Writing.{writing}
+use Rattle.rom.specs.Fetching.{refused, byteAt, pick, withTiming, fetching}
+use Rattle.rom.specs.Writing as Writing
+use Rattle.rom.specs.Writing.{writing}
 use Rattle.isa.specs.declared.Instruction.{Instruction}
 use Rattle.isa.specs.declared.decoder.Decoded.{Decoded}
 use Rattle.isa.specs.declared.decoder.Decoded.the-variants.{Read, Unreadable}

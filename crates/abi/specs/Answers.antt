@@ -3,10 +3,10 @@
 use Prim.Native.Nat.{ℕ, _+_, _*_, _/_, _%_, _^_}
 use mathlib.Core.List.{[]}
 use lib.ListN.{length, getD}
-use Rattle.isa.specs.Fetching as Fetching
-use Rattle.isa.specs.Fetching.{refused, unreadable, instruction}
-use Rattle.isa.specs.Writing as Writing
-use Rattle.isa.specs.Writing.{writing}
+use Rattle.rom.specs.Fetching as Fetching
+use Rattle.rom.specs.Fetching.{refused, unreadable, instruction}
+use Rattle.rom.specs.Writing as Writing
+use Rattle.rom.specs.Writing.{writing}
 use Rattle.abi.specs.Forms.{Named, numbersOf, Meant, one, nothing, named}
 
 -- bytes 0 to 7: the refusal, the fault, the form, operand a, operand b in two, the length and the cycles

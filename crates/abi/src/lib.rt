@@ -3,15 +3,15 @@ mod names;
 mod numbers;
 
 ghost use mathlib.Core.Path.{_≡_};
-ghost use Rattle.isa.specs.Fetching.{fetching};
+ghost use Rattle.rom.specs.Fetching.{fetching};
 ghost use Rattle.abi.specs.Answers.{packed, packedBytes, readNumber, writeNumber, hosted};
 use crate::names::instruction_of;
 use crate::numbers::numbers_of;
 use isa::ProgramAddress;
-use isa::encoder::Written;
-use isa::encoder::encode;
-use isa::reader::Fetched;
-use isa::reader::read_at;
+use rom::encoder::Written;
+use rom::encoder::encode;
+use rom::reader::Fetched;
+use rom::reader::read_at;
 
 // The eight bytes of what was read, lowest first; b has two.
 fn pack(refusal: u8, fault: u8, form: u8, a: u8, b: u16, size: u8, cycles: u8) -> u64

@@ -1,6 +1,6 @@
 // From a form and its operands to an instruction.
 ghost use mathlib.Core.Path.{_≡_};
-ghost use Rattle.isa.specs.Writing.{writing};
+ghost use Rattle.rom.specs.Writing.{writing};
 ghost use Rattle.abi.specs.Forms.{branchNamed, nothing, pairNamed};
 ghost use Rattle.abi.specs.Answers.{hosted, hostedBy};
 use isa::Condition;

@@ -4,7 +4,7 @@ use mathlib.Core.Path.{_≡_}
 use mathlib.Core.Bool.{Bool, true, false}
 use mathlib.Core.List.{List, [], _∷_}
 use lib.Dec.{eqb}
-use Rattle.isa.specs.Fetching.{byteAt}
+use Rattle.rom.specs.Fetching.{byteAt}
 use Rattle.isa.specs.Reading.{decoded}
 use Rattle.isa.specs.Timing.{lengthOf}
 use Rattle.isa.specs.declared.ProgramAddress.{ProgramAddress}

@@ -7,8 +7,8 @@ use crate::flow::Flow;
 use crate::flow::flow_of;
 use isa::decoder::Decoded;
 use isa::decoder::decode;
-use isa::reader::byte_at;
-use isa::timing::length;
+use rom::reader::byte_at;
+use rom::timing::length;
 
 // The vectors 4 and 8 in level 2, where EI lets an interrupt go.
 const TIMER: u16 = 4 * 3 + 2;

@@ -8,7 +8,7 @@ use native.Mathlib.Omega.{arith}
 use lib.Dec.{eqb}
 use lib.ListN.{getD}
 use borrow.Author.Tests.{eq-eqb, ne-eqb}
-use Rattle.isa.specs.Fetching.{byteAt}
+use Rattle.rom.specs.Fetching.{byteAt}
 use Rattle.isa.specs.Reading.{Reading, decoded}
 use Rattle.isa.specs.Timing.{entries, lengthOf, cyclesOf}
 use Rattle.isa.specs.declared.decoder.Decoded.{Decoded}

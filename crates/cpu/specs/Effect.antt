@@ -5,7 +5,7 @@ use mathlib.Core.Bool.{Bool, true, false, not}
 use mathlib.Core.List.{List}
 use lib.Dec.{eqb}
 use lib.Bits.{bitAnd, bitOr, bitXor}
-use Rattle.isa.specs.Fetching.{byteAt}
+use Rattle.rom.specs.Fetching.{byteAt}
 use Rattle.datapath.specs.Alu.{summed, subtracted, adjusted, rotatedLeft, rotatedLeftThrough, rotatedRight, rotatedRightThrough, incremented, decremented, bitSet, notZero}
 use Rattle.datapath.specs.Memory.{pointed, loaded, stored}
 use Rattle.datapath.specs.declared.alu.Sum.{Sum}

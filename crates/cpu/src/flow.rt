@@ -10,7 +10,7 @@ use isa::Condition;
 use isa::Page;
 use isa::Pointer;
 use isa::ProgramAddress;
-use isa::reader::byte_at;
+use rom::reader::byte_at;
 
 impl Cpu {
     // Whether a conditional branch is taken.

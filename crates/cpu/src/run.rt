@@ -3,7 +3,7 @@ ghost use mathlib.Core.Path.{_≡_};
 ghost use Rattle.cpu.specs.Run.{ran};
 ghost use Rattle.cpu.specs.State.{state};
 use crate::Cpu;
-use isa::timing::list;
+use rom::timing::list;
 
 impl Cpu {
     // At most `steps` steps; none once halted or faulted. The memory is lent, so that the loop moves numbers alone.

@@ -10,8 +10,8 @@ use datapath::timer::advance;
 use datapath::timer::clock;
 use isa::decoder::Decoded;
 use isa::decoder::decode;
-use isa::reader::byte_at;
-use isa::timing::list;
+use rom::reader::byte_at;
+use rom::timing::list;
 use std::num::wrapping_add_u32;
 
 // The address `length` bytes on, modulo 4,096.

@@ -9,7 +9,7 @@ use mathlib.Core.Logic.{_⊎_, inl, inr}
 use native.Mathlib.Omega.{arith}
 use lib.Dec.{eqb}
 use borrow.Author.Tests.{eq-eqb, eqb-true, eqb-false}
-use Rattle.isa.specs.Fetching.{byteAt}
+use Rattle.rom.specs.Fetching.{byteAt}
 use Rattle.isa.specs.Timing.{lengthOf, cyclesOf}
 use Rattle.isa.specs.declared.Instruction.{Instruction}
 use Rattle.isa.specs.declared.decoder.Decoded.{Decoded}

@@ -7,7 +7,7 @@ use mathlib.Core.List.{List, [], _∷_, _++_}
 use native.Mathlib.Numerals.{add-one}
 use native.Mathlib.Omega.{arith}
 use lib.ListN.{length, getD, set, replicate, length-replicate, getD-replicate}
-use Rattle.isa.specs.Fetching.{byteAt}
+use Rattle.rom.specs.Fetching.{byteAt}
 use Rattle.isa.specs.Reading.{decoded, map}
 use Rattle.isa.specs.Timing.{lengthOf, columnsOf, columnsAt}
 use Rattle.isa.specs.declared.decoder.Decoded.{Decoded}

@@ -1,7 +1,7 @@
 // An instruction read and written, as numbers.
 ghost use mathlib.Core.Path.{_≡_};
 ghost use Rattle.abi.specs.Answers.{hosted, readNumber, writeNumber};
-ghost use Rattle.isa.specs.Fetching.{fetching};
+ghost use Rattle.rom.specs.Fetching.{fetching};
 
 #[no_mangle]
 pub extern "C" fn ht1130_read(mask: &[u8], address: u16) -> u64

@@ -1,4 +1,3 @@
 pub mod Arms
 pub mod Exact
 pub mod List
-pub mod RoundTrip

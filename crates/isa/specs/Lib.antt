@@ -1,5 +1,3 @@
 pub mod Code
-pub mod Fetching
 pub mod Reading
 pub mod Timing
-pub mod Writing

@@ -1,8 +1,5 @@
-// The instruction set of the HT1130: its addresses and instructions, and how bytes and instructions are read and written.
+// The instruction set of the HT1130: its addresses and instructions, and the decoder.
 pub mod decoder;
-pub mod encoder;
-pub mod reader;
-pub mod timing;
 
 // An address of the program ROM, 0 to 4,095 (document 01: "A program address counts to 4,095").
 #[repr(C)]

@@ -5,7 +5,7 @@ mod mnemonic;
 mod text;
 
 use isa::decoder::Decoded;
-use isa::encoder::Written;
+use rom::encoder::Written;
 use mnemonic::put_instruction;
 use text::put;
 use text::put_byte;
@@ -26,9 +26,9 @@ fn put_written(written: Written) {
 
 fn put_timing(first: u8) {
     put(b" ");
-    put_digit(isa::timing::length(first));
+    put_digit(rom::timing::length(first));
     put(b" ");
-    put_digit(isa::timing::cycles(first));
+    put_digit(rom::timing::cycles(first));
     put(b" ");
 }
 
@@ -41,7 +41,7 @@ fn put_line(first: u8, second: u8) {
         Decoded::Read(instruction) => {
             put_instruction(instruction);
             put_timing(first);
-            put_written(isa::encoder::encode(instruction));
+            put_written(rom::encoder::encode(instruction));
         }
         Decoded::Unreadable => {
             put(b"unreadable");

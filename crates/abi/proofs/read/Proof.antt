@@ -1,8 +1,8 @@
 -- `abi::read` meets its contract: an arm knows the reader's answer, at which the number computes. Assumes nothing.
 use Prim.Native.Nat.{ℕ}
 use mathlib.Core.Path.{_≡_, sym, ap, _∙_}
-use Rattle.isa.specs.Fetching.{Answer, answerOf}
-use Rattle.isa.specs.declared.reader.Fetched.{Fetched}
+use Rattle.rom.specs.Fetching.{Answer, answerOf}
+use Rattle.rom.specs.declared.reader.Fetched.{Fetched}
 use Rattle.abi.specs.Forms.{Named}
 use Rattle.abi.specs.Answers.{packedNamed, readNumber}
 use borrow.Author.Needs.{needs}

@@ -1,7 +1,7 @@
 -- `abi::write` meets its contract: an arm knows the encoder's answer, at which the number computes. Assumes nothing.
 use mathlib.Core.Path.{_≡_, sym, ap, _∙_}
-use Rattle.isa.specs.Writing.{Answer, answerOf}
-use Rattle.isa.specs.declared.encoder.Written.{Written}
+use Rattle.rom.specs.Writing.{Answer, answerOf}
+use Rattle.rom.specs.declared.encoder.Written.{Written}
 use Rattle.abi.specs.Answers.{writeNumber}
 use borrow.Author.Needs.{needs}
 use Rattle.abi.proofs.write.Statement.{statement}

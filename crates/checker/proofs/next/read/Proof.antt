@@ -4,7 +4,7 @@ use mathlib.Core.Path.{_≡_, ap₂, _∙_}
 use mathlib.Core.List.{List}
 use native.Mathlib.Omega.{arith}
 use Rattle.isa.specs.Reading.{Reading, decoded}
-use Rattle.isa.specs.Fetching.{byteAt}
+use Rattle.rom.specs.Fetching.{byteAt}
 use Rattle.isa.specs.declared.decoder.Decoded.{Decoded}
 use Rattle.isa.proofs.Exact.{reading}
 use Rattle.checker.specs.Marks.{readAt}

@@ -1,7 +1,7 @@
 -- `cpu::Cpu::table_mr0` meets its contract: the page is the definition's. Assumes nothing.
 use mathlib.Core.Path.{sym, ap, _∙_}
 use Prim.Native.Nat.{ℕ, _+_, _*_}
-use Rattle.isa.specs.Fetching.{byteAt}
+use Rattle.rom.specs.Fetching.{byteAt}
 use borrow.Author.Needs.{needs}
 use Rattle.cpu.proofs.Cpu.table_mr0.Statement.{statement}
 use Rattle.cpu.proofs.Cpu.table_mr0.Tie as tie

@@ -1,7 +1,7 @@
 -- `cpu::Cpu::table_r4` meets its contract: the page and the nibble are the definitions'. Assumes nothing.
 use mathlib.Core.Path.{ap₂, _∙_}
 use Prim.Native.Nat.{ℕ, _+_, _*_}
-use Rattle.isa.specs.Fetching.{byteAt}
+use Rattle.rom.specs.Fetching.{byteAt}
 use borrow.Author.Needs.{needs}
 use Rattle.cpu.proofs.Cpu.table_r4.Statement.{statement}
 use Rattle.cpu.proofs.Cpu.table_r4.Tie as tie

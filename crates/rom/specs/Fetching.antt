@@ -1,0 +1,46 @@
+-- Reading at an address of a mask: document 01's numbers for what is refused, and what is read. Assumes nothing.
+use Prim.Native.Nat.{ℕ, _+_, _%_}
+use mathlib.Core.Bool.{Bool, true, false}
+use mathlib.Core.List.{List}
+use lib.Dec.{ltb, eqb}
+use lib.ListN.{length, getD}
+use Rattle.isa.specs.Reading.{decoded}
+use Rattle.isa.specs.Timing.{lengthOf, cyclesOf}
+use Rattle.isa.specs.declared.Instruction.{Instruction}
+use Rattle.isa.specs.declared.decoder.Decoded.{Decoded}
+use Rattle.isa.specs.declared.decoder.Decoded.the-variants.{Read, Unreadable}
+use Rattle.rom.specs.declared.reader.Fetched.{Fetched}
+use Rattle.rom.specs.declared.reader.Fetched.the-variants.{BadMask, BadAddress, Unread, Fetch}
+
+-- "The byte after FFFh is the one at 0"
+abbrev pub byteAt : List ℕ → ℕ → ℕ
+byteAt mask a = getD mask (a % 4096) 0
+
+-- what stands at an address: refused with a number, no instruction, or an instruction with its length and cycles
+pub data Answer : Type 0 where
+  refused : ℕ → Answer
+  unreadable : Answer
+  instruction : Instruction → ℕ → ℕ → Answer
+
+-- the number and the values of each answer: 1 "mask not 4,096 bytes", 5 "address to read at over 4,095"
+abbrev pub answerOf : Fetched → Answer
+answerOf BadMask = refused 1
+answerOf BadAddress = refused 5
+answerOf Unread = unreadable
+answerOf (Fetch i l c) = instruction i l c
+
+abbrev pub pick : Bool → Answer → Answer → Answer
+pick true x y = x
+pick false x y = y
+
+-- the bytes a, b with the list's entry for a
+abbrev pub withTiming : ℕ → Decoded → Answer
+withTiming a (Read i) = instruction i (lengthOf a) (cyclesOf a)
+withTiming a Unreadable = unreadable
+
+abbrev pub standing : List ℕ → ℕ → Answer
+standing mask a = withTiming (byteAt mask a) (decoded (byteAt mask a) (byteAt mask (a + 1)))
+
+-- "Checked in this order; the lowest number wins"
+abbrev pub fetching : List ℕ → ℕ → Answer
+fetching mask a = pick (eqb (length mask) 4096) (pick (ltb a 4096) (standing mask a) (refused 5)) (refused 1)
