@@ -1,3 +1,4 @@
+pub mod Fetched
 pub mod Reach
 pub mod Successors
 pub mod Count

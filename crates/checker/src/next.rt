@@ -1,14 +1,14 @@
-// What the instruction at a pair says of it. A pair's code is three times its address, and its level added: 0 to 12,287.
+// What the instruction at a pair says of it. A pair's code is three times its address, and its level added: 0 to 12,287. No function hands
+// the decoder's answer on: a copy of it, right after it was written byte by byte, stalls the processor.
 ghost use mathlib.Core.Path.{_≡_};
-ghost use Prim.Native.Nat.{_/_};
-ghost use Rattle.checker.specs.Marks.{fault, readAt, successors};
+ghost use Rattle.checker.specs.Marks.{fault, successors};
 ghost use Rattle.checker.specs.Walk.{codesOf, pairOf, ranks};
+ghost use Rattle.isa.specs.Timing.{entries};
 use crate::flow::Flow;
 use crate::flow::flow_of;
 use isa::decoder::Decoded;
 use isa::decoder::decode;
 use rom::reader::byte_at;
-use rom::timing::length;
 
 // The vectors 4 and 8 in level 2, where EI lets an interrupt go.
 const TIMER: u16 = 4 * 3 + 2;
@@ -23,24 +23,16 @@ pub enum Codes {
     Three(u16, u16, u16),
 }
 
-// What stands at the address of a code.
-fn read(mask: &[u8], code: u16) -> Decoded
-    ensures { λ r. ⌜ r ≡ readAt (now (mask .entry)) (code / 3) ⌝ }
-{
-    let address = code / 3;
-    let first = byte_at(mask, address);
-    let second = byte_at(mask, address + 1);
-    decode(first, second)
-}
-
 // The fault of a pair, 0 where it is not forbidden.
 pub fn fault_of(mask: &[u8], code: u16) -> u8
     ensures { λ r. ⌜ r ≡ fault (now (mask .entry)) (pairOf code) ⌝ }
 {
-    let Decoded::Read(instruction) = read(mask, code) else {
+    let address = code / 3;
+    let level = code % 3;
+    let first = byte_at(mask, address);
+    let Decoded::Read(instruction) = decode(first, byte_at(mask, address + 1)) else {
         return 1;
     };
-    let level = code % 3;
     let flow = flow_of(instruction);
     match flow {
         Flow::On => 0,
@@ -52,16 +44,20 @@ pub fn fault_of(mask: &[u8], code: u16) -> u8
     }
 }
 
-// The successors of a pair: none where it is forbidden.
-pub fn next_codes(mask: &[u8], code: u16) -> Codes
+// The successors of a pair: none where it is forbidden. `list` is the list of lengths and cycles, which the walk holds: an indexed
+// constant is built at each use.
+pub fn next_codes(mask: &[u8], list: &[u8; 256], code: u16) -> Codes
+    requires { ⌜ now list ≡ entries ⌝ }
     ensures { λ r. ⌜ codesOf r ≡ ranks (successors (now (mask .entry)) (pairOf code)) ⌝ }
 {
-    let Decoded::Read(instruction) = read(mask, code) else {
-        return Codes::Nothing;
-    };
     let address = code / 3;
     let level = code % 3;
-    let moved = (address + length(byte_at(mask, address)) as u16) % 4096;
+    let first = byte_at(mask, address);
+    let Decoded::Read(instruction) = decode(first, byte_at(mask, address + 1)) else {
+        return Codes::Nothing;
+    };
+    let length = list[first as usize] / 16;
+    let moved = (address + length as u16) % 4096;
     let flow = flow_of(instruction);
     match flow {
         Flow::On => Codes::One(moved * 3 + level),

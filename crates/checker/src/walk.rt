@@ -4,6 +4,7 @@ ghost use Prim.Native.Nat.{_<_};
 ghost use Rattle.checker.specs.Walk.{Found, Room, Small, codesOf, pushed, pushedAll, work};
 use crate::next::Codes;
 use crate::next::next_codes;
+use rom::timing::list;
 
 // A code that is not found yet goes to the queue's end. Returns how many are found.
 fn push(seen: &mut [u8; 12288], queue: &mut [u16; 12288], tail: u16, code: u16) -> u16
@@ -48,6 +49,7 @@ fn push_all(seen: &mut [u8; 12288], queue: &mut [u16; 12288], tail: u16, codes: 
 pub fn reach(mask: &[u8]) -> [u8; 12288]
     ensures { λ r. ⌜ Found (now (mask .entry)) r ⌝ }
 {
+    let entries = list();
     let mut seen = [0u8; 12288];
     let mut queue = [0u16; 12288];
     seen[0] = 1;
@@ -55,7 +57,7 @@ pub fn reach(mask: &[u8]) -> [u8; 12288]
     let mut tail: u16 = 1;
     while head < tail {
         let at = head as usize;
-        let codes = next_codes(mask, queue[at]);
+        let codes = next_codes(mask, &entries, queue[at]);
         tail = push_all(&mut seen, &mut queue, tail, codes);
         head += 1;
     }

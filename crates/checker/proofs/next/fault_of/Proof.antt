@@ -1,25 +1,34 @@
 -- `checker::next::fault_of` meets its contract: an arm knows the flow, at which the definition computes. Assumes nothing.
-use Prim.Native.Nat.{ℕ, _%_}
+use Prim.Native.Nat.{ℕ, _/_, _%_}
 use mathlib.Core.Path.{_≡_, refl, _∙_}
+use native.Mathlib.Omega.{arith}
 use borrow.Author.Tests.{eq-eqb, ne-eqb}
 use Rattle.isa.specs.declared.ProgramAddress.{ProgramAddress}
 use Rattle.checker.specs.declared.flow.Flow.{Flow}
 use Rattle.checker.specs.declared.flow.Flow.the-variants.{On, Enable, Jump, To, Sub, Back}
-use Rattle.checker.specs.Marks.{nestingFault, fault}
+use Rattle.checker.specs.Marks.{readAt, nestingFault, fault}
 use Rattle.checker.specs.Walk.{pairOf}
+use Rattle.checker.proofs.Fetched.{met}
 use Rattle.checker.proofs.Successors.{fault-unread, fault-flow}
 use borrow.Author.Needs.{needs}
 use Rattle.checker.proofs.next.fault_of.Statement.{statement}
 use Rattle.checker.proofs.next.fault_of.Tie as tie
 
+read-at : (c : tie.After-decode) → c .decode .result ≡ readAt (c .before .before .before .before .args .mask .now) (c .before .before .before .before .args .code / 3)
+read-at c =
+    let s = c .before .before .before .before in
+    let first = c .before .before .byte-at in
+    let second = c .before .byte-at2 in
+    met (s .args .mask .now) (s .args .code / 3) (first .result) (second .result) (c .decode .result) (first .ensures) (second .ensures) (omega (arith, second)) (c .decode .ensures)
+
 at-flow : (c : tie.After-flow-of) (g : Flow) → c .flow-of .result ≡ g
-    → nestingFault g (c .before .before .before .before .before .before .args .code % 3)
-    ≡ fault (c .before .before .before .before .before .before .args .mask .now) (pairOf (c .before .before .before .before .before .before .args .code))
+    → nestingFault g (c .before .before .before .before .before .before .before .before .args .code % 3)
+    ≡ fault (c .before .before .before .before .before .before .before .before .args .mask .now) (pairOf (c .before .before .before .before .before .before .before .before .args .code))
 at-flow c g e =
-    let s = c .before .before .before .before .before .before in
-    let r = c .before .before .before .before .read in
-    fault-flow (s .args .mask .now) (s .args .code) (r .result) (r .ensures) (c .before .before .instruction .given .0 .0) (c .flow-of .result) g
-    (c .before .before .instruction .given .1) (c .flow-of .ensures) e
+    let s = c .before .before .before .before .before .before .before .before in
+    let r = c .before .before .before .before in
+    let i = c .before .before .instruction .given in
+    fault-flow (s .args .mask .now) (s .args .code) (r .decode .result) (read-at r) (i .0 .0) (c .flow-of .result) g (i .1) (c .flow-of .ensures) e
 
 sub-main : (t : ProgramAddress) (l : ℕ) → l ≡ 0 → 0 ≡ nestingFault (Sub t) l
 sub-main t l e = rw (eq-eqb l 0 e) refl
@@ -33,8 +42,17 @@ back-main l e = rw (eq-eqb l 0 e) refl
 back-other : (l : ℕ) → (l ≡ 0 → ⊥) → 0 ≡ nestingFault Back l
 back-other l n = rw (ne-eqb l 0 n) refl
 
-read-requires : tie.Need-read-requires
-read-requires c κs = search needs
+byte-at-requires : tie.Need-byte-at-requires
+byte-at-requires c κs = search needs
+
+add-byte-at : tie.Need-add-byte-at
+add-byte-at c = search needs
+
+byte-at-requires-2 : tie.Need-byte-at-requires-2
+byte-at-requires-2 c κs = search needs
+
+decode-requires : tie.Need-decode-requires
+decode-requires c κs = search needs
 
 enum-known-instruction : tie.Need-enum-known-instruction
 enum-known-instruction c = search needs
@@ -44,9 +62,9 @@ enum-told c = search needs
 
 returns : tie.Need-returns
 returns c =
-    let s = c .before .before .before .before in
-    let r = c .before .before .read in
-    fault-unread (s .args .mask .now) (s .args .code) (r .result) (r .ensures) (c .enum-told .given .1)
+    let r = c .before .before in
+    let s = r .before .before .before .before in
+    fault-unread (s .args .mask .now) (s .args .code) (r .decode .result) (read-at r) (c .enum-told .given .1)
 
 flow-of-requires : tie.Need-flow-of-requires
 flow-of-requires c κs = search needs
@@ -101,7 +119,10 @@ pub fault-of-spec : {M : Type 1} → statement M
 fault-of-spec =
     tie.close
     (tie.spec
-    read-requires
+    byte-at-requires
+    add-byte-at
+    byte-at-requires-2
+    decode-requires
     enum-known-instruction
     enum-told
     returns

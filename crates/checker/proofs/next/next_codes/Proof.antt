@@ -6,12 +6,14 @@ use mathlib.Core.Bool.{Bool, true, false}
 use mathlib.Core.List.{List, [], _∷_}
 use native.Mathlib.Omega.{arith}
 use lib.Dec.{eqb}
+use lib.ListN.{getD}
 use borrow.Author.Tests.{eq-eqb, ne-eqb}
 use Rattle.isa.specs.declared.ProgramAddress.{ProgramAddress}
 use Rattle.checker.specs.declared.flow.Flow.{Flow}
 use Rattle.checker.specs.declared.flow.Flow.the-variants.{On, Enable, Jump, To, Sub, Back}
-use Rattle.checker.specs.Marks.{pickPairs, nestingFault, handed, successors}
+use Rattle.checker.specs.Marks.{readAt, pickPairs, nestingFault, handed, successors}
 use Rattle.checker.specs.Walk.{pairOf, ranks}
+use Rattle.checker.proofs.Fetched.{met, length-in, entry-fits}
 use Rattle.checker.proofs.Reach.{Targets}
 use Rattle.checker.proofs.Successors.{next-unread, next-flow, next-targets}
 use borrow.Author.Needs.{needs}
@@ -21,24 +23,32 @@ use Rattle.checker.proofs.next.next_codes.Tie as tie
 abbrev handed-on : Flow → ℕ → ℕ → List ℕ
 handed-on g moved l = ranks (pickPairs (eqb (nestingFault g l) 0) (handed g moved l) [])
 
+read-at : (c : tie.After-decode) → c .decode .result ≡ readAt (c .before .before .before .before .args .mask .now) (c .before .before .before .before .args .code / 3)
+read-at c =
+    let s = c .before .before .before .before in
+    let first = c .before .before .byte-at in
+    let second = c .before .byte-at2 in
+    met (s .args .mask .now) (s .args .code / 3) (first .result) (second .result) (c .decode .result) (first .ensures) (second .ensures) (omega (arith, second)) (c .decode .ensures)
+
 at-flow : (c : tie.After-flow-of) (g : Flow) → c .flow-of .result ≡ g
-    → handed-on g ((c .before .before .before .before .before .before .before .before .args .code / 3 + c .before .length .result) % 4096) (c .before .before .before .before .before .before .before .before .args .code % 3)
-    ≡ ranks (successors (c .before .before .before .before .before .before .before .before .args .mask .now) (pairOf (c .before .before .before .before .before .before .before .before .args .code)))
+    → handed-on g ((c .before .before .before .before .before .before .before .before .before .args .code / 3 + getD (c .before .before .before .before .before .before .before .before .before .args .list .now) (c .before .before .before .before .before .before .before .byte-at .result) 0 / 16) % 4096) (c .before .before .before .before .before .before .before .before .before .args .code % 3)
+    ≡ ranks (successors (c .before .before .before .before .before .before .before .before .before .args .mask .now) (pairOf (c .before .before .before .before .before .before .before .before .before .args .code)))
 at-flow c g e =
-    let s = c .before .before .before .before .before .before .before .before in
-    let r = c .before .before .before .before .before .before .read in
-    let i = c .before .before .before .before .instruction .given in
+    let s = c .before .before .before .before .before .before .before .before .before in
+    let r = c .before .before .before .before .before in
+    let i = c .before .before .before .instruction .given in
+    let first = c .before .before .before .before .before .before .before .byte-at in
     ap ranks
-    (next-flow (s .args .mask .now) (s .args .code) (r .result) (r .ensures) (i .0 .0) (c .flow-of .result) g (i .1) (c .flow-of .ensures) e
-    (c .before .before .byte-at .result) (c .before .length .result) (c .before .before .byte-at .ensures) (c .before .length .ensures))
+    (next-flow (s .args .mask .now) (s .args .code) (r .decode .result) (read-at r) (i .0 .0) (c .flow-of .result) g (i .1) (c .flow-of .ensures) e
+    (first .result) (getD (s .args .list .now) (first .result) 0 / 16) (first .ensures) (length-in (s .args .list .now) (first .result) (s .pre)))
 
 target : (c : tie.After-flow-of) (g : Flow) → c .flow-of .result ≡ g → Targets g
 target c g e =
-    let s = c .before .before .before .before .before .before .before .before in
-    let r = c .before .before .before .before .before .before .read in
-    let i = c .before .before .before .before .instruction .given in
-    next-targets (s .args .mask .now) (s .args .code) (r .result) (r .ensures) (i .0 .0) (c .flow-of .result) g (i .1) (c .flow-of .ensures) e
-    (λ k. omega (arith, c .before .before .before .before .before .before .before .shared-slice-known .given k))
+    let s = c .before .before .before .before .before .before .before .before .before in
+    let r = c .before .before .before .before .before in
+    let i = c .before .before .before .instruction .given in
+    next-targets (s .args .mask .now) (s .args .code) (r .decode .result) (read-at r) (i .0 .0) (c .flow-of .result) g (i .1) (c .flow-of .ensures) e
+    (λ k. omega (arith, c .before .before .before .before .before .before .before .before .shared-slice-known .given k))
 
 sub-main : (t : ProgramAddress) (moved l : ℕ) → l ≡ 0 → (t .0 * 3 + 1) ∷ (moved * 3) ∷ [] ≡ handed-on (Sub t) moved l
 sub-main t moved l e = rw (eq-eqb l 0 e) (ap (λ (n : ℕ). (t .0 * 3 + 1) ∷ n ∷ []) (plus-zero (moved * 3)))
@@ -56,8 +66,17 @@ back moved l = go (eqb (nestingFault Back l) 0)
     go true = refl
     go false = refl
 
-read-requires : tie.Need-read-requires
-read-requires c κs = search needs
+byte-at-requires : tie.Need-byte-at-requires
+byte-at-requires c κs = search needs
+
+add-byte-at : tie.Need-add-byte-at
+add-byte-at c = search needs
+
+byte-at-requires-2 : tie.Need-byte-at-requires-2
+byte-at-requires-2 c κs = search needs
+
+decode-requires : tie.Need-decode-requires
+decode-requires c κs = search needs
 
 enum-known-instruction : tie.Need-enum-known-instruction
 enum-known-instruction c = search needs
@@ -67,21 +86,21 @@ enum-told c = search needs
 
 returns : tie.Need-returns
 returns c =
-    let s = c .before .before .before .before in
-    let r = c .before .before .read in
-    ap ranks (next-unread (s .args .mask .now) (s .args .code) (r .result) (r .ensures) (c .enum-told .given .1))
+    let r = c .before .before in
+    let s = r .before .before .before .before in
+    ap ranks (next-unread (s .args .mask .now) (s .args .code) (r .decode .result) (read-at r) (c .enum-told .given .1))
 
-byte-at-requires : tie.Need-byte-at-requires
-byte-at-requires c κs = search needs
+cast-length : tie.Need-cast-length
+cast-length c = search needs
 
-length-requires : tie.Need-length-requires
-length-requires c κs = search needs
+element-copy-out-length : tie.Need-element-copy-out-length
+element-copy-out-length c = search needs
 
 cast-moved : tie.Need-cast-moved
-cast-moved c = search needs
+cast-moved c = omega (arith, entry-fits (c .before .before .before .before .before .before .before .before .args .list .now) (c .before .before .before .before .before .before .byte-at .result) (c .before .before .before .before .before .before .before .before .pre))
 
 add-moved : tie.Need-add-moved
-add-moved c = search needs
+add-moved c = omega (arith, entry-fits (c .before .before .before .before .before .before .before .before .args .list .now) (c .before .before .before .before .before .before .byte-at .result) (c .before .before .before .before .before .before .before .before .pre))
 
 flow-of-requires : tie.Need-flow-of-requires
 flow-of-requires c κs = search needs
@@ -89,62 +108,62 @@ flow-of-requires c κs = search needs
 enum-told-2 : tie.Need-enum-told-2
 enum-told-2 c = search needs
 
-mul-t17 : tie.Need-mul-t17
-mul-t17 c = search needs
+mul-t22 : tie.Need-mul-t22
+mul-t22 c = search needs
 
-add-t18 : tie.Need-add-t18
-add-t18 c = search needs
+add-t23 : tie.Need-add-t23
+add-t23 c = search needs
 
 enum-told-3 : tie.Need-enum-told-3
 enum-told-3 c = search needs
 
-mul-t19 : tie.Need-mul-t19
-mul-t19 c = search needs
+mul-t24 : tie.Need-mul-t24
+mul-t24 c = search needs
 
-add-t20 : tie.Need-add-t20
-add-t20 c = search needs
+add-t25 : tie.Need-add-t25
+add-t25 c = search needs
 
 enum-known-flow : tie.Need-enum-known-flow
 enum-known-flow c = search needs
 
-mul-t21 : tie.Need-mul-t21
-mul-t21 c = let t = c .before .before .flow .given in let h = target (c .before .before .before .before) (Jump (t .0 .0)) (t .1) in omega arith
+mul-t26 : tie.Need-mul-t26
+mul-t26 c = let t = c .before .before .flow .given in let h = target (c .before .before .before .before) (Jump (t .0 .0)) (t .1) in omega arith
 
-add-t22 : tie.Need-add-t22
-add-t22 c = let t = c .before .before .flow .given in let h = target (c .before .before .before .before) (Jump (t .0 .0)) (t .1) in omega arith
+add-t27 : tie.Need-add-t27
+add-t27 c = let t = c .before .before .flow .given in let h = target (c .before .before .before .before) (Jump (t .0 .0)) (t .1) in omega arith
 
 enum-known-flow-2 : tie.Need-enum-known-flow-2
 enum-known-flow-2 c = search needs
 
-mul-t23 : tie.Need-mul-t23
-mul-t23 c = search needs
+mul-t28 : tie.Need-mul-t28
+mul-t28 c = search needs
 
-add-t24 : tie.Need-add-t24
-add-t24 c = search needs
+add-t29 : tie.Need-add-t29
+add-t29 c = search needs
 
-mul-t26 : tie.Need-mul-t26
-mul-t26 c = search needs
+mul-t31 : tie.Need-mul-t31
+mul-t31 c = search needs
 
-add-t28 : tie.Need-add-t28
-add-t28 c = search needs
+add-t33 : tie.Need-add-t33
+add-t33 c = search needs
 
-mul-t29 : tie.Need-mul-t29
-mul-t29 c = search needs
+mul-t34 : tie.Need-mul-t34
+mul-t34 c = search needs
 
-add-t30 : tie.Need-add-t30
-add-t30 c = search needs
+add-t35 : tie.Need-add-t35
+add-t35 c = search needs
 
 enum-known-flow-3 : tie.Need-enum-known-flow-3
 enum-known-flow-3 c = search needs
 
-mul-t33 : tie.Need-mul-t33
-mul-t33 c = let t = c .before .before .before .flow3 .given in let h = target (c .before .before .before .before .before) (Sub (t .0 .0)) (t .1) in omega arith
+mul-t38 : tie.Need-mul-t38
+mul-t38 c = let t = c .before .before .before .flow3 .given in let h = target (c .before .before .before .before .before) (Sub (t .0 .0)) (t .1) in omega arith
 
-add-t34 : tie.Need-add-t34
-add-t34 c = let t = c .before .before .before .flow3 .given in let h = target (c .before .before .before .before .before) (Sub (t .0 .0)) (t .1) in omega arith
+add-t39 : tie.Need-add-t39
+add-t39 c = let t = c .before .before .before .flow3 .given in let h = target (c .before .before .before .before .before) (Sub (t .0 .0)) (t .1) in omega arith
 
-mul-t35 : tie.Need-mul-t35
-mul-t35 c = search needs
+mul-t40 : tie.Need-mul-t40
+mul-t40 c = search needs
 
 enum-told-4 : tie.Need-enum-told-4
 enum-told-4 c = search needs
@@ -173,42 +192,45 @@ returns-7 c =
 
 returns-8 : tie.Need-returns-8
 returns-8 c =
-    let s = c .before .before .before .before .before .before .before .before .before .before in
-    back ((s .args .code / 3 + c .before .before .before .length .result) % 4096) (s .args .code % 3) ∙ at-flow (c .before .before) Back (c .enum-told4 .given .1)
+    let s = c .before .before .before .before .before .before .before .before .before .before .before in
+    back ((s .args .code / 3 + getD (s .args .list .now) (c .before .before .before .before .before .before .before .before .before .byte-at .result) 0 / 16) % 4096) (s .args .code % 3) ∙ at-flow (c .before .before) Back (c .enum-told4 .given .1)
 
 pub next-codes-spec : {M : Type 1} → statement M
 next-codes-spec =
     tie.close
     (tie.spec
-    read-requires
+    byte-at-requires
+    add-byte-at
+    byte-at-requires-2
+    decode-requires
     enum-known-instruction
     enum-told
     returns
-    byte-at-requires
-    length-requires
+    cast-length
+    element-copy-out-length
     cast-moved
     add-moved
     flow-of-requires
     enum-told-2
-    mul-t17
-    add-t18
+    mul-t22
+    add-t23
     enum-told-3
-    mul-t19
-    add-t20
+    mul-t24
+    add-t25
     enum-known-flow
-    mul-t21
-    add-t22
-    enum-known-flow-2
-    mul-t23
-    add-t24
     mul-t26
-    add-t28
-    mul-t29
-    add-t30
+    add-t27
+    enum-known-flow-2
+    mul-t28
+    add-t29
+    mul-t31
+    add-t33
+    mul-t34
+    add-t35
     enum-known-flow-3
-    mul-t33
-    add-t34
-    mul-t35
+    mul-t38
+    add-t39
+    mul-t40
     enum-told-4
     returns-2
     returns-3

@@ -12,56 +12,59 @@ use Rattle.checker.proofs.walk.reach.Statement.{statement}
 use Rattle.checker.proofs.walk.reach.Tie as tie
 
 abbrev Inv-loop : tie.InvT-loop
-Inv-loop mask seen₀ queue₀ head₀ tail₀ seen queue head tail = Walking mask (work seen queue tail) head
+Inv-loop mask entries seen₀ queue₀ head₀ tail₀ seen queue head tail = Walking mask (work seen queue tail) head
 
 abbrev μ-loop : tie.MeasureT-loop
-μ-loop mask seen₀ queue₀ head₀ tail₀ seen queue head tail = 12288 - head
+μ-loop mask entries seen₀ queue₀ head₀ tail₀ seen queue head tail = 12288 - head
+
+list-requires : tie.Need-list-requires Inv-loop μ-loop
+list-requires c κs = search needs
 
 array-write-seen : tie.Need-array-write-seen Inv-loop μ-loop
 array-write-seen c = omega arith
 
 loop-holds : tie.Need-loop-holds Inv-loop μ-loop
 loop-holds c =
-    first (c .before .args .mask .now) (replicate 12288 0) (replicate 12288 0) (length-replicate {A = ℕ} 12288 0) (zeros-replicate 12288) (getD-zeros 12288)
+    first (c .before .before .args .mask .now) (replicate 12288 0) (replicate 12288 0) (length-replicate {A = ℕ} 12288 0) (zeros-replicate 12288) (getD-zeros 12288)
     (length-replicate {A = ℕ} 12288 0) (getD-zeros 12288)
 
 cast-at : tie.Need-cast-at Inv-loop μ-loop
 cast-at c = omega (arith, c .before .loop .inv .core .room .left)
 
 mul-next-codes : tie.Need-mul-next-codes Inv-loop μ-loop
-mul-next-codes c = omega (arith, c .before .loop .inv .core .room .left)
+mul-next-codes c = omega (arith, c .before .before .loop .inv .core .room .left)
 
 array-read-next-codes : tie.Need-array-read-next-codes Inv-loop μ-loop
-array-read-next-codes c = omega (arith, c .before .loop .inv .core .room .left)
+array-read-next-codes c = omega (arith, c .before .before .loop .inv .core .room .left)
 
 next-codes-requires : tie.Need-next-codes-requires Inv-loop μ-loop
-next-codes-requires c κs = search needs
+next-codes-requires c κs = c .before .before .before .list .ensures
 
 push-all-requires : tie.Need-push-all-requires Inv-loop μ-loop
 push-all-requires c κs =
-    let l = c .before .before .before .before in
-    let mask = l .before .before .args .mask .now in
-    let small = next-small mask (λ k. omega (arith, l .before .shared-slice-known .given k)) (getD (l .loop .queue) (l .loop .head) 0) in
+    let l = c .before .before .before .before .before in
+    let mask = l .before .before .before .args .mask .now in
+    let small = next-small mask (λ k. omega (arith, l .before .before .shared-slice-known .given k)) (getD (l .loop .queue) (l .loop .head) 0) in
     (subst Small (sym (c .before .before .next-codes .ensures)) small, l .loop .inv .core .room)
 
 add-head : tie.Need-add-head Inv-loop μ-loop
-add-head c = omega (arith, c .before .before .before .before .before .loop .inv .core .room .left)
+add-head c = omega (arith, c .before .before .before .before .before .before .loop .inv .core .room .left)
 
 loop-less : tie.Need-loop-less Inv-loop μ-loop
-loop-less c = omega (arith, c .before .before .before .before .before .loop .inv .core .room .left)
+loop-less c = omega (arith, c .before .before .before .before .before .before .loop .inv .core .room .left)
 
 loop-again : tie.Need-loop-again Inv-loop μ-loop
 loop-again c =
-    let l = c .before .before .before .before .before in
-    let mask = l .before .before .args .mask .now in
+    let l = c .before .before .before .before .before .before in
+    let mask = l .before .before .before .args .mask .now in
     let w = work (l .loop .seen) (l .loop .queue) (l .loop .tail) in
     subst (λ (v : Work). Walking mask v (l .loop .head + 1)) (sym (c .push-all .ensures ∙ ap (pushedAll w) (c .before .before .before .next-codes .ensures)))
-    (turn mask (λ k. omega (arith, l .before .shared-slice-known .given k)) w (l .loop .head) (l .loop .inv) (c .before .before .before .before .loop-test .taken))
+    (turn mask (λ k. omega (arith, l .before .before .shared-slice-known .given k)) w (l .loop .head) (l .loop .inv) (c .before .before .before .before .before .loop-test .taken))
 
 returns : tie.Need-returns Inv-loop μ-loop
 returns c =
     let l = c .before in
-    found (l .before .before .args .mask .now) (λ k. omega (arith, l .before .shared-slice-known .given k)) (work (l .loop .seen) (l .loop .queue) (l .loop .tail)) (l .loop .head) (l .loop .inv)
+    found (l .before .before .before .args .mask .now) (λ k. omega (arith, l .before .before .shared-slice-known .given k)) (work (l .loop .seen) (l .loop .queue) (l .loop .tail)) (l .loop .head) (l .loop .inv)
     (c .loop-test .left)
 
 pub reach-spec : {M : Type 1} → statement M
@@ -70,6 +73,7 @@ reach-spec =
     (tie.spec
     Inv-loop
     μ-loop
+    list-requires
     array-write-seen
     loop-holds
     cast-at
