@@ -10,14 +10,17 @@
  * (no `const`) overlaps nothing else that it is lent. Calls on different memory
  * may run at the same time.
  *
- * Stack. ht1130_check takes about 48 KB, the other calls under 2 KB.
+ * Stack. ht1130_check takes about 48 KB, the other calls under 4 KB. Of the C
+ * library only memcpy and memset are used.
  *
  * Refusals. Bad input is refused before anything happens: the machine record
- * and every lent buffer are then as they were. The numbers, lowest first:
+ * and every lent buffer are then as they were. The lowest number that holds is
+ * answered; of a script 1, then 6 or 7 of the first bad record, then 8, 3, 4, 9.
  *   1 mask not HT1130_MASK bytes
  *   2 image, marks or single-report buffer not HT1130_IMAGE, _MASK, _REPORT bytes
- *   3 nibble over 15, INT over 1; instruction field outside its pattern
- *   4 option outside its list
+ *   3 nibble other than an option over 15, INT over 1; instruction field outside
+ *     its pattern
+ *   4 option outside its list, wake nibbles too
  *   5 machine field outside its range, or halted with a fault; address over 4,095
  *   6 script over 65,535 bytes, record cut off, payload length wrong
  *   7 unknown kind
@@ -35,6 +38,9 @@ extern "C" {
 #endif
 
 enum { HT1130_MASK = 4096, HT1130_IMAGE = 166, HT1130_REPORT = 48, HT1130_SCRIPT = 65535 };
+
+/* outputs.channel when sound is off (HT1130_SOUND_OFF is an instruction); options.rate for the external clock. */
+enum { HT1130_CHANNEL_OFF = 16, HT1130_RATE_EXTERNAL = 255 };
 
 /*
  * The machine record: 200 bytes, 4-byte aligned. Bytes 15, 19, 34 and 35 are
@@ -95,13 +101,14 @@ uint8_t ht1130_report(const ht1130_machine *machine, uint8_t *out, size_t out_le
  * Checks a mask and writes its 4,096 mark bytes: 1 the code at this address may
  * run in level 0, 2 in level 1, 4 in level 2, added. The answer is 0 where the
  * mask passed: no list of events makes it fault. Else it has the fault, address
- * and level of the lowest pair that would. Refuses with 1 or 2.
+ * and level of the lowest pair that may. Refuses with 1 or 2.
  */
 uint64_t ht1130_check(const uint8_t *mask, size_t mask_len, uint8_t *marks, size_t marks_len);
 
 /*
  * Checks a whole script for a report buffer of `room` bytes; runs nothing. The
- * answer is 0, or the refusal (1, 3, 4, 6 to 9) with the offset of its record.
+ * answer is 0, or the refusal (1, 3, 4, 6 to 9) with the offset of its record,
+ * which is 0 for 1, 8, 9 and a script over 65,535 bytes.
  */
 uint64_t ht1130_check_script(const uint8_t *mask, size_t mask_len, const uint8_t *script,
                              size_t script_len, size_t room);

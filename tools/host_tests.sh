@@ -1,17 +1,18 @@
 #!/usr/bin/env bash
 # Tests the host library from C and Rust: header, record layout, examples, and
 # a comparison with a plain engine. Needs libhost.a, in target/staticlib or in
-# HT1130_LIB_DIR.
+# HT1130_LIB_DIR (from the top of the repository, or absolute).
 set -euo pipefail
 cd "$(dirname "$0")/.."
 
-HT1130_LIB_DIR=$(realpath "${HT1130_LIB_DIR:-target/staticlib}")
-CARGO_TARGET_DIR=$PWD/target/cargo
-export HT1130_LIB_DIR CARGO_TARGET_DIR
-if [ ! -f "$HT1130_LIB_DIR/libhost.a" ]; then
-    echo "no libhost.a in $HT1130_LIB_DIR" >&2
+lib=${HT1130_LIB_DIR:-target/staticlib}
+if [ ! -f "$lib/libhost.a" ]; then
+    echo "no libhost.a in $lib: rt staticlib host" >&2
     exit 1
 fi
+HT1130_LIB_DIR=$(realpath "$lib")
+CARGO_TARGET_DIR=$PWD/target/cargo
+export HT1130_LIB_DIR CARGO_TARGET_DIR
 work=target/host_tests
 mkdir -p "$work"
 

@@ -190,7 +190,7 @@ fn fenced<T>(
     m: &mut ht1130::Machine,
     call: impl FnOnce(&mut ht1130::Machine) -> T,
 ) -> Result<T, String> {
-    let mut other = ht1130::Machine::blank();
+    let mut other = ht1130::Machine::zeroed();
     for field in 0..FIELDS {
         set(&mut other, field, 0xA5A5_A5A5);
     }
@@ -389,7 +389,7 @@ fn reads_refused(prng: &mut Prng, _: u64) -> Outcome {
 
 /// A machine in range.
 fn machine(prng: &mut Prng) -> ht1130::Machine {
-    let mut m = ht1130::Machine::blank();
+    let mut m = ht1130::Machine::zeroed();
     for field in 0..FIELDS {
         let value = prng.next() as u32;
         set(&mut m, field, within(field, value));

@@ -77,7 +77,7 @@ pub const RES: u16 = 6;
 
 impl Machine {
     /// What a record holds before its first power-on.
-    pub fn blank() -> Machine {
+    pub fn zeroed() -> Machine {
         Machine {
             acc: 0,
             r: [0; 5],
@@ -671,7 +671,7 @@ pub fn check_script(mask: &[u8], script: &[u8], room: usize) -> Result<usize, Sc
 pub fn run_script(mask: &[u8], script: &[u8], out: &mut [u8]) -> Result<usize, ScriptRefusal> {
     let count = check_script(mask, script, out.len())?;
     let mask: &Mask = mask.try_into().expect("checked above");
-    let mut machine = Machine::blank();
+    let mut machine = Machine::zeroed();
     for ((_, kind, payload), out) in records(script).zip(out.chunks_exact_mut(REPORT)) {
         match kind {
             POWER_ON => machine
@@ -1054,7 +1054,7 @@ mod tests {
     };
 
     fn machine() -> Machine {
-        let mut machine = Machine::blank();
+        let mut machine = Machine::zeroed();
         machine.power_on(OPTIONS, &[0; IMAGE]).unwrap();
         machine
     }

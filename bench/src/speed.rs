@@ -98,8 +98,8 @@ fn timed(work: impl FnOnce()) -> Duration {
 }
 
 fn powered() -> (plain::Machine, ht1130::Machine) {
-    let mut plain = plain::Machine::blank();
-    let mut library = ht1130::Machine::blank();
+    let mut plain = plain::Machine::zeroed();
+    let mut library = ht1130::Machine::zeroed();
     plain
         .power_on(OPTIONS, &[5; IMAGE])
         .expect("options in range");

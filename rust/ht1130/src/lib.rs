@@ -12,7 +12,7 @@
 //! let mut mask = [0x3E; MASK]; // NOP throughout
 //! mask[..2].copy_from_slice(&[0x75, 0x30]); // MOV A,5; OUT PA,A
 //!
-//! let mut machine = Machine::blank();
+//! let mut machine = Machine::zeroed();
 //! ht1130::power_on(&mut machine, Options::default(), &[0; IMAGE])?;
 //! ht1130::apply(&mut machine, Event::Run(2), &mask)?;
 //! assert_eq!(machine.cpu.outputs.pa, 5);
@@ -206,7 +206,7 @@ pub struct Machine {
 
 impl Machine {
     /// A record of zeros. It is no valid machine: power it on first.
-    pub const fn blank() -> Machine {
+    pub const fn zeroed() -> Machine {
         Machine {
             cpu: Cpu {
                 registers: Registers {
@@ -264,7 +264,8 @@ impl Machine {
     }
 }
 
-/// Why a call was refused; the lowest number that holds.
+/// Why a call was refused: the lowest number that holds. In a script the order
+/// is 1, then 6 or 7 of the first bad record, then 8, 3, 4, 9.
 #[repr(u8)]
 #[derive(Clone, Copy, PartialEq, Eq, PartialOrd, Ord, Hash, Debug)]
 pub enum Refusal {

@@ -13,7 +13,7 @@ fn mask(parts: &[(usize, &[u8])]) -> [u8; MASK] {
 }
 
 fn powered(options: Options) -> Machine {
-    let mut machine = Machine::blank();
+    let mut machine = Machine::zeroed();
     ht1130::power_on(&mut machine, options, &[0; IMAGE]).unwrap();
     machine
 }
@@ -97,7 +97,7 @@ fn refusals() {
     );
     assert_eq!(m, before);
     assert_eq!(
-        ht1130::report_bytes(&Machine::blank()),
+        ht1130::report_bytes(&Machine::zeroed()),
         Err(Refusal::Machine)
     );
     assert_eq!(

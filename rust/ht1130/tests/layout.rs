@@ -5,7 +5,7 @@ use std::mem::{align_of, offset_of, size_of};
 use std::path::Path;
 use std::process::Command;
 
-const BLANK: Machine = Machine::blank();
+const BLANK: Machine = Machine::zeroed();
 
 fn size_of_field<T>(_: &T) -> usize {
     size_of::<T>()
