@@ -15,14 +15,14 @@ use Rattle.isa.specs.declared.Condition.{Condition}
 use Rattle.isa.specs.declared.Instruction.{Instruction}
 use Rattle.isa.specs.declared.Instruction.the-variants.{Branch}
 use Rattle.isa.proofs.Arms.{NoneOf}
-use Rattle.abi.specs.Answers.{hosted}
+use Rattle.abi.specs.Answers.{writingOf}
 use Rattle.abi.specs.Forms.{Meant, one, nothing, listed, conditions, branchNamed, forms, named}
 
-pub at : (form k a b : ℕ) → form ≡ k → hosted k a b ≡ hosted form a b
-at form k a b e = ap (λ (n : ℕ). hosted n a b) (sym e)
+pub at : (form k a b : ℕ) → form ≡ k → writingOf k a b ≡ writingOf form a b
+at form k a b e = ap (λ (n : ℕ). writingOf n a b) (sym e)
 
-pub at-both : (form k a n b : ℕ) → form ≡ k → a ≡ n → hosted k n b ≡ hosted form a b
-at-both form k a n b e f = ap₂ (λ (k n : ℕ). hosted k n b) (sym e) (sym f)
+pub at-both : (form k a n b : ℕ) → form ≡ k → a ≡ n → writingOf k n b ≡ writingOf form a b
+at-both form k a n b e f = ap₂ (λ (k n : ℕ). writingOf k n b) (sym e) (sym f)
 
 -- the arms 0 to n - 1, last first
 abbrev pub counted : ℕ → List (List ℕ)

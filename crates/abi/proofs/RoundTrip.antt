@@ -20,7 +20,7 @@ use Rattle.isa.specs.declared.decoder.Decoded.{Decoded}
 use Rattle.isa.specs.declared.decoder.Decoded.the-variants.{Read, Unreadable}
 use Rattle.isa.proofs.Exact.{and-left, and-right, exact, timed}
 use Rattle.abi.specs.Forms.{Named, numbersOf}
-use Rattle.abi.specs.Answers.{packed, packedNamed, readNumber, formOf, aOf, bOf, sizeOf, writeNumber, hostedBy, hosted}
+use Rattle.abi.specs.Answers.{packed, packedNamed, readNumber, formOf, aOf, bOf, sizeOf, writeNumber, writingBy, writingOf}
 use Rattle.abi.proofs.Inverse.{fitting, by-form, inverse}
 
 -- ---- each part stands in its own place
@@ -44,7 +44,7 @@ module _ (x y : ℕ) (small : y < 256) where
   first n = record { number = 0; bytes = take n (x ∷ y ∷ []) }
 
   abbrev Back : ℕ → Type 0
-  Back r = hosted (formOf r) (aOf r) (bOf r) ≡ first (sizeOf r)
+  Back r = writingOf (formOf r) (aOf r) (bOf r) ≡ first (sizeOf r)
 
   module _ (i : Instruction) (reads : Reads x y i) where
     abbrev n : Named
@@ -77,16 +77,16 @@ module _ (x y : ℕ) (small : y < 256) where
     abbrev r : ℕ
     r = packedNamed n (lengthOf x) (cyclesOf x)
 
-    named-there : hosted (formOf r) (aOf r) (bOf r) ≡ hosted (n .form) (n .a) (n .b)
+    named-there : writingOf (formOf r) (aOf r) (bOf r) ≡ writingOf (n .form) (n .a) (n .b)
     named-there =
-        λ k. hosted
+        λ k. writingOf
         (form-out (n .form) (n .a) (n .b) (lengthOf x) (cyclesOf x) form-fits a-fits b-fits size-fits k)
         (a-out (n .form) (n .a) (n .b) (lengthOf x) (cyclesOf x) form-fits a-fits b-fits size-fits k)
         (b-out (n .form) (n .a) (n .b) (lengthOf x) (cyclesOf x) form-fits a-fits b-fits size-fits k)
 
     back : Back r
     back =
-        named-there ∙ ap hostedBy (inverse i (reads .fields)) ∙ written
+        named-there ∙ ap writingBy (inverse i (reads .fields)) ∙ written
         ∙ ap first (counted ∙ sym (size-out (n .form) (n .a) (n .b) (lengthOf x) (cyclesOf x) form-fits a-fits b-fits size-fits))
 
   -- by the tests of a mask and an address, and by what the decoder answers: only what was read has neither refusal nor fault
@@ -98,7 +98,7 @@ module _ (x y : ℕ) (small : y < 256) where
   through false t d r h = absurd (omega arith)
 
 pub given-back : (mask : List ℕ) (address r w : ℕ) → ((k : ℕ) → getD mask k 0 < 256) → r ≡ readNumber (fetching mask address) → r % 2 ^ 16 ≡ 0
-    → w ≡ writeNumber (hosted (formOf r) (aOf r) (bOf r))
+    → w ≡ writeNumber (writingOf (formOf r) (aOf r) (bOf r))
     → w ≡ writeNumber (record { number = 0; bytes = take (sizeOf r) (byteAt mask address ∷ byteAt mask (address + 1) ∷ []) })
 given-back mask address m w bytes e h f = f ∙ ap writeNumber there
   where

@@ -44,9 +44,9 @@ abbrev pub writeNumber : Writing.Answer → ℕ
 writeNumber w = packedBytes (w .number) (length (w .bytes)) (getD (w .bytes) 0 0) (getD (w .bytes) 1 0)
 
 -- "3: .. in an instruction to be written: a field outside its pattern", also where the numbers name no instruction
-abbrev pub hostedBy : Meant → Writing.Answer
-hostedBy (one i) = writing i
-hostedBy nothing = record { number = 3; bytes = [] }
+abbrev pub writingBy : Meant → Writing.Answer
+writingBy (one i) = writing i
+writingBy nothing = record { number = 3; bytes = [] }
 
-abbrev pub hosted : ℕ → ℕ → ℕ → Writing.Answer
-hosted form a b = hostedBy (named form a b)
+abbrev pub writingOf : ℕ → ℕ → ℕ → Writing.Answer
+writingOf form a b = writingBy (named form a b)

@@ -4,7 +4,7 @@ mod numbers;
 
 ghost use mathlib.Core.Path.{_≡_};
 ghost use Rattle.rom.specs.Fetching.{fetching};
-ghost use Rattle.abi.specs.Answers.{packed, packedBytes, readNumber, writeNumber, hosted};
+ghost use Rattle.abi.specs.Answers.{packed, packedBytes, readNumber, writeNumber, writingOf};
 use crate::names::instruction_of;
 use crate::numbers::numbers_of;
 use isa::ProgramAddress;
@@ -50,7 +50,7 @@ pub fn read(mask: &[u8], address: u16) -> u64
 
 // The bytes of the instruction that a form and its operands name, as one number.
 pub fn write(form: u8, a: u8, b: u16) -> u64
-    ensures { λ r. ⌜ r ≡ writeNumber (hosted form a b) ⌝ }
+    ensures { λ r. ⌜ r ≡ writeNumber (writingOf form a b) ⌝ }
 {
     match encode(instruction_of(form, a, b)) {
         Written::One(first) => pack_bytes(0, 1, first, 0),

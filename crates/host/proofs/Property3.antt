@@ -1,6 +1,8 @@
--- Property 3 for a lent record: calls on one record are a `Session`, whose theorem is the guarantee's. Assumes nothing.
+-- Property 3 for a lent record: a mask that is answered with 0 passed, and calls on one record are a `Session`, whose theorem is the
+-- guarantee's. Assumes nothing.
 use Prim.Native.Nat.{ℕ}
-use mathlib.Core.Path.{_≡_, refl, sym, ap, subst}
+use native.Mathlib.Omega.{arith}
+use mathlib.Core.Path.{_≡_, refl, ap, subst}
 use mathlib.Core.Bool.{Bool, true, false}
 use mathlib.Core.List.{List, [], _∷_, _++_}
 use lib.Dec.{eqb}
@@ -11,8 +13,12 @@ use Rattle.machine.specs.Events.{Input, event, applied, Session}
 use Rattle.machine.specs.declared.Machine.{Machine}
 use Rattle.machine.specs.declared.Answer.{Answer}
 use Rattle.machine.specs.declared.events.Event.the-variants.{Run, Pins, Int, Tmclk, Res}
+use Rattle.checker.specs.Verdicts.{Answers}
+use Rattle.checker.specs.declared.check.Verdict.{Verdict}
+use Rattle.checker.specs.declared.check.Verdict.the-variants.{Passed, Failed, BadMask, BadMarks}
 use Rattle.guarantee.proofs.Property3.{property3}
 use Rattle.host.specs.Lent.{left, optionsOf, unknown, hosted}
+use Rattle.host.specs.Numbers.{Checks, verdictNumber}
 use Rattle.host.specs.Property3.{inputsOf, Lending, ended, powering, applying, LentProperty3}
 
 -- one call of `ht1130_apply`
@@ -48,6 +54,16 @@ session mask (powering rate commons pm ps pp image r e rest) = E.powering (optio
 session mask {m} {last} (applying {n = n} {is = is} kind count a b c given r u e rest) =
     one mask given m n last is r count a b c (session mask rest) (eqb kind 2) (eqb kind 3) (eqb kind 4) (eqb kind 5) (eqb kind 6) (λ h. u (eqb-true kind 2 h)) e
 
+-- no other verdict has the number 0: a fault is not 0
+pub passed : (mask old marks : List ℕ) → Checks mask old marks 0 → Answers mask old marks Passed
+passed mask old marks c = go (c .verdict) (c .answers) (c .number)
+  where
+    go : (v : Verdict) → Answers mask old marks v → 0 ≡ verdictNumber v → Answers mask old marks Passed
+    go Passed w e = w
+    go (Failed f a l) w e = absurd (w .2 .not-zero (omega (arith, e)))
+    go BadMask w e = absurd (omega (arith, e))
+    go BadMarks w e = absurd (omega (arith, e))
+
 pub lent-property3 : LentProperty3
-lent-property3 mask old marks bytes passed rate commons pm ps pp image before first e inputs last calls =
-    property3 mask old marks (optionsOf rate commons pm ps pp) image before (left 0 first) (record { bytes = bytes; passed = passed; powering = e; accepted = refl }) inputs last (session mask calls)
+lent-property3 mask old marks bytes checks rate commons pm ps pp image before first e inputs last calls =
+    property3 mask old marks (optionsOf rate commons pm ps pp) image before (left 0 first) (record { bytes = bytes; passed = passed mask old marks checks; powering = e; accepted = refl }) inputs last (session mask calls)

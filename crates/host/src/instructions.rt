@@ -1,6 +1,6 @@
 // An instruction read and written, as numbers.
 ghost use mathlib.Core.Path.{_≡_};
-ghost use Rattle.abi.specs.Answers.{hosted, readNumber, writeNumber};
+ghost use Rattle.abi.specs.Answers.{writingOf, readNumber, writeNumber};
 ghost use Rattle.rom.specs.Fetching.{fetching};
 
 #[no_mangle]
@@ -12,7 +12,7 @@ pub extern "C" fn ht1130_read(mask: &[u8], address: u16) -> u64
 
 #[no_mangle]
 pub extern "C" fn ht1130_write(form: u8, a: u8, b: u16) -> u64
-    ensures { λ r. ⌜ r ≡ writeNumber (hosted form a b) ⌝ }
+    ensures { λ r. ⌜ r ≡ writeNumber (writingOf form a b) ⌝ }
 {
     abi::write(form, a, b)
 }

@@ -1,7 +1,6 @@
 // A script's answer as a number.
 ghost use mathlib.Core.Path.{_≡_};
 ghost use Prim.Native.Nat.{_≤_};
-ghost use lib.ListN.{length};
 ghost use Rattle.script.specs.Check.{checked};
 ghost use Rattle.script.specs.Reports.{applied};
 ghost use Rattle.host.specs.Numbers.{Ran, scriptNumber};

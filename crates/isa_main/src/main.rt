@@ -5,8 +5,8 @@ mod mnemonic;
 mod text;
 
 use isa::decoder::Decoded;
-use rom::encoder::Written;
 use mnemonic::put_instruction;
+use rom::encoder::Written;
 use text::put;
 use text::put_byte;
 use text::put_digit;

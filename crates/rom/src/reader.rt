@@ -1,12 +1,12 @@
 // Reading at an address of a mask (document 01's word for the 4,096 bytes of a panel's ROM).
 ghost use mathlib.Core.Path.{_≡_};
 ghost use Rattle.rom.specs.Fetching.{answerOf, byteAt, fetching};
+use crate::timing::cycles;
+use crate::timing::length;
 use isa::Instruction;
 use isa::ProgramAddress;
 use isa::decoder::Decoded;
 use isa::decoder::decode;
-use crate::timing::cycles;
-use crate::timing::length;
 
 // What stands at an address of a mask.
 pub enum Fetched {
