@@ -15,7 +15,7 @@ pub struct Machine {
 }
 
 // What an event gives back: document 01's refusal number, 0 for none, and the machine. A refused machine is as it was. The machine stands
-// first: where it starts the answer, the compiler leaves out a copy of the whole answer at each place that takes the machine out.
+// first, on no padding: so the compiler makes an answer where it is to stand, and not in a second place that is then copied.
 pub struct Answer {
     pub machine: Machine,
     pub refusal: u8,
