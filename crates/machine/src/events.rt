@@ -1,8 +1,13 @@
 // The events other than power-on, applied to a machine by value.
 ghost use mathlib.Core.Path.{_≡_};
-ghost use Rattle.machine.specs.Events.{applied, clocked, counting, eventRefusal, fallen, happened, interrupted, onCpuOf, pinned, refusalOf, wakes, withInt, withPorts, woken};
+ghost use lib.ListN.{length};
+ghost use Rattle.cpu.specs.State.{state};
+ghost use Rattle.machine.specs.Machine.{machineOf};
+ghost use Rattle.machine.specs.Events.{applied, clocked, counting, eventRefusal, fallen, happened, interrupted, pinned, refusalOf, wakes, withInt, withPorts, woken};
 use crate::Answer;
 use crate::Machine;
+use crate::power::after_res;
+use crate::ranges::sound;
 use cpu::Cpu;
 use datapath::timer::advance;
 
@@ -149,73 +154,51 @@ fn event_refusal(event: Event, mask: &[u8]) -> u8
     }
 }
 
+// The refusal of an event, 0 for none: the lowest number wins.
+fn refusal(cpu: Cpu, memory: &[u8; 160], event: Event, mask: &[u8]) -> u8
+    requires { ⌜ length (now memory) ≡ 160 ⌝ }
+    ensures { λ r. ⌜ r ≡ refusalOf (now (mask .entry)) event (machineOf (state cpu (now (memory .entry)))) ⌝ }
+{
+    let first = event_refusal(event, mask);
+    if first != 0 {
+        return first;
+    }
+    if sound(cpu, memory) {
+        return 0;
+    }
+    5
+}
+
+// What an event makes of the processor, and of the data memory where it is lent.
+fn happened(cpu: Cpu, event: Event, mask: &[u8], memory: &mut [u8; 160]) -> Cpu
+    ensures { λ r. ⌜ machineOf (state r (now (memory .exit))) ≡ happened (now (mask .entry)) event (machineOf (state cpu (now (memory .entry)))) ⌝ }
+{
+    match event {
+        Event::Run(n) => cpu.run(mask, memory, n),
+        Event::Pins(pm, ps, pp) => pinned(cpu, pm, ps, pp),
+        Event::Int(level) => interrupted(cpu, level),
+        Event::Tmclk(n) => counting(cpu, n),
+        Event::Res => after_res(cpu.registers, cpu.pins, cpu.options, cpu.cycles),
+    }
+}
+
 impl Machine {
-    pub(crate) fn pins(mut self, pm: u8, ps: u8, pp: u8) -> Machine
-        ensures { λ r. ⌜ r ≡ onCpuOf (pinned pm ps pp) self ⌝ }
-    {
-        let c = pinned(self.cpu, pm, ps, pp);
-        self.cpu = c;
-        self
-    }
-
-    pub(crate) fn int(mut self, level: u8) -> Machine
-        ensures { λ r. ⌜ r ≡ onCpuOf (interrupted level) self ⌝ }
-    {
-        let c = interrupted(self.cpu, level);
-        self.cpu = c;
-        self
-    }
-
-    pub(crate) fn tmclk(mut self, n: u16) -> Machine
-        ensures { λ r. ⌜ r ≡ onCpuOf (counting n) self ⌝ }
-    {
-        let c = counting(self.cpu, n);
-        self.cpu = c;
-        self
-    }
-
-    // The refusal of an event, 0 for none: the lowest number wins.
-    fn refusal(self, event: Event, mask: &[u8]) -> u8
-        ensures { λ r. ⌜ r ≡ refusalOf (now (mask .entry)) event self ⌝ }
-    {
-        let first = event_refusal(event, mask);
-        if first != 0 {
-            return first;
-        }
-        if self.valid() {
-            return 0;
-        }
-        5
-    }
-
-    // What an event makes of the machine.
-    fn happened(self, event: Event, mask: &[u8]) -> Machine
-        ensures { λ r. ⌜ r ≡ happened (now (mask .entry)) event self ⌝ }
-    {
-        match event {
-            Event::Run(n) => self.run(mask, n),
-            Event::Pins(pm, ps, pp) => self.pins(pm, ps, pp),
-            Event::Int(level) => self.int(level),
-            Event::Tmclk(n) => self.tmclk(n),
-            Event::Res => self.reset(),
-        }
-    }
-
     // An event. A refused one leaves the machine as it was.
-    pub fn apply(self, event: Event, mask: &[u8]) -> Answer
+    pub fn apply(mut self, event: Event, mask: &[u8]) -> Answer
         ensures { λ r. ⌜ r ≡ applied (now (mask .entry)) event self ⌝ }
     {
-        let refusal = self.refusal(event, mask);
+        let refusal = refusal(self.cpu, &self.memory, event, mask);
         if refusal != 0 {
             return Answer {
                 refusal,
                 machine: self,
             };
         }
-        let machine = self.happened(event, mask);
+        let cpu = happened(self.cpu, event, mask, &mut self.memory);
+        self.cpu = cpu;
         Answer {
             refusal: 0,
-            machine,
+            machine: self,
         }
     }
 }

@@ -14,8 +14,9 @@ pub struct Machine {
     pub memory: [u8; 160],
 }
 
-// What an event gives back: document 01's refusal number, 0 for none, and the machine. A refused machine is as it was.
+// What an event gives back: document 01's refusal number, 0 for none, and the machine. A refused machine is as it was. The machine stands
+// first, on no padding: so the compiler makes an answer where it is to stand, and not in a second place that is then copied.
 pub struct Answer {
-    pub refusal: u8,
     pub machine: Machine,
+    pub refusal: u8,
 }

@@ -2,7 +2,7 @@
 ghost use mathlib.Core.Path.{_≡_};
 ghost use lib.ListN.{drop, length};
 ghost use Prim.Native.Nat.{_≤_};
-ghost use Rattle.machine.specs.Power.{afterRes, blank, powerOn, powerRefusal, powered, reset};
+ghost use Rattle.machine.specs.Power.{afterRes, blank, powerOn, powerRefusal, powered};
 use crate::Answer;
 use crate::Machine;
 use crate::ranges::all_nibbles;
@@ -50,7 +50,7 @@ fn image_memory(image: &[u8]) -> [u8; 160]
 }
 
 // The processor after RES, with what RES keeps.
-fn after_res(registers: Registers, pins: Pins, options: Options, cycles: u32) -> Cpu
+pub(crate) fn after_res(registers: Registers, pins: Pins, options: Options, cycles: u32) -> Cpu
     ensures { λ r. ⌜ r ≡ afterRes registers pins options cycles ⌝ }
 {
     Cpu {
@@ -161,15 +161,5 @@ impl Machine {
             refusal: 0,
             machine,
         }
-    }
-
-    // RES.
-    pub(crate) fn reset(mut self) -> Machine
-        ensures { λ r. ⌜ r ≡ reset self ⌝ }
-    {
-        let cpu = self.cpu;
-        let next = after_res(cpu.registers, cpu.pins, cpu.options, cpu.cycles);
-        self.cpu = next;
-        self
     }
 }

@@ -2,7 +2,9 @@
 ghost use mathlib.Core.Path.{_≡_};
 ghost use mathlib.Core.Bool.{not, _&&_, _||_};
 ghost use lib.Dec.{eqb, ltb};
+ghost use lib.ListN.{length};
 ghost use Rattle.cpu.specs.Range.{controlOk, cpuOk, interruptsOk, nibbles, optionsOk, outputsOk, pinsOk, registersOk, stackOk, statusOk, timerOk, valid};
+ghost use Rattle.cpu.specs.State.{state};
 ghost use Rattle.machine.specs.Machine.{stateOf};
 use crate::Machine;
 use cpu::Control;
@@ -152,11 +154,19 @@ fn cpu_ok(c: Cpu) -> bool
     )
 }
 
+// Whether a machine is in range, from its two parts: the memory is lent, not copied.
+pub(crate) fn sound(cpu: Cpu, memory: &[u8; 160]) -> bool
+    requires { ⌜ length (now memory) ≡ 160 ⌝ }
+    ensures { λ b. ⌜ b ≡ valid (state cpu (now (memory .entry))) ⌝ }
+{
+    both(cpu_ok(cpu), all_nibbles(memory))
+}
+
 impl Machine {
     // Refusal 5 is the answer to an event where this is false.
     pub fn valid(self) -> bool
         ensures { λ b. ⌜ b ≡ valid (stateOf self) ⌝ }
     {
-        both(cpu_ok(self.cpu), all_nibbles(&self.memory))
+        sound(self.cpu, &self.memory)
     }
 }

@@ -6,6 +6,7 @@ ghost use Rattle.cpu.specs.State.{state};
 ghost use Rattle.machine.specs.Machine.{machineOf};
 ghost use Rattle.machine.specs.Report.{heading, report, reported, reporting, shown};
 use crate::Machine;
+use crate::ranges::sound;
 use cpu::Cpu;
 use datapath::memory::load;
 use isa::DataAddress;
@@ -80,9 +81,8 @@ impl Machine {
         if out.len() != 48 {
             return 2;
         }
-        if self.valid() {
-            let memory = self.memory;
-            write_report(self.cpu, &memory, out);
+        if sound(self.cpu, &self.memory) {
+            write_report(self.cpu, &self.memory, out);
             return 0;
         }
         5

@@ -117,10 +117,10 @@ module _ {M : Type 1} (𝓤 : URA M) (H : Heap 𝓤) (A : Atoms 𝓤) (W : Given
 
   -- what the answer's typing says of its fields
   small : (r : Answer) (u : Val) → Is S.the-row r (u ∷ []) → r .refusal < 2 ^ 8
-  small r u is = LL.owed S.the-type S′.the-laws r _ is .0 .1
+  small r u is = LL.owed S.the-type S′.the-laws r _ is .1 .0 .1
 
   made : (r : Answer) (u : Val) → Is S.the-row r (u ∷ []) → Is R (r .machine) (mach (r .machine) ∷ [])
-  made r u is = LL.owed S.the-type S′.the-laws r _ is .1 .0
+  made r u is = LL.owed S.the-type S′.the-laws r _ is .0
 
   exits : (r : Answer) → r .refusal < 2 ^ 8 → r ≡ found → ent 𝓤 (⋆ 𝓤 H A (‵ (fobs γ (R .coded .code (r .machine))) ∷ ‵ (fbor κ (Body (mem R) b o γ)) ∷ ‵ (flft κ q) ∷ (‵ (flft κ′ q′) ⊛ ‵ ftrue) ∷ ‵ Own ∷ [])) (Post (vint w8 (r .refusal)))
   exits r fits e =
@@ -161,8 +161,8 @@ module _ {M : Type 1} (𝓤 : URA M) (H : Heap 𝓤) (A : Atoms 𝓤) (W : Given
         peeks ! S.the-row (Is S.the-row) (shows 𝓤 H A S.the-row) r (u ∷ []) (λ is.
         land ! (from ! (stop !)) (init ! 12 refl (LL.lawful S.the-type S′.the-laws 𝓤 H A W .typed r _ is .0)) $
         rewrite ! 12 (λ (w : Val). ‵ (fat fullShare S′.mir l₈ 0 w)) (ap only (LL.tells S.the-type S′.the-laws r (u ∷ []) is)) refl $
-        assigns ! (of-opd ! (load ! (from ! (fld ! refl (stop !))) (look-in ! 12 (sub ! 1 refl (whole !))))) (from ! (hop ! (look ! 26 refl) (stop !))) (store-in ! 4 (whole !) (LL.lawful T.the-type T′.the-laws 𝓤 H A W .typed (r .machine) _ (made r u is) .0)) $
-        assigns ! (of-opd ! (load ! (from ! (fld ! refl (stop !))) (look-in ! 12 (sub ! 0 refl (whole !))))) (from ! (stop !)) (init ! 28 refl (tt, record { fits = small r u is })) $
+        assigns ! (of-opd ! (load ! (from ! (fld ! refl (stop !))) (look-in ! 12 (sub ! 0 refl (whole !))))) (from ! (hop ! (look ! 26 refl) (stop !))) (store-in ! 4 (whole !) (LL.lawful T.the-type T′.the-laws 𝓤 H A W .typed (r .machine) _ (made r u is) .0)) $
+        assigns ! (of-opd ! (load ! (from ! (fld ! refl (stop !))) (look-in ! 12 (sub ! 1 refl (whole !))))) (from ! (stop !)) (init ! 28 refl (tt, record { fits = small r u is })) $
         -- the borrow is closed at the answer's machine
         move ! (4 ∷ []) $ use1 W (‵ (cellAt fullShare (R .mir) (mach (r .machine) ∷ []) b o)) (W .laws .at-raw fullShare T′.mir b o (mach (r .machine))) $
         move ! (5 ∷ []) $ drop ! $ owned ! R (Is R) (LL.makes T.the-type T′.the-plain 𝓤 H A) (r .machine) _ (made r u is) $ move ! (1 ∷ 0 ∷ 6 ∷ 7 ∷ 8 ∷ []) $ closes ! tt R (r .machine) (mach (r .machine) ∷ []) b o $

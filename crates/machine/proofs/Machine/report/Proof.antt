@@ -10,8 +10,8 @@ returns : tie.Need-returns
 unfolding report
 returns c = rw (ne-eqb _ 48 (c .if1 .taken)) refl
 
-valid-requires : tie.Need-valid-requires
-valid-requires c κs = search needs
+sound-requires : tie.Need-sound-requires
+sound-requires c κs = search needs
 
 write-report-requires : tie.Need-write-report-requires
 write-report-requires c κs = search needs
@@ -21,13 +21,15 @@ same-length c = search needs
 
 returns-2 : tie.Need-returns-2
 unfolding report
-returns-2 c = ap (reporting 0) (c .before .before .write-report .ensures) ∙ rw (eq-eqb _ 48 (c .before .before .before .before .before .before .before .before .if1 .left), sym (c .before .before .before .before .before .before .before .valid .ensures) ∙ c .before .before .before .before .before .before .if2 .taken) refl
+returns-2 c =
+    let s = c .before .before .before .before .before .before .before .before in
+    ap (reporting 0) (c .before .before .write-report .ensures) ∙ rw (eq-eqb _ 48 (s .before .before .before .before .if1 .left), sym (s .sound .ensures) ∙ c .before .before .before .before .before .before .before .if2 .taken) refl
 
 returns-3 : tie.Need-returns-3
 unfolding report
-returns-3 c = rw (eq-eqb _ 48 (c .before .before .if1 .left), sym (c .before .valid .ensures) ∙ c .if2 .left) refl
+returns-3 c = rw (eq-eqb _ 48 (c .before .before .before .before .before .if1 .left), sym (c .before .sound .ensures) ∙ c .if2 .left) refl
 
 pub report-spec : {M : Type 1} → statement M
 report-spec =
     tie.close
-    (tie.spec returns valid-requires write-report-requires same-length returns-2 returns-3)
+    (tie.spec returns sound-requires write-report-requires same-length returns-2 returns-3)

@@ -1,4 +1,4 @@
--- `machine::Machine::valid` meets its contract: the processor's test and the memory's, whose length is the array's. Assumes nothing.
+-- `machine::ranges::sound` meets its contract: the processor's test and the memory's, whose length is required. Assumes nothing.
 use Prim.Native.Nat.{ℕ}
 use mathlib.Core.Path.{_≡_, refl, ap₂, _∙_}
 use mathlib.Core.Bool.{Bool, _&&_}
@@ -9,8 +9,8 @@ use Rattle.cpu.specs.Range.{valid, cpuOk, memoryOk, nibbles}
 use Rattle.cpu.specs.declared.Cpu.{Cpu}
 use Rattle.cpu.specs.State.{state}
 use borrow.Author.Needs.{needs}
-use Rattle.machine.proofs.Machine.valid.Statement.{statement}
-use Rattle.machine.proofs.Machine.valid.Tie as tie
+use Rattle.machine.proofs.ranges.sound.Statement.{statement}
+use Rattle.machine.proofs.ranges.sound.Tie as tie
 
 met : (k : Cpu) (m : List ℕ) (x y : Bool) {b : Bool} → b ≡ x && y → x ≡ cpuOk k → y ≡ nibbles m → length m ≡ 160 → b ≡ valid (state k m)
 unfolding valid memoryOk
@@ -27,15 +27,8 @@ both-requires c κs = search needs
 
 returns : tie.Need-returns
 returns c =
-    let m = c .before .before .before .before .before .before .before .args .t1 in
-    let l : length (m .memory) ≡ 160 = search needs in
-    met (m .cpu) (m .memory) _ _ (c .both .ensures) (c .before .before .before .before .before .cpu-ok .ensures) (c .before .all-nibbles .ensures) l
+    let s = c .before .before .before .before in
+    met (s .args .cpu) (s .args .memory .now) _ _ (c .both .ensures) (c .before .before .before .cpu-ok .ensures) (c .before .all-nibbles .ensures) (s .pre)
 
-pub valid-spec : {M : Type 1} → statement M
-valid-spec =
-    tie.close
-    (tie.spec
-    cpu-ok-requires
-    all-nibbles-requires
-    both-requires
-    returns)
+pub sound-spec : {M : Type 1} → statement M
+sound-spec = tie.close (tie.spec cpu-ok-requires all-nibbles-requires both-requires returns)

@@ -1,0 +1,103 @@
+-- `machine::events::happened` meets its contract: an arm knows the event, at which the definition computes, and only Run writes the memory.
+-- Assumes nothing.
+use Prim.Native.Nat.{ℕ}
+use mathlib.Core.Path.{_≡_, sym, ap, _∙_}
+use mathlib.Core.List.{List}
+use Rattle.cpu.specs.declared.Cpu.{Cpu}
+use Rattle.cpu.specs.State.{state}
+use Rattle.machine.specs.declared.Machine.{Machine}
+use Rattle.machine.specs.declared.events.Event.{Event}
+use Rattle.machine.specs.Machine.{machineOf}
+use Rattle.machine.specs.Events.{happened}
+use Rattle.machine.specs.Power.{afterRes}
+use borrow.Author.Needs.{needs}
+use Rattle.machine.proofs.events.happened.Statement.{statement}
+use Rattle.machine.proofs.events.happened.Tie as tie
+
+-- an event on the processor leaves the memory
+on-cpu : (memory : List ℕ) {k r : Cpu} → r ≡ k → machineOf (state r memory) ≡ machineOf (state k memory)
+on-cpu memory e = ap (λ (k : Cpu). machineOf (state k memory)) e
+
+-- what is known at an arm's event is known at the event
+at : (mask : List ℕ) (m : Machine) {e k : Event} {r : Machine} → r ≡ happened mask k m → e ≡ k → r ≡ happened mask e m
+at mask m p q = p ∙ sym (ap (λ (e : Event). happened mask e m) q)
+
+enum-known-event : tie.Need-enum-known-event
+enum-known-event c = search needs
+
+run-requires : tie.Need-run-requires
+run-requires c κs = search needs
+
+enum-known-event-2 : tie.Need-enum-known-event-2
+enum-known-event-2 c = search needs
+
+pinned-requires : tie.Need-pinned-requires
+pinned-requires c κs = search needs
+
+enum-known-event-3 : tie.Need-enum-known-event-3
+enum-known-event-3 c = search needs
+
+interrupted-requires : tie.Need-interrupted-requires
+interrupted-requires c κs = search needs
+
+enum-known-event-4 : tie.Need-enum-known-event-4
+enum-known-event-4 c = search needs
+
+counting-requires : tie.Need-counting-requires
+counting-requires c κs = search needs
+
+enum-told : tie.Need-enum-told
+enum-told c = search needs
+
+after-res-requires : tie.Need-after-res-requires
+after-res-requires c κs = search needs
+
+returns : tie.Need-returns
+unfolding happened
+returns c =
+    let a = c .before .before .before .before .before .before .args in
+    at (a .mask .now) (machineOf (state (a .cpu) (a .memory .now))) (ap machineOf (c .run .ensures)) (c .before .before .before .event .given .1)
+
+returns-2 : tie.Need-returns-2
+unfolding happened
+returns-2 c =
+    let a = c .before .before .before .before .before .args in
+    at (a .mask .now) (machineOf (state (a .cpu) (a .memory .now))) (on-cpu (a .memory .now) (c .pinned .ensures)) (c .before .before .event2 .given .1)
+
+returns-3 : tie.Need-returns-3
+unfolding happened
+returns-3 c =
+    let a = c .before .before .before .before .before .args in
+    at (a .mask .now) (machineOf (state (a .cpu) (a .memory .now))) (on-cpu (a .memory .now) (c .interrupted .ensures)) (c .before .before .event3 .given .1)
+
+returns-4 : tie.Need-returns-4
+unfolding happened
+returns-4 c =
+    let a = c .before .before .before .before .before .args in
+    at (a .mask .now) (machineOf (state (a .cpu) (a .memory .now))) (on-cpu (a .memory .now) (c .counting .ensures)) (c .before .before .event4 .given .1)
+
+returns-5 : tie.Need-returns-5
+unfolding happened
+returns-5 c =
+    let a = c .before .before .before .before .args in
+    at (a .mask .now) (machineOf (state (a .cpu) (a .memory .now))) (on-cpu (a .memory .now) {k = afterRes (a .cpu .registers) (a .cpu .pins) (a .cpu .options) (a .cpu .cycles)} (c .after-res .ensures)) (c .before .enum-told .given .1)
+
+pub happened-spec : {M : Type 1} → statement M
+happened-spec =
+    tie.close
+    (tie.spec
+    enum-known-event
+    run-requires
+    enum-known-event-2
+    pinned-requires
+    enum-known-event-3
+    interrupted-requires
+    enum-known-event-4
+    counting-requires
+    enum-told
+    after-res-requires
+    returns
+    returns-2
+    returns-3
+    returns-4
+    returns-5)
