@@ -2,7 +2,7 @@
 ghost use mathlib.Core.Path.{_≡_};
 ghost use lib.ListN.{drop, length};
 ghost use Prim.Native.Nat.{_≤_};
-ghost use Rattle.machine.specs.Power.{afterRes, blank, powerOn, powerRefusal, powered};
+ghost use Rattle.machine.specs.Power.{afterRes, blank, powerOn, powerRefusal, powered, reset};
 use crate::Answer;
 use crate::Machine;
 use crate::ranges::all_nibbles;
@@ -161,5 +161,15 @@ impl Machine {
             refusal: 0,
             machine,
         }
+    }
+
+    // RES alone, as the event does it.
+    pub fn reset(mut self) -> Machine
+        ensures { λ r. ⌜ r ≡ reset self ⌝ }
+    {
+        let cpu = self.cpu;
+        let next = after_res(cpu.registers, cpu.pins, cpu.options, cpu.cycles);
+        self.cpu = next;
+        self
     }
 }
