@@ -20,7 +20,7 @@ impl Cpu {
             if current.status.fault != 0 {
                 return current;
             }
-            current = current.step_by(mask, &entries, memory);
+            current = current.go_on(mask, &entries, memory);
             left -= 1;
         }
         current

@@ -106,17 +106,12 @@ impl Cpu {
         after.tick(entry % 16)
     }
 
-    // One step. `list` is the list of lengths and cycles, which a loop holds: an indexed constant is built at each use.
-    pub(crate) fn step_by(mut self, mask: &[u8], list: &[u8; 256], memory: &mut [u8; 160]) -> Cpu
-        requires { ⌜ now list ≡ entries ⌝ }
+    // A step of a processor that is neither halted nor faulted. `list` is the list of lengths and cycles, which a loop holds: an indexed constant
+    // is built at each use.
+    pub(crate) fn go_on(mut self, mask: &[u8], list: &[u8; 256], memory: &mut [u8; 160]) -> Cpu
+        requires { ⌜ (self .status .halted ≡ 0) × (self .status .fault ≡ 0) × (now list ≡ entries) ⌝ }
         ensures { λ r. ⌜ state r (now (memory .exit)) ≡ step (now (mask .entry)) (state self (now (memory .entry))) ⌝ }
     {
-        if self.status.halted != 0 {
-            return self;
-        }
-        if self.status.fault != 0 {
-            return self;
-        }
         let vector = self.pending();
         if vector == 8 {
             self.interrupts.held = 0;
@@ -133,7 +128,13 @@ impl Cpu {
     pub fn step(self, mask: &[u8], memory: &mut [u8; 160]) -> Cpu
         ensures { λ r. ⌜ state r (now (memory .exit)) ≡ step (now (mask .entry)) (state self (now (memory .entry))) ⌝ }
     {
+        if self.status.halted != 0 {
+            return self;
+        }
+        if self.status.fault != 0 {
+            return self;
+        }
         let entries = list();
-        self.step_by(mask, &entries, memory)
+        self.go_on(mask, &entries, memory)
     }
 }

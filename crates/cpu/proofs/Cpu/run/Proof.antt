@@ -41,8 +41,8 @@ returns-2 c =
     let s = state (l .loop .current) (l .loop .memory) in
     ran-stopped (l .before .before .before .args .mask .now) (l .loop .left) s (fault-stops (l .before .before .before .args .mask .now) s (c .before .before .if1 .left) (c .if2 .taken)) ∙ l .loop .inv
 
-step-by-requires : tie.Need-step-by-requires Inv-loop μ-loop
-step-by-requires c κs = c .before .before .before .before .before .before .before .before .list .ensures
+go-on-requires : tie.Need-go-on-requires Inv-loop μ-loop
+go-on-requires c κs = (c .before .before .before .before .if1 .left, c .before .before .if2 .left, c .before .before .before .before .before .before .before .before .list .ensures)
 
 sub-left : tie.Need-sub-left Inv-loop μ-loop
 sub-left c = omega arith
@@ -54,7 +54,7 @@ loop-again : tie.Need-loop-again Inv-loop μ-loop
 loop-again c =
     let l = c .before .before .before .before .before .before .before .before in
     let mask = l .before .before .before .args .mask .now in
-    ap (ran mask (l .loop .left - 1)) (c .step-by .ensures) ∙ ran-next mask (l .loop .left) (state (l .loop .current) (l .loop .memory)) (c .before .before .before .before .before .before .before .loop-test .taken) ∙ l .loop .inv
+    ap (ran mask (l .loop .left - 1)) (c .go-on .ensures) ∙ ran-next mask (l .loop .left) (state (l .loop .current) (l .loop .memory)) (c .before .before .before .before .before .before .before .loop-test .taken) ∙ l .loop .inv
 
 returns-3 : tie.Need-returns-3 Inv-loop μ-loop
 returns-3 c =
@@ -63,4 +63,4 @@ returns-3 c =
 
 pub run-spec : {M : Type 1} → statement M
 run-spec =
-    tie.close (tie.spec Inv-loop μ-loop list-requires loop-holds returns returns-2 step-by-requires sub-left loop-less loop-again returns-3)
+    tie.close (tie.spec Inv-loop μ-loop list-requires loop-holds returns returns-2 go-on-requires sub-left loop-less loop-again returns-3)
