@@ -24,7 +24,7 @@ pub enum Codes {
 }
 
 // The fault of a pair, 0 where it is not forbidden.
-pub fn fault_of(mask: &[u8], code: u16) -> u8
+pub(crate) fn fault_of(mask: &[u8], code: u16) -> u8
     ensures { λ r. ⌜ r ≡ fault (now (mask .entry)) (pairOf code) ⌝ }
 {
     let address = code / 3;
@@ -46,7 +46,7 @@ pub fn fault_of(mask: &[u8], code: u16) -> u8
 
 // The successors of a pair: none where it is forbidden. `list` is the list of lengths and cycles, which the walk holds: an indexed
 // constant is built at each use.
-pub fn next_codes(mask: &[u8], list: &[u8; 256], code: u16) -> Codes
+pub(crate) fn next_codes(mask: &[u8], list: &[u8; 256], code: u16) -> Codes
     requires { ⌜ now list ≡ entries ⌝ }
     ensures { λ r. ⌜ codesOf r ≡ ranks (successors (now (mask .entry)) (pairOf code)) ⌝ }
 {

@@ -46,7 +46,7 @@ fn push_all(seen: &mut [u8; 12288], queue: &mut [u16; 12288], tail: u16, codes: 
 }
 
 // A flag for each code: 1 where chains from the start, code 0, reach its pair.
-pub fn reach(mask: &[u8]) -> [u8; 12288]
+pub(crate) fn reach(mask: &[u8]) -> [u8; 12288]
     ensures { λ r. ⌜ Found (now (mask .entry)) r ⌝ }
 {
     let entries = list();
