@@ -13,7 +13,7 @@ use Rattle.isa.specs.declared.Page.{Page}
 use Rattle.isa.specs.declared.Page.the-variants.{Current, F}
 use Rattle.isa.specs.declared.Condition.{Condition}
 use Rattle.isa.specs.declared.Instruction.{Instruction}
-use Rattle.isa.specs.declared.Instruction.the-variants.{Branch}
+use Rattle.isa.specs.declared.Instruction.the-variants as I
 use Rattle.isa.proofs.Arms.{NoneOf}
 use Rattle.abi.specs.Answers.{writingOf}
 use Rattle.abi.specs.Forms.{Meant, one, nothing, listed, conditions, branchNamed, forms, named}
@@ -52,7 +52,7 @@ no-page f a h = no-choice (f Current ∷ f F ∷ []) a h
 
 pub no-condition : (a b : ℕ) → 12 ≤ a → nothing ≡ branchNamed a b
 unfolding branchNamed
-no-condition a b h = no-choice (map (λ (k : Condition). Branch (record { 0 = b }) k) conditions) a h
+no-condition a b h = no-choice (map (λ (k : Condition). I.Branch (record { 0 = b }) k) conditions) a h
 
 pub no-form : (form a b : ℕ) → 60 ≤ form → nothing ≡ named form a b
 unfolding forms named

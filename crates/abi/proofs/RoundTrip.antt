@@ -9,10 +9,11 @@ use native.Mathlib.Omega.{arith}
 use lib.Dec.{eqb, ltb}
 use lib.ListN.{length, take, getD}
 use borrow.Author.Tests.{ltb-true}
+use Rattle.isa.specs.Choice.{pick}
 use Rattle.isa.specs.Code.{bytesOf, inRange}
 use Rattle.isa.specs.Reading.{Reads, Reading, decoded}
 use Rattle.isa.specs.Timing.{Columns, lengthOf, cyclesOf}
-use Rattle.rom.specs.Fetching.{refused, byteAt, pick, withTiming, fetching}
+use Rattle.rom.specs.Fetching.{refused, byteAt, withTiming, fetching}
 use Rattle.rom.specs.Writing as Writing
 use Rattle.rom.specs.Writing.{writing}
 use Rattle.isa.specs.declared.Instruction.{Instruction}

@@ -11,7 +11,8 @@ use lib.Dec.{eqb}
 use lib.ListN.{length, getD, set, replicate, length-set}
 use lib.Seq.{getD-set-same, getD-set-other}
 use borrow.Author.Tests.{eqb-true, eqb-false, eq-eqb, ne-eqb}
-use Rattle.checker.specs.Walk.{Work, work, pickWork, pushed, zeros, Room}
+use Rattle.isa.specs.Choice.{pick}
+use Rattle.checker.specs.Walk.{Work, work, pushed, zeros, Room}
 
 -- ---- lists
 pub zeros-replicate : (n : ℕ) → zeros (replicate n 0) ≡ n
@@ -49,7 +50,7 @@ pub push-cases : (P : Work → Type 0) (w : Work) (c : ℕ)
 unfolding pushed
 push-cases P w c new old = go (eqb (getD (w .seen) c 0) 0) refl
   where
-    go : (b : Bool) → eqb (getD (w .seen) c 0) 0 ≡ b → P (pickWork b (work (set (w .seen) c 1) (set (w .queue) (w .tail) c) (w .tail + 1)) w)
+    go : (b : Bool) → eqb (getD (w .seen) c 0) 0 ≡ b → P (pick b (work (set (w .seen) c 1) (set (w .queue) (w .tail) c) (w .tail + 1)) w)
     go true e = new (eqb-true (getD (w .seen) c 0) 0 e)
     go false e = old (eqb-false (getD (w .seen) c 0) 0 e)
 

@@ -9,77 +9,18 @@ use mathlib.Core.List.{List, [], _∷_}
 use lib.Dec.{eqb}
 use lib.ListN.{getD}
 use borrow.Author.Tests.{ltb-true}
+use Rattle.isa.specs.Choice.{pick}
 use Rattle.isa.specs.Code.{inRange}
 use Rattle.rom.specs.Fetching.{byteAt}
 use Rattle.isa.proofs.Exact.{sound}
 use Rattle.isa.specs.declared.decoder.Decoded.{Decoded}
 use Rattle.isa.specs.declared.decoder.Decoded.the-variants.{Read}
 use Rattle.isa.specs.declared.Instruction.{Instruction}
-use Rattle.isa.specs.declared.Instruction.the-variants.{
-  AddAM,
-  AdcAM,
-  SubAM,
-  SbcAM,
-  AddAX,
-  SubAX,
-  Daa,
-  AndAM,
-  OrAM,
-  XorAM,
-  AndMA,
-  OrMA,
-  XorMA,
-  AndAX,
-  OrAX,
-  XorAX,
-  IncA,
-  IncR,
-  IncM,
-  DecA,
-  DecR,
-  DecM,
-  MovAR,
-  MovRA,
-  MovAM,
-  MovMA,
-  MovAX,
-  MovPairXX,
-  MovR4X,
-  RlA,
-  RlcA,
-  RrA,
-  RrcA,
-  InA,
-  OutPaA,
-  Jmp,
-  Branch,
-  Call,
-  Ret,
-  Reti,
-  Clc,
-  Stc,
-  Ei,
-  Di,
-  Nop,
-  TimerXX,
-  TimerOn,
-  TimerOff,
-  MovATmrl,
-  MovATmrh,
-  MovTmrlA,
-  MovTmrhA,
-  ReadR4A,
-  ReadMr0A,
-  SoundN,
-  SoundA,
-  SoundOne,
-  SoundLoop,
-  SoundOff,
-  Halt,
-}
+use Rattle.isa.specs.declared.Instruction.the-variants as I
 use Rattle.checker.specs.declared.flow.Flow.{Flow}
 use Rattle.checker.specs.declared.flow.Flow.the-variants.{On, Enable, Jump, To, Sub, Back}
-use Rattle.checker.specs.Marks.{Pair, pair, pickPairs, flowOf, readAt, movedFrom, handed, handedBy, fault, successors, Member, here, there, Chain, one, more, Reached}
+use Rattle.checker.specs.Marks.{Pair, pair, flowOf, handed, handedBy, fault, successors, Member, here, there, Chain, one, more, Reached}
+use Rattle.rom.specs.Fetching.{readAt, movedFrom}
 
 -- ---- chains
 pub reached-start : (mask : List ℕ) → Reached mask (pair 0 0)
@@ -114,66 +55,66 @@ Targets Back = Unit {0}
 
 pub targets : (i : Instruction) → inRange i ≡ true → Targets (flowOf i)
 unfolding flowOf inRange
-targets AddAM e = tt
-targets AdcAM e = tt
-targets SubAM e = tt
-targets SbcAM e = tt
-targets (AddAX d) e = tt
-targets (SubAX d) e = tt
-targets Daa e = tt
-targets AndAM e = tt
-targets OrAM e = tt
-targets XorAM e = tt
-targets AndMA e = tt
-targets OrMA e = tt
-targets XorMA e = tt
-targets (AndAX d) e = tt
-targets (OrAX d) e = tt
-targets (XorAX d) e = tt
-targets IncA e = tt
-targets (IncR n) e = tt
-targets (IncM p) e = tt
-targets DecA e = tt
-targets (DecR n) e = tt
-targets (DecM p) e = tt
-targets (MovAR n) e = tt
-targets (MovRA n) e = tt
-targets (MovAM p) e = tt
-targets (MovMA p) e = tt
-targets (MovAX d) e = tt
-targets (MovPairXX p low high) e = tt
-targets (MovR4X d) e = tt
-targets RlA e = tt
-targets RlcA e = tt
-targets RrA e = tt
-targets RrcA e = tt
-targets (InA p) e = tt
-targets OutPaA e = tt
-targets (Jmp t) e = ltb-true (t .0) 4096 e
-targets (Branch t k) e = tt
-targets (Call t) e = ltb-true (t .0) 4096 e
-targets Ret e = tt
-targets Reti e = tt
-targets Clc e = tt
-targets Stc e = tt
-targets Ei e = tt
-targets Di e = tt
-targets Nop e = tt
-targets (TimerXX x) e = tt
-targets TimerOn e = tt
-targets TimerOff e = tt
-targets MovATmrl e = tt
-targets MovATmrh e = tt
-targets MovTmrlA e = tt
-targets MovTmrhA e = tt
-targets (ReadR4A p) e = tt
-targets (ReadMr0A p) e = tt
-targets (SoundN n) e = tt
-targets SoundA e = tt
-targets SoundOne e = tt
-targets SoundLoop e = tt
-targets SoundOff e = tt
-targets Halt e = tt
+targets I.AddAM e = tt
+targets I.AdcAM e = tt
+targets I.SubAM e = tt
+targets I.SbcAM e = tt
+targets (I.AddAX d) e = tt
+targets (I.SubAX d) e = tt
+targets I.Daa e = tt
+targets I.AndAM e = tt
+targets I.OrAM e = tt
+targets I.XorAM e = tt
+targets I.AndMA e = tt
+targets I.OrMA e = tt
+targets I.XorMA e = tt
+targets (I.AndAX d) e = tt
+targets (I.OrAX d) e = tt
+targets (I.XorAX d) e = tt
+targets I.IncA e = tt
+targets (I.IncR n) e = tt
+targets (I.IncM p) e = tt
+targets I.DecA e = tt
+targets (I.DecR n) e = tt
+targets (I.DecM p) e = tt
+targets (I.MovAR n) e = tt
+targets (I.MovRA n) e = tt
+targets (I.MovAM p) e = tt
+targets (I.MovMA p) e = tt
+targets (I.MovAX d) e = tt
+targets (I.MovPairXX p low high) e = tt
+targets (I.MovR4X d) e = tt
+targets I.RlA e = tt
+targets I.RlcA e = tt
+targets I.RrA e = tt
+targets I.RrcA e = tt
+targets (I.InA p) e = tt
+targets I.OutPaA e = tt
+targets (I.Jmp t) e = ltb-true (t .0) 4096 e
+targets (I.Branch t k) e = tt
+targets (I.Call t) e = ltb-true (t .0) 4096 e
+targets I.Ret e = tt
+targets I.Reti e = tt
+targets I.Clc e = tt
+targets I.Stc e = tt
+targets I.Ei e = tt
+targets I.Di e = tt
+targets I.Nop e = tt
+targets (I.TimerXX x) e = tt
+targets I.TimerOn e = tt
+targets I.TimerOff e = tt
+targets I.MovATmrl e = tt
+targets I.MovATmrh e = tt
+targets I.MovTmrlA e = tt
+targets I.MovTmrhA e = tt
+targets (I.ReadR4A p) e = tt
+targets (I.ReadMr0A p) e = tt
+targets (I.SoundN n) e = tt
+targets I.SoundA e = tt
+targets I.SoundOne e = tt
+targets I.SoundLoop e = tt
+targets I.SoundOff e = tt
+targets I.Halt e = tt
 
 -- a property of each pair of a list
 abbrev pub All : (Pair → Type 0) → List Pair → Type 0
@@ -193,7 +134,7 @@ handed-range (To a) moved l t h k = ((h, k), ((omega arith, k), tt))
 handed-range (Sub a) moved l t h k = ((t, omega arith), ((h, omega arith), tt))
 handed-range Back moved l t h k = tt
 
-picked : (b : Bool) (ps : List Pair) (q : Pair) → Member q (pickPairs b ps []) → Member q ps
+picked : (b : Bool) (ps : List Pair) (q : Pair) → Member q (pick b ps []) → Member q ps
 picked true ps q m = m
 
 pub read-targets : (mask : List ℕ) → ((k : ℕ) → getD mask k 0 < 256) → (a : ℕ) (i : Instruction) → readAt mask a ≡ Read i → Targets (flowOf i)

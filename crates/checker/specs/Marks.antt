@@ -4,75 +4,13 @@ use mathlib.Core.Path.{_≡_}
 use mathlib.Core.Bool.{Bool, true, false}
 use mathlib.Core.List.{List, [], _∷_}
 use lib.Dec.{eqb}
-use Rattle.rom.specs.Fetching.{byteAt}
-use Rattle.isa.specs.Reading.{decoded}
-use Rattle.isa.specs.Timing.{lengthOf}
+use Rattle.isa.specs.Choice.{pick}
+use Rattle.rom.specs.Fetching.{readAt, movedFrom, branchTo}
 use Rattle.isa.specs.declared.ProgramAddress.{ProgramAddress}
 use Rattle.isa.specs.declared.decoder.Decoded.{Decoded}
 use Rattle.isa.specs.declared.decoder.Decoded.the-variants.{Read, Unreadable}
 use Rattle.isa.specs.declared.Instruction.{Instruction}
-use Rattle.isa.specs.declared.Instruction.the-variants.{
-  AddAM,
-  AdcAM,
-  SubAM,
-  SbcAM,
-  AddAX,
-  SubAX,
-  Daa,
-  AndAM,
-  OrAM,
-  XorAM,
-  AndMA,
-  OrMA,
-  XorMA,
-  AndAX,
-  OrAX,
-  XorAX,
-  IncA,
-  IncR,
-  IncM,
-  DecA,
-  DecR,
-  DecM,
-  MovAR,
-  MovRA,
-  MovAM,
-  MovMA,
-  MovAX,
-  MovPairXX,
-  MovR4X,
-  RlA,
-  RlcA,
-  RrA,
-  RrcA,
-  InA,
-  OutPaA,
-  Jmp,
-  Branch,
-  Call,
-  Ret,
-  Reti,
-  Clc,
-  Stc,
-  Ei,
-  Di,
-  Nop,
-  TimerXX,
-  TimerOn,
-  TimerOff,
-  MovATmrl,
-  MovATmrh,
-  MovTmrlA,
-  MovTmrhA,
-  ReadR4A,
-  ReadMr0A,
-  SoundN,
-  SoundA,
-  SoundOne,
-  SoundLoop,
-  SoundOff,
-  Halt,
-}
+use Rattle.isa.specs.declared.Instruction.the-variants as I
 use Rattle.checker.specs.declared.flow.Flow.{Flow}
 use Rattle.checker.specs.declared.flow.Flow.the-variants.{On, Enable, Jump, To, Sub, Back}
 
@@ -84,77 +22,69 @@ pub record Pair : Type 0 where
 abbrev pub pair : ℕ → ℕ → Pair
 pair a l = record { address = a; level = l }
 
-abbrev pub pickPairs : Bool → List Pair → List Pair → List Pair
-pickPairs true x y = x
-pickPairs false x y = y
-
-abbrev pub pickNumber : Bool → ℕ → ℕ → ℕ
-pickNumber true x y = x
-pickNumber false x y = y
-
 -- where an instruction hands the program on: to the moved address, also to the two vectors (EI), only to a target (JMP), also to a
 -- target (a branch), to a subroutine (CALL), or back (RET and RETI)
 unfoldable pub flowOf : Instruction → Flow
-flowOf AddAM = On
-flowOf AdcAM = On
-flowOf SubAM = On
-flowOf SbcAM = On
-flowOf (AddAX d) = On
-flowOf (SubAX d) = On
-flowOf Daa = On
-flowOf AndAM = On
-flowOf OrAM = On
-flowOf XorAM = On
-flowOf AndMA = On
-flowOf OrMA = On
-flowOf XorMA = On
-flowOf (AndAX d) = On
-flowOf (OrAX d) = On
-flowOf (XorAX d) = On
-flowOf IncA = On
-flowOf (IncR n) = On
-flowOf (IncM p) = On
-flowOf DecA = On
-flowOf (DecR n) = On
-flowOf (DecM p) = On
-flowOf (MovAR n) = On
-flowOf (MovRA n) = On
-flowOf (MovAM p) = On
-flowOf (MovMA p) = On
-flowOf (MovAX d) = On
-flowOf (MovPairXX p low high) = On
-flowOf (MovR4X d) = On
-flowOf RlA = On
-flowOf RlcA = On
-flowOf RrA = On
-flowOf RrcA = On
-flowOf (InA p) = On
-flowOf OutPaA = On
-flowOf (Jmp t) = Jump t
-flowOf (Branch t k) = To t
-flowOf (Call t) = Sub t
-flowOf Ret = Back
-flowOf Reti = Back
-flowOf Clc = On
-flowOf Stc = On
-flowOf Ei = Enable
-flowOf Di = On
-flowOf Nop = On
-flowOf (TimerXX x) = On
-flowOf TimerOn = On
-flowOf TimerOff = On
-flowOf MovATmrl = On
-flowOf MovATmrh = On
-flowOf MovTmrlA = On
-flowOf MovTmrhA = On
-flowOf (ReadR4A p) = On
-flowOf (ReadMr0A p) = On
-flowOf (SoundN n) = On
-flowOf SoundA = On
-flowOf SoundOne = On
-flowOf SoundLoop = On
-flowOf SoundOff = On
-flowOf Halt = On
+flowOf I.AddAM = On
+flowOf I.AdcAM = On
+flowOf I.SubAM = On
+flowOf I.SbcAM = On
+flowOf (I.AddAX d) = On
+flowOf (I.SubAX d) = On
+flowOf I.Daa = On
+flowOf I.AndAM = On
+flowOf I.OrAM = On
+flowOf I.XorAM = On
+flowOf I.AndMA = On
+flowOf I.OrMA = On
+flowOf I.XorMA = On
+flowOf (I.AndAX d) = On
+flowOf (I.OrAX d) = On
+flowOf (I.XorAX d) = On
+flowOf I.IncA = On
+flowOf (I.IncR n) = On
+flowOf (I.IncM p) = On
+flowOf I.DecA = On
+flowOf (I.DecR n) = On
+flowOf (I.DecM p) = On
+flowOf (I.MovAR n) = On
+flowOf (I.MovRA n) = On
+flowOf (I.MovAM p) = On
+flowOf (I.MovMA p) = On
+flowOf (I.MovAX d) = On
+flowOf (I.MovPairXX p low high) = On
+flowOf (I.MovR4X d) = On
+flowOf I.RlA = On
+flowOf I.RlcA = On
+flowOf I.RrA = On
+flowOf I.RrcA = On
+flowOf (I.InA p) = On
+flowOf I.OutPaA = On
+flowOf (I.Jmp t) = Jump t
+flowOf (I.Branch t k) = To t
+flowOf (I.Call t) = Sub t
+flowOf I.Ret = Back
+flowOf I.Reti = Back
+flowOf I.Clc = On
+flowOf I.Stc = On
+flowOf I.Ei = Enable
+flowOf I.Di = On
+flowOf I.Nop = On
+flowOf (I.TimerXX x) = On
+flowOf I.TimerOn = On
+flowOf I.TimerOff = On
+flowOf I.MovATmrl = On
+flowOf I.MovATmrh = On
+flowOf I.MovTmrlA = On
+flowOf I.MovTmrhA = On
+flowOf (I.ReadR4A p) = On
+flowOf (I.ReadMr0A p) = On
+flowOf (I.SoundN n) = On
+flowOf I.SoundA = On
+flowOf I.SoundOne = On
+flowOf I.SoundLoop = On
+flowOf I.SoundOff = On
+flowOf I.Halt = On
 
 -- "is CALL in level 1 or 2, or is RET or RETI in level 0"
 abbrev pub nestingFault : Flow → ℕ → ℕ
@@ -162,28 +92,16 @@ nestingFault On l = 0
 nestingFault Enable l = 0
 nestingFault (Jump t) l = 0
 nestingFault (To t) l = 0
-nestingFault (Sub t) l = pickNumber (eqb l 0) 0 2
-nestingFault Back l = pickNumber (eqb l 0) 3 0
+nestingFault (Sub t) l = pick (eqb l 0) 0 2
+nestingFault Back l = pick (eqb l 0) 3 0
 
 abbrev pub faultOf : Decoded → ℕ → ℕ
 faultOf (Read i) l = nestingFault (flowOf i) l
 faultOf Unreadable l = 1
 
--- what stands at an address
-abbrev pub readAt : List ℕ → ℕ → Decoded
-readAt mask a = decoded (byteAt mask a) (byteAt mask (a + 1))
-
 -- "It is forbidden when the instruction at that address gives fault 1, 2 or 3 in that level": the fault, 0 where it is not forbidden
 unfoldable pub fault : List ℕ → Pair → ℕ
 fault mask p = faultOf (readAt mask (p .address)) (p .level)
-
--- "PC moves on by the length, modulo 4,096"
-abbrev pub movedFrom : List ℕ → ℕ → ℕ
-movedFrom mask a = (a + lengthOf (byteAt mask a)) % 4096
-
--- a branch keeps bit 11 of the moved address
-abbrev pub branchTo : ℕ → ProgramAddress → ℕ
-branchTo moved t = moved / 2048 * 2048 + t .0 % 2048
 
 -- "Successors of any other pair: the moved address in the same level; a branch also its target; JMP only its target; CALL in level 0 its
 -- target in level 1 and the moved address in level 0; EI also 4 and 8 in level 2; RET and RETI none"
@@ -202,7 +120,7 @@ handedBy Unreadable moved l = []
 -- "A forbidden pair has no successors"
 unfoldable pub successors : List ℕ → Pair → List Pair
 successors mask p =
-    pickPairs (eqb (fault mask p) 0) (handedBy (readAt mask (p .address)) (movedFrom mask (p .address)) (p .level)) []
+    pick (eqb (fault mask p) 0) (handedBy (readAt mask (p .address)) (movedFrom mask (p .address)) (p .level)) []
 
 -- one of a list
 pub data Member (p : Pair) : List Pair → Type 0 where

@@ -4,7 +4,8 @@ use mathlib.Core.Path.{_≡_}
 use mathlib.Core.List.{List}
 use lib.ListN.{length, getD}
 use lib.Dec.{eqb}
-use Rattle.checker.specs.Marks.{Pair, pair, pickNumber, fault, Reached}
+use Rattle.isa.specs.Choice.{pick}
+use Rattle.checker.specs.Marks.{Pair, pair, fault, Reached}
 use Rattle.checker.specs.declared.check.Verdict.{Verdict}
 use Rattle.checker.specs.declared.check.Verdict.the-variants.{Passed, Failed, BadMask, BadMarks}
 
@@ -46,4 +47,4 @@ numberOf BadMarks = 2
 
 -- "1: mask not 4,096 bytes"; "2: .. marks .. not .. 4,096"; the lowest number wins
 abbrev pub checkRefusal : List ℕ → List ℕ → ℕ
-checkRefusal mask marks = pickNumber (eqb (length mask) 4096) (pickNumber (eqb (length marks) 4096) 0 2) 1
+checkRefusal mask marks = pick (eqb (length mask) 4096) (pick (eqb (length marks) 4096) 0 2) 1

@@ -6,6 +6,7 @@ use mathlib.Core.Bool.{Bool, true, false}
 use mathlib.Core.List.{List, [], _∷_}
 use lib.Dec.{eqb}
 use lib.ListN.{length, getD, set}
+use Rattle.isa.specs.Choice.{pick}
 use Rattle.checker.specs.Marks.{Pair, pair, fault, Reached}
 use Rattle.checker.specs.Verdicts.{rank}
 use Rattle.checker.specs.declared.check.Verdict.{Verdict}
@@ -41,14 +42,10 @@ pub record Work : Type 0 where
 abbrev pub work : List ℕ → List ℕ → ℕ → Work
 work s q t = record { seen = s; queue = q; tail = t }
 
-abbrev pub pickWork : Bool → Work → Work → Work
-pickWork true x y = x
-pickWork false x y = y
-
 -- a code that is not found yet goes to the queue's end
 unfoldable pub pushed : Work → ℕ → Work
 pushed w c =
-    pickWork (eqb (getD (w .seen) c 0) 0) (work (set (w .seen) c 1) (set (w .queue) (w .tail) c) (w .tail + 1)) w
+    pick (eqb (getD (w .seen) c 0) 0) (work (set (w .seen) c 1) (set (w .queue) (w .tail) c) (w .tail + 1)) w
 
 unfoldable pub pushedAll : Work → List ℕ → Work
 pushedAll w [] = w

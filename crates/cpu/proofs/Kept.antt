@@ -11,6 +11,8 @@ use lib.Dec.{ltb, eqb}
 use lib.ListN.{getD}
 use lib.Bits.{and-lt, or-lt, xor-lt}
 use borrow.Author.Tests.{ltb-true, eqb-true, not-false}
+use Rattle.isa.specs.Choice.{pick}
+use Rattle.rom.specs.Fetching.{branchTo}
 use Rattle.isa.specs.Code.{inRange}
 use Rattle.isa.specs.Reading.{decoded}
 use Rattle.isa.specs.declared.ProgramAddress.{ProgramAddress}
@@ -23,75 +25,14 @@ use Rattle.isa.specs.declared.Port.the-variants.{Pm, Ps, Pp}
 use Rattle.isa.specs.declared.Condition.{Condition}
 use Rattle.isa.specs.declared.Condition.the-variants.{Ja, JnzR0, JnzR1, JnzR4, Jz, JnzA, Jc, Jnc, Jtmr}
 use Rattle.isa.specs.declared.Instruction.{Instruction}
-use Rattle.isa.specs.declared.Instruction.the-variants.{
-  AddAM,
-  AdcAM,
-  SubAM,
-  SbcAM,
-  AddAX,
-  SubAX,
-  Daa,
-  AndAM,
-  OrAM,
-  XorAM,
-  AndMA,
-  OrMA,
-  XorMA,
-  AndAX,
-  OrAX,
-  XorAX,
-  IncA,
-  IncR,
-  IncM,
-  DecA,
-  DecR,
-  DecM,
-  MovAR,
-  MovRA,
-  MovAM,
-  MovMA,
-  MovAX,
-  MovPairXX,
-  MovR4X,
-  RlA,
-  RlcA,
-  RrA,
-  RrcA,
-  InA,
-  OutPaA,
-  Jmp,
-  Branch,
-  Call,
-  Ret,
-  Reti,
-  Clc,
-  Stc,
-  Ei,
-  Di,
-  Nop,
-  TimerXX,
-  TimerOn,
-  TimerOff,
-  MovATmrl,
-  MovATmrh,
-  MovTmrlA,
-  MovTmrhA,
-  ReadR4A,
-  ReadMr0A,
-  SoundN,
-  SoundA,
-  SoundOne,
-  SoundLoop,
-  SoundOff,
-  Halt,
-}
+use Rattle.isa.specs.declared.Instruction.the-variants as I
 use Rattle.isa.proofs.Exact.{and-left, and-right, sound}
-use Rattle.datapath.specs.Alu.{flag, pickSum, summed, adjusted}
+use Rattle.datapath.specs.Alu.{flag, summed, adjusted}
 use Rattle.datapath.specs.Timer.{clocks, counted}
 use Rattle.datapath.specs.declared.alu.Sum.{Sum}
 use Rattle.datapath.specs.declared.timer.Count.{Count}
 use Rattle.cpu.specs.State.{State, state, onCpu, address, withAcc}
-use Rattle.cpu.specs.Effect.{pick, placeOf, nibbleAt, withNibble, taking, registerOf, withRegister, portOf, withPair, holds, tested, branchTarget, branched, called, returned}
+use Rattle.cpu.specs.Effect.{placeOf, nibbleAt, withNibble, taking, registerOf, withRegister, portOf, withPair, holds, tested, branched, called, returned}
 use Rattle.cpu.specs.Effect.{returnedWithCarry, effect}
 use Rattle.cpu.specs.Step.{timed, ticked, entered, moved, settled, instructed, executed, vectorOf, stepped, stopped, step}
 use Rattle.cpu.specs.Range.{valid}
@@ -141,7 +82,7 @@ summed-in a b c = record { value = low (a + b + c); carry = flag-in (ltb 15 (a +
 adjusted-in : (a c : ℕ) → a < 16 → c < 2 → SumIn (adjusted a c)
 adjusted-in a c h k = one (ltb 9 a || eqb c 1)
   where
-    one : (t : Bool) → SumIn (pickSum t (record { value = (a + 6) % 16; carry = 1 }) (record { value = a; carry = c }))
+    one : (t : Bool) → SumIn (pick t (record { value = (a + 6) % 16; carry = 1 }) (record { value = a; carry = c }))
     one true = record { value = low (a + 6); carry = omega arith }
     one false = record { value = h; carry = k }
 
@@ -185,7 +126,7 @@ module _ {c : Cpu} (v : CpuIn c) where
 
   branched-in : (k : Condition) (t : ProgramAddress) → CpuIn (branched k t c)
   unfolding branched
-  branched-in k t = one-of CpuIn (holds k c) (pc-in (tested-in k) (branchTarget (c .control .pc) t) (within (c .control .pc .0) (t .0) (v .control .pc))) (tested-in k)
+  branched-in k t = one-of CpuIn (holds k c) (pc-in (tested-in k) (address (branchTo (c .control .pc .0) t)) (within (c .control .pc .0) (t .0) (v .control .pc))) (tested-in k)
     where
       within : (a b : ℕ) → a < 4096 → a / 2048 * 2048 + b % 2048 < 4096
       within a b h = omega arith
@@ -229,66 +170,66 @@ module _ (mask : List ℕ) (s : State) (b : Bytes mask) (v : Valid s) (e : s .cp
 
   pub effect-valid : (i : Instruction) → inRange i ≡ true → Valid (effect mask i s)
   unfolding effect inRange
-  effect-valid AddAM r = sum (summed-in _ _ _)
-  effect-valid AdcAM r = sum (summed-in _ _ _)
-  effect-valid SubAM r = sum (summed-in _ _ _)
-  effect-valid SbcAM r = sum (summed-in _ _ _)
-  effect-valid (AddAX d) r = sum (summed-in _ _ _)
-  effect-valid (SubAX d) r = sum (summed-in _ _ _)
-  effect-valid Daa r = sum (adjusted-in _ _ acc (v .cpu .control .cf))
-  effect-valid AndAM r = to-acc (and-lt 4 _ _ acc (at R1R0))
-  effect-valid OrAM r = to-acc (or-lt 4 _ _ acc (at R1R0))
-  effect-valid XorAM r = to-acc (xor-lt 4 _ _ acc (at R1R0))
-  effect-valid AndMA r = put R1R0 _ (and-lt 4 _ _ (at R1R0) acc)
-  effect-valid OrMA r = put R1R0 _ (or-lt 4 _ _ (at R1R0) acc)
-  effect-valid XorMA r = put R1R0 _ (xor-lt 4 _ _ (at R1R0) acc)
-  effect-valid (AndAX d) r = to-acc (and-lt 4 _ _ acc (ltb-true d 16 r))
-  effect-valid (OrAX d) r = to-acc (or-lt 4 _ _ acc (ltb-true d 16 r))
-  effect-valid (XorAX d) r = to-acc (xor-lt 4 _ _ acc (ltb-true d 16 r))
-  effect-valid IncA r = to-acc (low _)
-  effect-valid (IncR n) r = on (with-register-in (v .cpu) n _ (low _))
-  effect-valid (IncM p) r = put p _ (low _)
-  effect-valid DecA r = to-acc (low _)
-  effect-valid (DecR n) r = on (with-register-in (v .cpu) n _ (low _))
-  effect-valid (DecM p) r = put p _ (low _)
-  effect-valid (MovAR n) r = to-acc (register-in (v .cpu) n)
-  effect-valid (MovRA n) r = on (with-register-in (v .cpu) n _ acc)
-  effect-valid (MovAM p) r = to-acc (at p)
-  effect-valid (MovMA p) r = put p _ acc
-  effect-valid (MovAX d) r = to-acc (ltb-true d 16 r)
-  effect-valid (MovPairXX p x y) r = on (pair-in (v .cpu) p x y r)
-  effect-valid (MovR4X d) r = on (r4-in (v .cpu) d (ltb-true d 16 r))
-  effect-valid RlA r = sum (record { value = low _; carry = odd _ })
-  effect-valid RlcA r = sum (record { value = low _; carry = odd _ })
-  effect-valid RrA r = sum (record { value = low _; carry = odd _ })
-  effect-valid RrcA r = sum (record { value = low _; carry = odd _ })
-  effect-valid (InA p) r = to-acc (port-in (v .cpu) p)
-  effect-valid OutPaA r = on (pa-in (v .cpu) _ acc)
-  effect-valid (Jmp t) r = on (pc-in (v .cpu) t (ltb-true (t .0) 4096 r))
-  effect-valid (Branch t k) r = on (branched-in (v .cpu) k t)
-  effect-valid (Call t) r = on (called-in (v .cpu) t (ltb-true (t .0) 4096 r) e)
-  effect-valid Ret r = on (returned-in (v .cpu) e)
-  effect-valid Reti r = on (returned-with-carry-in (v .cpu) e)
-  effect-valid Clc r = on (cf-in (v .cpu) 0 (odd 0))
-  effect-valid Stc r = on (cf-in (v .cpu) 1 (odd 1))
-  effect-valid Ei r = on (enabled-in (v .cpu) 1 (odd 1))
-  effect-valid Di r = on (enabled-in (v .cpu) 0 (odd 0))
-  effect-valid Nop r = v
-  effect-valid (TimerXX x) r = on (count-in (v .cpu) x (ltb-true x 256 r))
-  effect-valid TimerOn r = on (running-in (v .cpu) 1 (odd 1))
-  effect-valid TimerOff r = on (running-in (v .cpu) 0 (odd 0))
-  effect-valid MovATmrl r = to-acc (low _)
-  effect-valid MovATmrh r = to-acc (high _ (v .cpu .timer .count))
-  effect-valid MovTmrlA r = on (count-in (v .cpu) _ (joined _ _ (high _ (v .cpu .timer .count))))
-  effect-valid MovTmrhA r = on (count-in (v .cpu) _ (joined _ _ (low _)))
-  effect-valid (ReadR4A p) r = on (r4-in (acc-in (v .cpu) _ (low _)) _ (high _ (b _)))
-  effect-valid (ReadMr0A p) r = record { cpu = acc-in (v .cpu) _ (low _); memory = put R1R0 _ (high _ (b _)) .memory }
-  effect-valid (SoundN n) r = on (channel-in (v .cpu) n (sound-in n (ltb-true n 16 r)))
-  effect-valid SoundA r = on (channel-in (v .cpu) _ (sound-in _ acc))
-  effect-valid SoundOne r = on (mode-in (v .cpu) 0 (odd 0))
-  effect-valid SoundLoop r = on (mode-in (v .cpu) 1 (odd 1))
-  effect-valid SoundOff r = on (channel-in (v .cpu) 16 (omega arith))
-  effect-valid Halt r = on (halted-in (v .cpu) f)
+  effect-valid I.AddAM r = sum (summed-in _ _ _)
+  effect-valid I.AdcAM r = sum (summed-in _ _ _)
+  effect-valid I.SubAM r = sum (summed-in _ _ _)
+  effect-valid I.SbcAM r = sum (summed-in _ _ _)
+  effect-valid (I.AddAX d) r = sum (summed-in _ _ _)
+  effect-valid (I.SubAX d) r = sum (summed-in _ _ _)
+  effect-valid I.Daa r = sum (adjusted-in _ _ acc (v .cpu .control .cf))
+  effect-valid I.AndAM r = to-acc (and-lt 4 _ _ acc (at R1R0))
+  effect-valid I.OrAM r = to-acc (or-lt 4 _ _ acc (at R1R0))
+  effect-valid I.XorAM r = to-acc (xor-lt 4 _ _ acc (at R1R0))
+  effect-valid I.AndMA r = put R1R0 _ (and-lt 4 _ _ (at R1R0) acc)
+  effect-valid I.OrMA r = put R1R0 _ (or-lt 4 _ _ (at R1R0) acc)
+  effect-valid I.XorMA r = put R1R0 _ (xor-lt 4 _ _ (at R1R0) acc)
+  effect-valid (I.AndAX d) r = to-acc (and-lt 4 _ _ acc (ltb-true d 16 r))
+  effect-valid (I.OrAX d) r = to-acc (or-lt 4 _ _ acc (ltb-true d 16 r))
+  effect-valid (I.XorAX d) r = to-acc (xor-lt 4 _ _ acc (ltb-true d 16 r))
+  effect-valid I.IncA r = to-acc (low _)
+  effect-valid (I.IncR n) r = on (with-register-in (v .cpu) n _ (low _))
+  effect-valid (I.IncM p) r = put p _ (low _)
+  effect-valid I.DecA r = to-acc (low _)
+  effect-valid (I.DecR n) r = on (with-register-in (v .cpu) n _ (low _))
+  effect-valid (I.DecM p) r = put p _ (low _)
+  effect-valid (I.MovAR n) r = to-acc (register-in (v .cpu) n)
+  effect-valid (I.MovRA n) r = on (with-register-in (v .cpu) n _ acc)
+  effect-valid (I.MovAM p) r = to-acc (at p)
+  effect-valid (I.MovMA p) r = put p _ acc
+  effect-valid (I.MovAX d) r = to-acc (ltb-true d 16 r)
+  effect-valid (I.MovPairXX p x y) r = on (pair-in (v .cpu) p x y r)
+  effect-valid (I.MovR4X d) r = on (r4-in (v .cpu) d (ltb-true d 16 r))
+  effect-valid I.RlA r = sum (record { value = low _; carry = odd _ })
+  effect-valid I.RlcA r = sum (record { value = low _; carry = odd _ })
+  effect-valid I.RrA r = sum (record { value = low _; carry = odd _ })
+  effect-valid I.RrcA r = sum (record { value = low _; carry = odd _ })
+  effect-valid (I.InA p) r = to-acc (port-in (v .cpu) p)
+  effect-valid I.OutPaA r = on (pa-in (v .cpu) _ acc)
+  effect-valid (I.Jmp t) r = on (pc-in (v .cpu) t (ltb-true (t .0) 4096 r))
+  effect-valid (I.Branch t k) r = on (branched-in (v .cpu) k t)
+  effect-valid (I.Call t) r = on (called-in (v .cpu) t (ltb-true (t .0) 4096 r) e)
+  effect-valid I.Ret r = on (returned-in (v .cpu) e)
+  effect-valid I.Reti r = on (returned-with-carry-in (v .cpu) e)
+  effect-valid I.Clc r = on (cf-in (v .cpu) 0 (odd 0))
+  effect-valid I.Stc r = on (cf-in (v .cpu) 1 (odd 1))
+  effect-valid I.Ei r = on (enabled-in (v .cpu) 1 (odd 1))
+  effect-valid I.Di r = on (enabled-in (v .cpu) 0 (odd 0))
+  effect-valid I.Nop r = v
+  effect-valid (I.TimerXX x) r = on (count-in (v .cpu) x (ltb-true x 256 r))
+  effect-valid I.TimerOn r = on (running-in (v .cpu) 1 (odd 1))
+  effect-valid I.TimerOff r = on (running-in (v .cpu) 0 (odd 0))
+  effect-valid I.MovATmrl r = to-acc (low _)
+  effect-valid I.MovATmrh r = to-acc (high _ (v .cpu .timer .count))
+  effect-valid I.MovTmrlA r = on (count-in (v .cpu) _ (joined _ _ (high _ (v .cpu .timer .count))))
+  effect-valid I.MovTmrhA r = on (count-in (v .cpu) _ (joined _ _ (low _)))
+  effect-valid (I.ReadR4A p) r = on (r4-in (acc-in (v .cpu) _ (low _)) _ (high _ (b _)))
+  effect-valid (I.ReadMr0A p) r = record { cpu = acc-in (v .cpu) _ (low _); memory = put R1R0 _ (high _ (b _)) .memory }
+  effect-valid (I.SoundN n) r = on (channel-in (v .cpu) n (sound-in n (ltb-true n 16 r)))
+  effect-valid I.SoundA r = on (channel-in (v .cpu) _ (sound-in _ acc))
+  effect-valid I.SoundOne r = on (mode-in (v .cpu) 0 (odd 0))
+  effect-valid I.SoundLoop r = on (mode-in (v .cpu) 1 (odd 1))
+  effect-valid I.SoundOff r = on (channel-in (v .cpu) 16 (omega arith))
+  effect-valid I.Halt r = on (halted-in (v .cpu) f)
 
 -- ---- one step
 module _ {c : Cpu} (v : CpuIn c) where

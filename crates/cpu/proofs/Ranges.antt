@@ -9,10 +9,11 @@ use mathlib.Core.List.{List, [], _∷_}
 use lib.Dec.{ltb, eqb}
 use lib.ListN.{length, getD, set, length-set}
 use borrow.Author.Tests.{ltb-true, lt-ltb, eq-eqb}
+use Rattle.isa.specs.Choice.{pick}
 use Rattle.isa.specs.declared.DataAddress.{DataAddress}
 use Rattle.isa.specs.declared.ProgramAddress.{ProgramAddress}
 use Rattle.isa.proofs.Exact.{and-left, and-right, and-both}
-use Rattle.datapath.specs.Memory.{pickNibble, pickMemory, loaded, stored}
+use Rattle.datapath.specs.Memory.{loaded, stored}
 use Rattle.cpu.specs.State.{State, withRegisters, withControl, withTimer, withInterrupts, withStack, withStatus, withOutputs, withCycles, withAcc, withR0, withR1, withR2, withR3}
 use Rattle.cpu.specs.State.{withR4, withPc, withCf, withTf, withCount, withRunning, withEnabled, withHeld, withLevel, withHalted, withFault, withPa, withChannel, withMode}
 use Rattle.cpu.specs.Range.{nibbles, registersOk, controlOk, timerOk, interruptsOk, stackOk, statusOk, outputsOk, pinsOk, optionsOk, cpuOk, memoryOk, valid}
@@ -355,7 +356,7 @@ module _ (m : List ℕ) (v : memoryOk m ≡ true) where
   unfolding loaded
   loaded-in a = one (ltb (a .0) 0x80) _ _ (at-in (a .0)) (one (ltb (a .0) 0xe0) _ _ (omega arith) (at-in (a .0 - 96)))
     where
-      one : (t : Bool) (x y : ℕ) → x < 16 → y < 16 → pickNibble t x y < 16
+      one : (t : Bool) (x y : ℕ) → x < 16 → y < 16 → pick t x y < 16
       one true x y h k = h
       one false x y h k = k
 
@@ -363,6 +364,6 @@ module _ (m : List ℕ) (v : memoryOk m ≡ true) where
   unfolding stored
   stored-in a x h = one (ltb (a .0) 0x80) _ _ (set-in (a .0) x h) (one (ltb (a .0) 0xe0) _ _ v (set-in (a .0 - 96) x h))
     where
-      one : (t : Bool) (x y : List ℕ) → memoryOk x ≡ true → memoryOk y ≡ true → memoryOk (pickMemory t x y) ≡ true
+      one : (t : Bool) (x y : List ℕ) → memoryOk x ≡ true → memoryOk y ≡ true → memoryOk (pick t x y) ≡ true
       one true x y h k = h
       one false x y h k = k

@@ -8,6 +8,7 @@ use native.Mathlib.Omega.{arith}
 use lib.Dec.{eqb}
 use lib.ListN.{getD}
 use borrow.Author.Tests.{eq-eqb, ne-eqb}
+use Rattle.isa.specs.Choice.{pick}
 use Rattle.rom.specs.Fetching.{byteAt}
 use Rattle.isa.specs.Reading.{Reading, decoded}
 use Rattle.isa.specs.Timing.{entries, lengthOf, cyclesOf}
@@ -20,71 +21,10 @@ use Rattle.isa.specs.declared.Pointer.the-variants.{R1R0, R3R2}
 use Rattle.isa.specs.declared.Condition.{Condition}
 use Rattle.isa.specs.declared.Condition.the-variants.{Ja, JnzR0, JnzR1, JnzR4, Jz, JnzA, Jc, Jnc, Jtmr}
 use Rattle.isa.specs.declared.Instruction.{Instruction}
-use Rattle.isa.specs.declared.Instruction.the-variants.{
-  AddAM,
-  AdcAM,
-  SubAM,
-  SbcAM,
-  AddAX,
-  SubAX,
-  Daa,
-  AndAM,
-  OrAM,
-  XorAM,
-  AndMA,
-  OrMA,
-  XorMA,
-  AndAX,
-  OrAX,
-  XorAX,
-  IncA,
-  IncR,
-  IncM,
-  DecA,
-  DecR,
-  DecM,
-  MovAR,
-  MovRA,
-  MovAM,
-  MovMA,
-  MovAX,
-  MovPairXX,
-  MovR4X,
-  RlA,
-  RlcA,
-  RrA,
-  RrcA,
-  InA,
-  OutPaA,
-  Jmp,
-  Branch,
-  Call,
-  Ret,
-  Reti,
-  Clc,
-  Stc,
-  Ei,
-  Di,
-  Nop,
-  TimerXX,
-  TimerOn,
-  TimerOff,
-  MovATmrl,
-  MovATmrh,
-  MovTmrlA,
-  MovTmrhA,
-  ReadR4A,
-  ReadMr0A,
-  SoundN,
-  SoundA,
-  SoundOne,
-  SoundLoop,
-  SoundOff,
-  Halt,
-}
+use Rattle.isa.specs.declared.Instruction.the-variants as I
 use Rattle.datapath.specs.Timer.{clocks, counted}
 use Rattle.cpu.specs.State.{State, state, onCpu, address, withPc, withCf, withTf, withHeld, withLevel, withStack, withFault, withCycles}
-use Rattle.cpu.specs.Effect.{pick, withRegister, holds, tested, branched, called, returned, returnedWithCarry, effect}
+use Rattle.cpu.specs.Effect.{withRegister, holds, tested, branched, called, returned, returnedWithCarry, effect}
 use Rattle.cpu.specs.Step.{timed, ticked, entered, moved, settled, instructed, executed, vectorOf, stepped, step}
 use Rattle.cpu.specs.declared.Cpu.{Cpu}
 
@@ -142,67 +82,67 @@ module _ (c : Cpu) (z : c .status .fault ≡ 0) where
 only-fault : (mask : List ℕ) (i : Instruction) (s : State) → s .cpu .status .fault ≡ 0 → (effect mask i s .cpu .status .fault ≡ 0 → ⊥)
     → effect mask i s ≡ onCpu (withFault (effect mask i s .cpu .status .fault)) s
 unfolding effect
-only-fault mask AddAM s e f = absurd (f e)
-only-fault mask AdcAM s e f = absurd (f e)
-only-fault mask SubAM s e f = absurd (f e)
-only-fault mask SbcAM s e f = absurd (f e)
-only-fault mask (AddAX d) s e f = absurd (f e)
-only-fault mask (SubAX d) s e f = absurd (f e)
-only-fault mask Daa s e f = absurd (f e)
-only-fault mask AndAM s e f = absurd (f e)
-only-fault mask OrAM s e f = absurd (f e)
-only-fault mask XorAM s e f = absurd (f e)
-only-fault mask AndMA s e f = absurd (f e)
-only-fault mask OrMA s e f = absurd (f e)
-only-fault mask XorMA s e f = absurd (f e)
-only-fault mask (AndAX d) s e f = absurd (f e)
-only-fault mask (OrAX d) s e f = absurd (f e)
-only-fault mask (XorAX d) s e f = absurd (f e)
-only-fault mask IncA s e f = absurd (f e)
-only-fault mask (IncR n) s e f = absurd (f (register-keeps 0 n _ (s .cpu) e))
-only-fault mask (IncM p) s e f = absurd (f e)
-only-fault mask DecA s e f = absurd (f e)
-only-fault mask (DecR n) s e f = absurd (f (register-keeps 0 n _ (s .cpu) e))
-only-fault mask (DecM p) s e f = absurd (f e)
-only-fault mask (MovAR n) s e f = absurd (f e)
-only-fault mask (MovRA n) s e f = absurd (f (register-keeps 0 n _ (s .cpu) e))
-only-fault mask (MovAM p) s e f = absurd (f e)
-only-fault mask (MovMA p) s e f = absurd (f e)
-only-fault mask (MovAX d) s e f = absurd (f e)
-only-fault mask (MovPairXX R1R0 low high) s e f = absurd (f e)
-only-fault mask (MovPairXX R3R2 low high) s e f = absurd (f e)
-only-fault mask (MovR4X d) s e f = absurd (f e)
-only-fault mask RlA s e f = absurd (f e)
-only-fault mask RlcA s e f = absurd (f e)
-only-fault mask RrA s e f = absurd (f e)
-only-fault mask RrcA s e f = absurd (f e)
-only-fault mask (InA p) s e f = absurd (f e)
-only-fault mask OutPaA s e f = absurd (f e)
-only-fault mask (Jmp t) s e f = absurd (f e)
-only-fault mask (Branch t k) s e f = absurd (f (branch-keeps 0 k t (s .cpu) e))
-only-fault mask (Call t) s e f = ap (λ (c : Cpu). state c (s .memory)) (call-only (s .cpu) e t f)
-only-fault mask Ret s e f = ap (λ (c : Cpu). state c (s .memory)) (ret-only (s .cpu) e f)
-only-fault mask Reti s e f = ap (λ (c : Cpu). state c (s .memory)) (reti-only (s .cpu) e f)
-only-fault mask Clc s e f = absurd (f e)
-only-fault mask Stc s e f = absurd (f e)
-only-fault mask Ei s e f = absurd (f e)
-only-fault mask Di s e f = absurd (f e)
-only-fault mask Nop s e f = absurd (f e)
-only-fault mask (TimerXX x) s e f = absurd (f e)
-only-fault mask TimerOn s e f = absurd (f e)
-only-fault mask TimerOff s e f = absurd (f e)
-only-fault mask MovATmrl s e f = absurd (f e)
-only-fault mask MovATmrh s e f = absurd (f e)
-only-fault mask MovTmrlA s e f = absurd (f e)
-only-fault mask MovTmrhA s e f = absurd (f e)
-only-fault mask (ReadR4A p) s e f = absurd (f e)
-only-fault mask (ReadMr0A p) s e f = absurd (f e)
-only-fault mask (SoundN n) s e f = absurd (f e)
-only-fault mask SoundA s e f = absurd (f e)
-only-fault mask SoundOne s e f = absurd (f e)
-only-fault mask SoundLoop s e f = absurd (f e)
-only-fault mask SoundOff s e f = absurd (f e)
-only-fault mask Halt s e f = absurd (f e)
+only-fault mask I.AddAM s e f = absurd (f e)
+only-fault mask I.AdcAM s e f = absurd (f e)
+only-fault mask I.SubAM s e f = absurd (f e)
+only-fault mask I.SbcAM s e f = absurd (f e)
+only-fault mask (I.AddAX d) s e f = absurd (f e)
+only-fault mask (I.SubAX d) s e f = absurd (f e)
+only-fault mask I.Daa s e f = absurd (f e)
+only-fault mask I.AndAM s e f = absurd (f e)
+only-fault mask I.OrAM s e f = absurd (f e)
+only-fault mask I.XorAM s e f = absurd (f e)
+only-fault mask I.AndMA s e f = absurd (f e)
+only-fault mask I.OrMA s e f = absurd (f e)
+only-fault mask I.XorMA s e f = absurd (f e)
+only-fault mask (I.AndAX d) s e f = absurd (f e)
+only-fault mask (I.OrAX d) s e f = absurd (f e)
+only-fault mask (I.XorAX d) s e f = absurd (f e)
+only-fault mask I.IncA s e f = absurd (f e)
+only-fault mask (I.IncR n) s e f = absurd (f (register-keeps 0 n _ (s .cpu) e))
+only-fault mask (I.IncM p) s e f = absurd (f e)
+only-fault mask I.DecA s e f = absurd (f e)
+only-fault mask (I.DecR n) s e f = absurd (f (register-keeps 0 n _ (s .cpu) e))
+only-fault mask (I.DecM p) s e f = absurd (f e)
+only-fault mask (I.MovAR n) s e f = absurd (f e)
+only-fault mask (I.MovRA n) s e f = absurd (f (register-keeps 0 n _ (s .cpu) e))
+only-fault mask (I.MovAM p) s e f = absurd (f e)
+only-fault mask (I.MovMA p) s e f = absurd (f e)
+only-fault mask (I.MovAX d) s e f = absurd (f e)
+only-fault mask (I.MovPairXX R1R0 low high) s e f = absurd (f e)
+only-fault mask (I.MovPairXX R3R2 low high) s e f = absurd (f e)
+only-fault mask (I.MovR4X d) s e f = absurd (f e)
+only-fault mask I.RlA s e f = absurd (f e)
+only-fault mask I.RlcA s e f = absurd (f e)
+only-fault mask I.RrA s e f = absurd (f e)
+only-fault mask I.RrcA s e f = absurd (f e)
+only-fault mask (I.InA p) s e f = absurd (f e)
+only-fault mask I.OutPaA s e f = absurd (f e)
+only-fault mask (I.Jmp t) s e f = absurd (f e)
+only-fault mask (I.Branch t k) s e f = absurd (f (branch-keeps 0 k t (s .cpu) e))
+only-fault mask (I.Call t) s e f = ap (λ (c : Cpu). state c (s .memory)) (call-only (s .cpu) e t f)
+only-fault mask I.Ret s e f = ap (λ (c : Cpu). state c (s .memory)) (ret-only (s .cpu) e f)
+only-fault mask I.Reti s e f = ap (λ (c : Cpu). state c (s .memory)) (reti-only (s .cpu) e f)
+only-fault mask I.Clc s e f = absurd (f e)
+only-fault mask I.Stc s e f = absurd (f e)
+only-fault mask I.Ei s e f = absurd (f e)
+only-fault mask I.Di s e f = absurd (f e)
+only-fault mask I.Nop s e f = absurd (f e)
+only-fault mask (I.TimerXX x) s e f = absurd (f e)
+only-fault mask I.TimerOn s e f = absurd (f e)
+only-fault mask I.TimerOff s e f = absurd (f e)
+only-fault mask I.MovATmrl s e f = absurd (f e)
+only-fault mask I.MovATmrh s e f = absurd (f e)
+only-fault mask I.MovTmrlA s e f = absurd (f e)
+only-fault mask I.MovTmrhA s e f = absurd (f e)
+only-fault mask (I.ReadR4A p) s e f = absurd (f e)
+only-fault mask (I.ReadMr0A p) s e f = absurd (f e)
+only-fault mask (I.SoundN n) s e f = absurd (f e)
+only-fault mask I.SoundA s e f = absurd (f e)
+only-fault mask I.SoundOne s e f = absurd (f e)
+only-fault mask I.SoundLoop s e f = absurd (f e)
+only-fault mask I.SoundOff s e f = absurd (f e)
+only-fault mask I.Halt s e f = absurd (f e)
 
 -- a fault: the processor with its PC back is the one before, with the fault set
 pub faulted : (mask : List ℕ) (i : Instruction) (s t : State) (l n : ℕ) → t ≡ effect mask i (onCpu (moved l) s) → s .cpu .status .fault ≡ 0 → (t .cpu .status .fault ≡ 0 → ⊥)

@@ -5,11 +5,12 @@ use mathlib.Core.Bool.{Bool, true, false, not}
 use mathlib.Core.List.{List}
 use lib.Dec.{eqb}
 use lib.Bits.{bitAnd, bitOr, bitXor}
-use Rattle.rom.specs.Fetching.{byteAt}
+use Rattle.isa.specs.Choice.{pick}
+use Rattle.rom.specs.Fetching.{byteAt, branchTo}
 use Rattle.datapath.specs.Alu.{summed, subtracted, adjusted, rotatedLeft, rotatedLeftThrough, rotatedRight, rotatedRightThrough, incremented, decremented, bitSet, notZero}
 use Rattle.datapath.specs.Memory.{pointed, loaded, stored}
 use Rattle.datapath.specs.declared.alu.Sum.{Sum}
-use Rattle.cpu.specs.State.{State, state, onCpu, withAcc, withR0, withR1, withR2, withR3, withR4, withPc, withCf, withTf, withCount, withRunning, withEnabled, withLevel, withStack, withHalted, withFault, withPa, withChannel, withMode}
+use Rattle.cpu.specs.State.{State, state, onCpu, address, withAcc, withR0, withR1, withR2, withR3, withR4, withPc, withCf, withTf, withCount, withRunning, withEnabled, withLevel, withStack, withHalted, withFault, withPa, withChannel, withMode}
 use Rattle.cpu.specs.declared.Cpu.{Cpu}
 use Rattle.isa.specs.declared.DataAddress.{DataAddress}
 use Rattle.isa.specs.declared.ProgramAddress.{ProgramAddress}
@@ -22,72 +23,7 @@ use Rattle.isa.specs.declared.Page.the-variants.{Current, F}
 use Rattle.isa.specs.declared.Condition.{Condition}
 use Rattle.isa.specs.declared.Condition.the-variants.{Ja, JnzR0, JnzR1, JnzR4, Jz, JnzA, Jc, Jnc, Jtmr}
 use Rattle.isa.specs.declared.Instruction.{Instruction}
-use Rattle.isa.specs.declared.Instruction.the-variants.{
-  AddAM,
-  AdcAM,
-  SubAM,
-  SbcAM,
-  AddAX,
-  SubAX,
-  Daa,
-  AndAM,
-  OrAM,
-  XorAM,
-  AndMA,
-  OrMA,
-  XorMA,
-  AndAX,
-  OrAX,
-  XorAX,
-  IncA,
-  IncR,
-  IncM,
-  DecA,
-  DecR,
-  DecM,
-  MovAR,
-  MovRA,
-  MovAM,
-  MovMA,
-  MovAX,
-  MovPairXX,
-  MovR4X,
-  RlA,
-  RlcA,
-  RrA,
-  RrcA,
-  InA,
-  OutPaA,
-  Jmp,
-  Branch,
-  Call,
-  Ret,
-  Reti,
-  Clc,
-  Stc,
-  Ei,
-  Di,
-  Nop,
-  TimerXX,
-  TimerOn,
-  TimerOff,
-  MovATmrl,
-  MovATmrh,
-  MovTmrlA,
-  MovTmrhA,
-  ReadR4A,
-  ReadMr0A,
-  SoundN,
-  SoundA,
-  SoundOne,
-  SoundLoop,
-  SoundOff,
-  Halt,
-}
-
-abbrev pub pick : {A : Type 0} → Bool → A → A → A
-pick true x y = x
-pick false x y = y
+use Rattle.isa.specs.declared.Instruction.the-variants as I
 
 -- the address in a register pair: "M(R1,R0) is the nibble at 16 times R1 + R0, likewise M(R3,R2)"
 abbrev pub placeOf : Pointer → Cpu → DataAddress
@@ -145,12 +81,9 @@ tested Jc c = c
 tested Jnc c = c
 tested Jtmr c = withTf 0 c
 
--- "A conditional branch keeps bit 11 of that moved PC": bits 0 to 10 are the target's
-abbrev pub branchTarget : ProgramAddress → ProgramAddress → ProgramAddress
-branchTarget pc t = record { 0 = pc .0 / 2048 * 2048 + t .0 % 2048 }
-
+-- "A conditional branch keeps bit 11 of that moved PC"
 unfoldable pub branched : Condition → ProgramAddress → Cpu → Cpu
-branched k t c = pick (holds k c) (withPc (branchTarget (c .control .pc) t) (tested k c)) (tested k c)
+branched k t c = pick (holds k c) (withPc (address (branchTo (c .control .pc .0) t)) (tested k c)) (tested k c)
 
 -- "CALL in level 0 stores the moved PC (the stack carry stays) and enters level 1; in level 1 or 2 it is fault 2"
 unfoldable pub called : ProgramAddress → Cpu → Cpu
@@ -180,63 +113,63 @@ abbrev pub tableMr0 : List ℕ → Page → State → ℕ
 tableMr0 mask p s = byteAt mask (pageOf p (s .cpu) * 256 + 16 * s .cpu .registers .acc + s .cpu .registers .r4)
 
 unfoldable pub effect : List ℕ → Instruction → State → State
-effect mask AddAM s = onCpu (taking (summed (s .cpu .registers .acc) (nibbleAt R1R0 s) 0)) s
-effect mask AdcAM s = onCpu (taking (summed (s .cpu .registers .acc) (nibbleAt R1R0 s) (s .cpu .control .cf))) s
-effect mask SubAM s = onCpu (taking (subtracted (s .cpu .registers .acc) (nibbleAt R1R0 s) 1)) s
-effect mask SbcAM s = onCpu (taking (subtracted (s .cpu .registers .acc) (nibbleAt R1R0 s) (s .cpu .control .cf))) s
-effect mask (AddAX d) s = onCpu (taking (summed (s .cpu .registers .acc) d 0)) s
-effect mask (SubAX d) s = onCpu (taking (subtracted (s .cpu .registers .acc) d 1)) s
-effect mask Daa s = onCpu (taking (adjusted (s .cpu .registers .acc) (s .cpu .control .cf))) s
-effect mask AndAM s = onCpu (withAcc (bitAnd (s .cpu .registers .acc) (nibbleAt R1R0 s))) s
-effect mask OrAM s = onCpu (withAcc (bitOr (s .cpu .registers .acc) (nibbleAt R1R0 s))) s
-effect mask XorAM s = onCpu (withAcc (bitXor (s .cpu .registers .acc) (nibbleAt R1R0 s))) s
-effect mask AndMA s = withNibble R1R0 (bitAnd (nibbleAt R1R0 s) (s .cpu .registers .acc)) s
-effect mask OrMA s = withNibble R1R0 (bitOr (nibbleAt R1R0 s) (s .cpu .registers .acc)) s
-effect mask XorMA s = withNibble R1R0 (bitXor (nibbleAt R1R0 s) (s .cpu .registers .acc)) s
-effect mask (AndAX d) s = onCpu (withAcc (bitAnd (s .cpu .registers .acc) d)) s
-effect mask (OrAX d) s = onCpu (withAcc (bitOr (s .cpu .registers .acc) d)) s
-effect mask (XorAX d) s = onCpu (withAcc (bitXor (s .cpu .registers .acc) d)) s
-effect mask IncA s = onCpu (withAcc (incremented (s .cpu .registers .acc))) s
-effect mask (IncR n) s = onCpu (withRegister n (incremented (registerOf n (s .cpu)))) s
-effect mask (IncM p) s = withNibble p (incremented (nibbleAt p s)) s
-effect mask DecA s = onCpu (withAcc (decremented (s .cpu .registers .acc))) s
-effect mask (DecR n) s = onCpu (withRegister n (decremented (registerOf n (s .cpu)))) s
-effect mask (DecM p) s = withNibble p (decremented (nibbleAt p s)) s
-effect mask (MovAR n) s = onCpu (withAcc (registerOf n (s .cpu))) s
-effect mask (MovRA n) s = onCpu (withRegister n (s .cpu .registers .acc)) s
-effect mask (MovAM p) s = onCpu (withAcc (nibbleAt p s)) s
-effect mask (MovMA p) s = withNibble p (s .cpu .registers .acc) s
-effect mask (MovAX d) s = onCpu (withAcc d) s
-effect mask (MovPairXX p low high) s = onCpu (withPair p low high) s
-effect mask (MovR4X d) s = onCpu (withR4 d) s
-effect mask RlA s = onCpu (taking (rotatedLeft (s .cpu .registers .acc))) s
-effect mask RlcA s = onCpu (taking (rotatedLeftThrough (s .cpu .registers .acc) (s .cpu .control .cf))) s
-effect mask RrA s = onCpu (taking (rotatedRight (s .cpu .registers .acc))) s
-effect mask RrcA s = onCpu (taking (rotatedRightThrough (s .cpu .registers .acc) (s .cpu .control .cf))) s
-effect mask (InA p) s = onCpu (withAcc (portOf p (s .cpu))) s
-effect mask OutPaA s = onCpu (withPa (s .cpu .registers .acc)) s
-effect mask (Jmp t) s = onCpu (withPc t) s
-effect mask (Branch t k) s = onCpu (branched k t) s
-effect mask (Call t) s = onCpu (called t) s
-effect mask Ret s = onCpu returned s
-effect mask Reti s = onCpu returnedWithCarry s
-effect mask Clc s = onCpu (withCf 0) s
-effect mask Stc s = onCpu (withCf 1) s
-effect mask Ei s = onCpu (withEnabled 1) s
-effect mask Di s = onCpu (withEnabled 0) s
-effect mask Nop s = s
-effect mask (TimerXX x) s = onCpu (withCount x) s
-effect mask TimerOn s = onCpu (withRunning 1) s
-effect mask TimerOff s = onCpu (withRunning 0) s
-effect mask MovATmrl s = onCpu (withAcc (s .cpu .timer .count % 16)) s
-effect mask MovATmrh s = onCpu (withAcc (s .cpu .timer .count / 16)) s
-effect mask MovTmrlA s = onCpu (withCount (s .cpu .timer .count / 16 * 16 + s .cpu .registers .acc % 16)) s
-effect mask MovTmrhA s = onCpu (withCount (s .cpu .registers .acc % 16 * 16 + s .cpu .timer .count % 16)) s
-effect mask (ReadR4A p) s = onCpu (λ (c : Cpu). withR4 (tableR4 mask p s / 16) (withAcc (tableR4 mask p s % 16) c)) s
-effect mask (ReadMr0A p) s = onCpu (withAcc (tableMr0 mask p s % 16)) (withNibble R1R0 (tableMr0 mask p s / 16) s)
-effect mask (SoundN n) s = onCpu (withChannel n) s
-effect mask SoundA s = onCpu (withChannel (s .cpu .registers .acc)) s
-effect mask SoundOne s = onCpu (withMode 0) s
-effect mask SoundLoop s = onCpu (withMode 1) s
-effect mask SoundOff s = onCpu (withChannel 16) s
-effect mask Halt s = onCpu (withHalted 1) s
+effect mask I.AddAM s = onCpu (taking (summed (s .cpu .registers .acc) (nibbleAt R1R0 s) 0)) s
+effect mask I.AdcAM s = onCpu (taking (summed (s .cpu .registers .acc) (nibbleAt R1R0 s) (s .cpu .control .cf))) s
+effect mask I.SubAM s = onCpu (taking (subtracted (s .cpu .registers .acc) (nibbleAt R1R0 s) 1)) s
+effect mask I.SbcAM s = onCpu (taking (subtracted (s .cpu .registers .acc) (nibbleAt R1R0 s) (s .cpu .control .cf))) s
+effect mask (I.AddAX d) s = onCpu (taking (summed (s .cpu .registers .acc) d 0)) s
+effect mask (I.SubAX d) s = onCpu (taking (subtracted (s .cpu .registers .acc) d 1)) s
+effect mask I.Daa s = onCpu (taking (adjusted (s .cpu .registers .acc) (s .cpu .control .cf))) s
+effect mask I.AndAM s = onCpu (withAcc (bitAnd (s .cpu .registers .acc) (nibbleAt R1R0 s))) s
+effect mask I.OrAM s = onCpu (withAcc (bitOr (s .cpu .registers .acc) (nibbleAt R1R0 s))) s
+effect mask I.XorAM s = onCpu (withAcc (bitXor (s .cpu .registers .acc) (nibbleAt R1R0 s))) s
+effect mask I.AndMA s = withNibble R1R0 (bitAnd (nibbleAt R1R0 s) (s .cpu .registers .acc)) s
+effect mask I.OrMA s = withNibble R1R0 (bitOr (nibbleAt R1R0 s) (s .cpu .registers .acc)) s
+effect mask I.XorMA s = withNibble R1R0 (bitXor (nibbleAt R1R0 s) (s .cpu .registers .acc)) s
+effect mask (I.AndAX d) s = onCpu (withAcc (bitAnd (s .cpu .registers .acc) d)) s
+effect mask (I.OrAX d) s = onCpu (withAcc (bitOr (s .cpu .registers .acc) d)) s
+effect mask (I.XorAX d) s = onCpu (withAcc (bitXor (s .cpu .registers .acc) d)) s
+effect mask I.IncA s = onCpu (withAcc (incremented (s .cpu .registers .acc))) s
+effect mask (I.IncR n) s = onCpu (withRegister n (incremented (registerOf n (s .cpu)))) s
+effect mask (I.IncM p) s = withNibble p (incremented (nibbleAt p s)) s
+effect mask I.DecA s = onCpu (withAcc (decremented (s .cpu .registers .acc))) s
+effect mask (I.DecR n) s = onCpu (withRegister n (decremented (registerOf n (s .cpu)))) s
+effect mask (I.DecM p) s = withNibble p (decremented (nibbleAt p s)) s
+effect mask (I.MovAR n) s = onCpu (withAcc (registerOf n (s .cpu))) s
+effect mask (I.MovRA n) s = onCpu (withRegister n (s .cpu .registers .acc)) s
+effect mask (I.MovAM p) s = onCpu (withAcc (nibbleAt p s)) s
+effect mask (I.MovMA p) s = withNibble p (s .cpu .registers .acc) s
+effect mask (I.MovAX d) s = onCpu (withAcc d) s
+effect mask (I.MovPairXX p low high) s = onCpu (withPair p low high) s
+effect mask (I.MovR4X d) s = onCpu (withR4 d) s
+effect mask I.RlA s = onCpu (taking (rotatedLeft (s .cpu .registers .acc))) s
+effect mask I.RlcA s = onCpu (taking (rotatedLeftThrough (s .cpu .registers .acc) (s .cpu .control .cf))) s
+effect mask I.RrA s = onCpu (taking (rotatedRight (s .cpu .registers .acc))) s
+effect mask I.RrcA s = onCpu (taking (rotatedRightThrough (s .cpu .registers .acc) (s .cpu .control .cf))) s
+effect mask (I.InA p) s = onCpu (withAcc (portOf p (s .cpu))) s
+effect mask I.OutPaA s = onCpu (withPa (s .cpu .registers .acc)) s
+effect mask (I.Jmp t) s = onCpu (withPc t) s
+effect mask (I.Branch t k) s = onCpu (branched k t) s
+effect mask (I.Call t) s = onCpu (called t) s
+effect mask I.Ret s = onCpu returned s
+effect mask I.Reti s = onCpu returnedWithCarry s
+effect mask I.Clc s = onCpu (withCf 0) s
+effect mask I.Stc s = onCpu (withCf 1) s
+effect mask I.Ei s = onCpu (withEnabled 1) s
+effect mask I.Di s = onCpu (withEnabled 0) s
+effect mask I.Nop s = s
+effect mask (I.TimerXX x) s = onCpu (withCount x) s
+effect mask I.TimerOn s = onCpu (withRunning 1) s
+effect mask I.TimerOff s = onCpu (withRunning 0) s
+effect mask I.MovATmrl s = onCpu (withAcc (s .cpu .timer .count % 16)) s
+effect mask I.MovATmrh s = onCpu (withAcc (s .cpu .timer .count / 16)) s
+effect mask I.MovTmrlA s = onCpu (withCount (s .cpu .timer .count / 16 * 16 + s .cpu .registers .acc % 16)) s
+effect mask I.MovTmrhA s = onCpu (withCount (s .cpu .registers .acc % 16 * 16 + s .cpu .timer .count % 16)) s
+effect mask (I.ReadR4A p) s = onCpu (λ (c : Cpu). withR4 (tableR4 mask p s / 16) (withAcc (tableR4 mask p s % 16) c)) s
+effect mask (I.ReadMr0A p) s = onCpu (withAcc (tableMr0 mask p s % 16)) (withNibble R1R0 (tableMr0 mask p s / 16) s)
+effect mask (I.SoundN n) s = onCpu (withChannel n) s
+effect mask I.SoundA s = onCpu (withChannel (s .cpu .registers .acc)) s
+effect mask I.SoundOne s = onCpu (withMode 0) s
+effect mask I.SoundLoop s = onCpu (withMode 1) s
+effect mask I.SoundOff s = onCpu (withChannel 16) s
+effect mask I.Halt s = onCpu (withHalted 1) s

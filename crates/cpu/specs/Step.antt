@@ -3,16 +3,15 @@ use Prim.Native.Nat.{ℕ, _+_, _%_, _^_}
 use mathlib.Core.Bool.{Bool, not, _&&_}
 use mathlib.Core.List.{List}
 use lib.Dec.{eqb}
-use Rattle.rom.specs.Fetching.{byteAt}
-use Rattle.isa.specs.Reading.{decoded}
-use Rattle.isa.specs.Timing.{lengthOf, cyclesOf}
+use Rattle.isa.specs.Choice.{pick}
+use Rattle.rom.specs.Fetching.{readAt, lengthAt, cyclesAt, movedBy}
 use Rattle.isa.specs.declared.Instruction.{Instruction}
 use Rattle.isa.specs.declared.decoder.Decoded.{Decoded}
 use Rattle.isa.specs.declared.decoder.Decoded.the-variants.{Read, Unreadable}
 use Rattle.datapath.specs.Timer.{clocks, counted}
 use Rattle.datapath.specs.declared.timer.Count.{Count}
 use Rattle.cpu.specs.State.{State, state, onCpu, address, withPc, withTf, withCount, withHeld, withLevel, withStack, withFault, withCycles}
-use Rattle.cpu.specs.Effect.{pick, effect}
+use Rattle.cpu.specs.Effect.{effect}
 use Rattle.cpu.specs.declared.Cpu.{Cpu}
 
 -- the timer's new count in the processor: "passing 255 to 0 sets TF"
@@ -32,7 +31,7 @@ entered vector c =
 
 -- "PC moves on by the length, modulo 4,096, before the effect"
 abbrev pub moved : ℕ → Cpu → Cpu
-moved n c = withPc (address ((c .control .pc .0 + n) % 4096)) c
+moved length c = withPc (address (movedBy length (c .control .pc .0))) c
 
 -- "A fault leaves the machine as before that instruction, with the fault set", and no cycles are spent
 abbrev pub settled : ℕ → State → State → State
@@ -48,8 +47,7 @@ instructed mask Unreadable length cycles s = onCpu (withFault 1) s
 unfoldable pub executed : List ℕ → State → State
 executed mask s =
     let pc : ℕ = s .cpu .control .pc .0 in
-    let first : ℕ = byteAt mask pc in
-    instructed mask (decoded first (byteAt mask (pc + 1))) (lengthOf first) (cyclesOf first) s
+    instructed mask (readAt mask pc) (lengthAt mask pc) (cyclesAt mask pc) s
 
 -- the vector of the interrupt that a step takes, 0 for none: "in level 0 with the enable flag on, a held edge is taken (PC 8, held
 -- edge cleared), or else TF (PC 4, TF cleared)"

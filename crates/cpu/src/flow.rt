@@ -1,7 +1,7 @@
 // Branches, subroutines and table reads.
 ghost use mathlib.Core.Path.{_≡_};
 ghost use Prim.Native.Nat.{_<_};
-ghost use Rattle.cpu.specs.Effect.{branchTarget, branched, called, holds, pageOf, returned, returnedWithCarry, tableMr0, tableR4, tested};
+ghost use Rattle.cpu.specs.Effect.{branched, called, holds, pageOf, returned, returnedWithCarry, tableMr0, tableR4, tested};
 ghost use Rattle.cpu.specs.State.{state};
 use crate::Cpu;
 use datapath::alu::bit_set;

@@ -2,6 +2,7 @@
 use Prim.Native.Nat.{ℕ, _+_, _-_, _*_, _/_, _%_, _^_}
 use mathlib.Core.Bool.{Bool, true, false, not, _||_}
 use lib.Dec.{ltb, eqb}
+use Rattle.isa.specs.Choice.{pick}
 use Rattle.datapath.specs.declared.alu.Sum.{Sum}
 
 -- a test as a flag of the machine
@@ -17,13 +18,9 @@ summed a b c = record { value = (a + b + c) % 16; carry = flag (ltb 15 (a + b + 
 abbrev pub subtracted : ℕ → ℕ → ℕ → Sum
 subtracted a b c = summed a (15 - b) c
 
-abbrev pub pickSum : Bool → Sum → Sum → Sum
-pickSum true x y = x
-pickSum false x y = y
-
 -- "DAA: if ACC is over 9 or CF is 1, ACC + 6 and CF 1; else nothing"
 abbrev pub adjusted : ℕ → ℕ → Sum
-adjusted a c = pickSum (ltb 9 a || eqb c 1) (record { value = (a + 6) % 16; carry = 1 }) (record { value = a; carry = c })
+adjusted a c = pick (ltb 9 a || eqb c 1) (record { value = (a + 6) % 16; carry = 1 }) (record { value = a; carry = c })
 
 -- "RL and RR copy the bit that goes round into CF; RLC and RRC go through CF"
 abbrev pub rotatedLeft : ℕ → Sum

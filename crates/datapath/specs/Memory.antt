@@ -5,24 +5,17 @@ use mathlib.Core.Bool.{Bool, true, false}
 use mathlib.Core.List.{List}
 use lib.Dec.{ltb}
 use lib.ListN.{getD, set}
+use Rattle.isa.specs.Choice.{pick}
 use Rattle.isa.specs.declared.DataAddress.{DataAddress}
 
 -- the address that a register pair names: 255 is the last
 abbrev pub pointed : ℕ → ℕ → DataAddress
 pointed high low = record { 0 = (16 * high + low) % 256 }
 
-abbrev pub pickNibble : Bool → ℕ → ℕ → ℕ
-pickNibble true x y = x
-pickNibble false x y = y
-
-abbrev pub pickMemory : Bool → List ℕ → List ℕ → List ℕ
-pickMemory true x y = x
-pickMemory false x y = y
-
 -- the nibble at an address: E0h stands at place 128
 unfoldable pub loaded : List ℕ → DataAddress → ℕ
-loaded m a = pickNibble (ltb (a .0) 0x80) (getD m (a .0) 0) (pickNibble (ltb (a .0) 0xe0) 0 (getD m (a .0 - 96) 0))
+loaded m a = pick (ltb (a .0) 0x80) (getD m (a .0) 0) (pick (ltb (a .0) 0xe0) 0 (getD m (a .0 - 96) 0))
 
 -- the memory with a nibble written
 unfoldable pub stored : List ℕ → DataAddress → ℕ → List ℕ
-stored m a v = pickMemory (ltb (a .0) 0x80) (set m (a .0) v) (pickMemory (ltb (a .0) 0xe0) m (set m (a .0 - 96) v))
+stored m a v = pick (ltb (a .0) 0x80) (set m (a .0) v) (pick (ltb (a .0) 0xe0) m (set m (a .0 - 96) v))

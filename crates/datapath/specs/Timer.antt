@@ -4,13 +4,13 @@
 use Prim.Native.Nat.{ℕ, _+_, _-_, _*_, _/_, _%_, _^_}
 use mathlib.Core.Bool.{Bool, true, false}
 use lib.Dec.{ltb}
+use Rattle.isa.specs.Choice.{pick}
 use Rattle.datapath.specs.Alu.{flag}
-use Rattle.datapath.specs.Memory.{pickNibble}
 use Rattle.datapath.specs.declared.timer.Count.{Count}
 
 -- the clocks of the timer in c cycles after the given cycle count
 abbrev pub clocks : ℕ → ℕ → ℕ → ℕ
-clocks rate cycles c = pickNibble (ltb rate 14) ((4 * cycles % 8192 + 4 * c) / 2 ^ rate - 4 * cycles % 8192 / 2 ^ rate) 0
+clocks rate cycles c = pick (ltb rate 14) ((4 * cycles % 8192 + 4 * c) / 2 ^ rate - 4 * cycles % 8192 / 2 ^ rate) 0
 
 -- the count n clocks on, and whether it passed 255
 abbrev pub counted : ℕ → ℕ → Count

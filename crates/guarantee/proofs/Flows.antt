@@ -8,80 +8,21 @@ use mathlib.Core.Logic.{_⊎_, inl, inr}
 use native.Mathlib.Omega.{arith}
 use lib.Dec.{eqb}
 use borrow.Author.Tests.{eq-eqb, ne-eqb}
+use Rattle.isa.specs.Choice.{pick}
 use Rattle.isa.specs.declared.ProgramAddress.{ProgramAddress}
 use Rattle.isa.specs.declared.Pointer.the-variants.{R1R0, R3R2}
 use Rattle.isa.specs.declared.Condition.{Condition}
 use Rattle.isa.specs.declared.Condition.the-variants.{Ja, JnzR0, JnzR1, JnzR4, Jz, JnzA, Jc, Jnc, Jtmr}
 use Rattle.isa.specs.declared.Instruction.{Instruction}
-use Rattle.isa.specs.declared.Instruction.the-variants.{
-  AddAM,
-  AdcAM,
-  SubAM,
-  SbcAM,
-  AddAX,
-  SubAX,
-  Daa,
-  AndAM,
-  OrAM,
-  XorAM,
-  AndMA,
-  OrMA,
-  XorMA,
-  AndAX,
-  OrAX,
-  XorAX,
-  IncA,
-  IncR,
-  IncM,
-  DecA,
-  DecR,
-  DecM,
-  MovAR,
-  MovRA,
-  MovAM,
-  MovMA,
-  MovAX,
-  MovPairXX,
-  MovR4X,
-  RlA,
-  RlcA,
-  RrA,
-  RrcA,
-  InA,
-  OutPaA,
-  Jmp,
-  Branch,
-  Call,
-  Ret,
-  Reti,
-  Clc,
-  Stc,
-  Ei,
-  Di,
-  Nop,
-  TimerXX,
-  TimerOn,
-  TimerOff,
-  MovATmrl,
-  MovATmrh,
-  MovTmrlA,
-  MovTmrhA,
-  ReadR4A,
-  ReadMr0A,
-  SoundN,
-  SoundA,
-  SoundOne,
-  SoundLoop,
-  SoundOff,
-  Halt,
-}
+use Rattle.isa.specs.declared.Instruction.the-variants as I
 use Rattle.cpu.specs.declared.Cpu.{Cpu}
-use Rattle.cpu.specs.State.{State, state, withR0, withR1, withR2, withR3, withR4, withPc, withTf}
-use Rattle.cpu.specs.Effect.{pick, effect, withRegister, holds, tested, branchTarget, branched, called, returned, returnedWithCarry}
+use Rattle.cpu.specs.State.{State, state, address, withR0, withR1, withR2, withR3, withR4, withPc, withTf}
+use Rattle.cpu.specs.Effect.{effect, withRegister, holds, tested, branched, called, returned, returnedWithCarry}
 use Rattle.datapath.specs.Timer.{clocks, counted}
 use Rattle.datapath.specs.declared.timer.Count.{Count}
 use Rattle.cpu.specs.Step.{timed, ticked}
-use Rattle.checker.specs.Marks.{flowOf, branchTo}
+use Rattle.checker.specs.Marks.{flowOf}
+use Rattle.rom.specs.Fetching.{branchTo}
 use Rattle.checker.specs.declared.flow.Flow.{Flow}
 use Rattle.checker.specs.declared.flow.Flow.the-variants.{On, Enable, Jump, To, Sub, Back}
 
@@ -160,7 +101,7 @@ tested-same Jc c = same c
 tested-same Jnc c = same c
 tested-same Jtmr c = record { pc = refl; level = refl; stack = refl; enabled = refl; fault = refl }
 
-taken : (b : Bool) (c d : Cpu) (t : ProgramAddress) → Same c d → Follows (To t) c (pick b (withPc (branchTarget (c .control .pc) t) d) d)
+taken : (b : Bool) (c d : Cpu) (t : ProgramAddress) → Same c d → Follows (To t) c (pick b (withPc (address (branchTo (c .control .pc .0) t)) d) d)
 taken true c d t s = (record { level = s .level; stack = s .stack; fault = s .fault }, inr refl, λ e. sym (s .enabled) ∙ e)
 taken false c d t s = (record { level = s .level; stack = s .stack; fault = s .fault }, inl (s .pc), λ e. sym (s .enabled) ∙ e)
 
@@ -181,67 +122,67 @@ unknown P true x y e p = absurd (omega (arith, zero-one e))
 
 pub follows : (mask : List ℕ) (i : Instruction) (s : State) → Follows (flowOf i) (s .cpu) (effect mask i s .cpu)
 unfolding flowOf effect branched called returned returnedWithCarry
-follows mask AddAM s = (record { level = refl; stack = refl; fault = refl }, refl, λ e. e)
-follows mask AdcAM s = (record { level = refl; stack = refl; fault = refl }, refl, λ e. e)
-follows mask SubAM s = (record { level = refl; stack = refl; fault = refl }, refl, λ e. e)
-follows mask SbcAM s = (record { level = refl; stack = refl; fault = refl }, refl, λ e. e)
-follows mask (AddAX d) s = (record { level = refl; stack = refl; fault = refl }, refl, λ e. e)
-follows mask (SubAX d) s = (record { level = refl; stack = refl; fault = refl }, refl, λ e. e)
-follows mask Daa s = (record { level = refl; stack = refl; fault = refl }, refl, λ e. e)
-follows mask AndAM s = (record { level = refl; stack = refl; fault = refl }, refl, λ e. e)
-follows mask OrAM s = (record { level = refl; stack = refl; fault = refl }, refl, λ e. e)
-follows mask XorAM s = (record { level = refl; stack = refl; fault = refl }, refl, λ e. e)
-follows mask AndMA s = on (same (s .cpu))
-follows mask OrMA s = on (same (s .cpu))
-follows mask XorMA s = on (same (s .cpu))
-follows mask (AndAX d) s = (record { level = refl; stack = refl; fault = refl }, refl, λ e. e)
-follows mask (OrAX d) s = (record { level = refl; stack = refl; fault = refl }, refl, λ e. e)
-follows mask (XorAX d) s = (record { level = refl; stack = refl; fault = refl }, refl, λ e. e)
-follows mask IncA s = (record { level = refl; stack = refl; fault = refl }, refl, λ e. e)
-follows mask (IncR n) s = on (register-same n _ (s .cpu))
-follows mask (IncM p) s = on (same (s .cpu))
-follows mask DecA s = (record { level = refl; stack = refl; fault = refl }, refl, λ e. e)
-follows mask (DecR n) s = on (register-same n _ (s .cpu))
-follows mask (DecM p) s = on (same (s .cpu))
-follows mask (MovAR n) s = (record { level = refl; stack = refl; fault = refl }, refl, λ e. e)
-follows mask (MovRA n) s = on (register-same n _ (s .cpu))
-follows mask (MovAM p) s = (record { level = refl; stack = refl; fault = refl }, refl, λ e. e)
-follows mask (MovMA p) s = on (same (s .cpu))
-follows mask (MovAX d) s = (record { level = refl; stack = refl; fault = refl }, refl, λ e. e)
-follows mask (MovPairXX R1R0 low high) s = (record { level = refl; stack = refl; fault = refl }, refl, λ e. e)
-follows mask (MovPairXX R3R2 low high) s = (record { level = refl; stack = refl; fault = refl }, refl, λ e. e)
-follows mask (MovR4X d) s = (record { level = refl; stack = refl; fault = refl }, refl, λ e. e)
-follows mask RlA s = (record { level = refl; stack = refl; fault = refl }, refl, λ e. e)
-follows mask RlcA s = (record { level = refl; stack = refl; fault = refl }, refl, λ e. e)
-follows mask RrA s = (record { level = refl; stack = refl; fault = refl }, refl, λ e. e)
-follows mask RrcA s = (record { level = refl; stack = refl; fault = refl }, refl, λ e. e)
-follows mask (InA p) s = (record { level = refl; stack = refl; fault = refl }, refl, λ e. e)
-follows mask OutPaA s = (record { level = refl; stack = refl; fault = refl }, refl, λ e. e)
-follows mask (Jmp t) s = (record { level = refl; stack = refl; fault = refl }, refl, λ e. e)
-follows mask (Branch t k) s = taken (holds k (s .cpu)) (s .cpu) (tested k (s .cpu)) t (tested-same k (s .cpu))
-follows mask (Call t) s = λ e. known (λ (d : Cpu). (pcOf d ≡ t .0) × (levelOf d ≡ 1) × (stackOf d ≡ pcOf (s .cpu)) × (faultOf d ≡ faultOf (s .cpu)) × Quiet (s .cpu) d) (eqb (levelOf (s .cpu)) 0) _ _ (eq-eqb (levelOf (s .cpu)) 0 e) (refl, refl, refl, refl, λ h. h)
-follows mask Ret s = λ e. unknown (λ (d : Cpu). (pcOf d ≡ stackOf (s .cpu)) × (levelOf d ≡ 0) × (faultOf d ≡ faultOf (s .cpu)) × Quiet (s .cpu) d) (eqb (levelOf (s .cpu)) 0) _ _ (ne-eqb (levelOf (s .cpu)) 0 e) (refl, refl, refl, λ h. h)
-follows mask Reti s = λ e. unknown (λ (d : Cpu). (pcOf d ≡ stackOf (s .cpu)) × (levelOf d ≡ 0) × (faultOf d ≡ faultOf (s .cpu)) × Quiet (s .cpu) d) (eqb (levelOf (s .cpu)) 0) _ _ (ne-eqb (levelOf (s .cpu)) 0 e) (refl, refl, refl, λ h. h)
-follows mask Clc s = (record { level = refl; stack = refl; fault = refl }, refl, λ e. e)
-follows mask Stc s = (record { level = refl; stack = refl; fault = refl }, refl, λ e. e)
-follows mask Ei s = (record { level = refl; stack = refl; fault = refl }, refl)
-follows mask Di s = (record { level = refl; stack = refl; fault = refl }, refl, λ e. absurd (omega arith))
-follows mask Nop s = on (same (s .cpu))
-follows mask (TimerXX x) s = (record { level = refl; stack = refl; fault = refl }, refl, λ e. e)
-follows mask TimerOn s = (record { level = refl; stack = refl; fault = refl }, refl, λ e. e)
-follows mask TimerOff s = (record { level = refl; stack = refl; fault = refl }, refl, λ e. e)
-follows mask MovATmrl s = (record { level = refl; stack = refl; fault = refl }, refl, λ e. e)
-follows mask MovATmrh s = (record { level = refl; stack = refl; fault = refl }, refl, λ e. e)
-follows mask MovTmrlA s = (record { level = refl; stack = refl; fault = refl }, refl, λ e. e)
-follows mask MovTmrhA s = (record { level = refl; stack = refl; fault = refl }, refl, λ e. e)
-follows mask (ReadR4A p) s = (record { level = refl; stack = refl; fault = refl }, refl, λ e. e)
-follows mask (ReadMr0A p) s = (record { level = refl; stack = refl; fault = refl }, refl, λ e. e)
-follows mask (SoundN n) s = (record { level = refl; stack = refl; fault = refl }, refl, λ e. e)
-follows mask SoundA s = (record { level = refl; stack = refl; fault = refl }, refl, λ e. e)
-follows mask SoundOne s = (record { level = refl; stack = refl; fault = refl }, refl, λ e. e)
-follows mask SoundLoop s = (record { level = refl; stack = refl; fault = refl }, refl, λ e. e)
-follows mask SoundOff s = (record { level = refl; stack = refl; fault = refl }, refl, λ e. e)
-follows mask Halt s = (record { level = refl; stack = refl; fault = refl }, refl, λ e. e)
+follows mask I.AddAM s = (record { level = refl; stack = refl; fault = refl }, refl, λ e. e)
+follows mask I.AdcAM s = (record { level = refl; stack = refl; fault = refl }, refl, λ e. e)
+follows mask I.SubAM s = (record { level = refl; stack = refl; fault = refl }, refl, λ e. e)
+follows mask I.SbcAM s = (record { level = refl; stack = refl; fault = refl }, refl, λ e. e)
+follows mask (I.AddAX d) s = (record { level = refl; stack = refl; fault = refl }, refl, λ e. e)
+follows mask (I.SubAX d) s = (record { level = refl; stack = refl; fault = refl }, refl, λ e. e)
+follows mask I.Daa s = (record { level = refl; stack = refl; fault = refl }, refl, λ e. e)
+follows mask I.AndAM s = (record { level = refl; stack = refl; fault = refl }, refl, λ e. e)
+follows mask I.OrAM s = (record { level = refl; stack = refl; fault = refl }, refl, λ e. e)
+follows mask I.XorAM s = (record { level = refl; stack = refl; fault = refl }, refl, λ e. e)
+follows mask I.AndMA s = on (same (s .cpu))
+follows mask I.OrMA s = on (same (s .cpu))
+follows mask I.XorMA s = on (same (s .cpu))
+follows mask (I.AndAX d) s = (record { level = refl; stack = refl; fault = refl }, refl, λ e. e)
+follows mask (I.OrAX d) s = (record { level = refl; stack = refl; fault = refl }, refl, λ e. e)
+follows mask (I.XorAX d) s = (record { level = refl; stack = refl; fault = refl }, refl, λ e. e)
+follows mask I.IncA s = (record { level = refl; stack = refl; fault = refl }, refl, λ e. e)
+follows mask (I.IncR n) s = on (register-same n _ (s .cpu))
+follows mask (I.IncM p) s = on (same (s .cpu))
+follows mask I.DecA s = (record { level = refl; stack = refl; fault = refl }, refl, λ e. e)
+follows mask (I.DecR n) s = on (register-same n _ (s .cpu))
+follows mask (I.DecM p) s = on (same (s .cpu))
+follows mask (I.MovAR n) s = (record { level = refl; stack = refl; fault = refl }, refl, λ e. e)
+follows mask (I.MovRA n) s = on (register-same n _ (s .cpu))
+follows mask (I.MovAM p) s = (record { level = refl; stack = refl; fault = refl }, refl, λ e. e)
+follows mask (I.MovMA p) s = on (same (s .cpu))
+follows mask (I.MovAX d) s = (record { level = refl; stack = refl; fault = refl }, refl, λ e. e)
+follows mask (I.MovPairXX R1R0 low high) s = (record { level = refl; stack = refl; fault = refl }, refl, λ e. e)
+follows mask (I.MovPairXX R3R2 low high) s = (record { level = refl; stack = refl; fault = refl }, refl, λ e. e)
+follows mask (I.MovR4X d) s = (record { level = refl; stack = refl; fault = refl }, refl, λ e. e)
+follows mask I.RlA s = (record { level = refl; stack = refl; fault = refl }, refl, λ e. e)
+follows mask I.RlcA s = (record { level = refl; stack = refl; fault = refl }, refl, λ e. e)
+follows mask I.RrA s = (record { level = refl; stack = refl; fault = refl }, refl, λ e. e)
+follows mask I.RrcA s = (record { level = refl; stack = refl; fault = refl }, refl, λ e. e)
+follows mask (I.InA p) s = (record { level = refl; stack = refl; fault = refl }, refl, λ e. e)
+follows mask I.OutPaA s = (record { level = refl; stack = refl; fault = refl }, refl, λ e. e)
+follows mask (I.Jmp t) s = (record { level = refl; stack = refl; fault = refl }, refl, λ e. e)
+follows mask (I.Branch t k) s = taken (holds k (s .cpu)) (s .cpu) (tested k (s .cpu)) t (tested-same k (s .cpu))
+follows mask (I.Call t) s = λ e. known (λ (d : Cpu). (pcOf d ≡ t .0) × (levelOf d ≡ 1) × (stackOf d ≡ pcOf (s .cpu)) × (faultOf d ≡ faultOf (s .cpu)) × Quiet (s .cpu) d) (eqb (levelOf (s .cpu)) 0) _ _ (eq-eqb (levelOf (s .cpu)) 0 e) (refl, refl, refl, refl, λ h. h)
+follows mask I.Ret s = λ e. unknown (λ (d : Cpu). (pcOf d ≡ stackOf (s .cpu)) × (levelOf d ≡ 0) × (faultOf d ≡ faultOf (s .cpu)) × Quiet (s .cpu) d) (eqb (levelOf (s .cpu)) 0) _ _ (ne-eqb (levelOf (s .cpu)) 0 e) (refl, refl, refl, λ h. h)
+follows mask I.Reti s = λ e. unknown (λ (d : Cpu). (pcOf d ≡ stackOf (s .cpu)) × (levelOf d ≡ 0) × (faultOf d ≡ faultOf (s .cpu)) × Quiet (s .cpu) d) (eqb (levelOf (s .cpu)) 0) _ _ (ne-eqb (levelOf (s .cpu)) 0 e) (refl, refl, refl, λ h. h)
+follows mask I.Clc s = (record { level = refl; stack = refl; fault = refl }, refl, λ e. e)
+follows mask I.Stc s = (record { level = refl; stack = refl; fault = refl }, refl, λ e. e)
+follows mask I.Ei s = (record { level = refl; stack = refl; fault = refl }, refl)
+follows mask I.Di s = (record { level = refl; stack = refl; fault = refl }, refl, λ e. absurd (omega arith))
+follows mask I.Nop s = on (same (s .cpu))
+follows mask (I.TimerXX x) s = (record { level = refl; stack = refl; fault = refl }, refl, λ e. e)
+follows mask I.TimerOn s = (record { level = refl; stack = refl; fault = refl }, refl, λ e. e)
+follows mask I.TimerOff s = (record { level = refl; stack = refl; fault = refl }, refl, λ e. e)
+follows mask I.MovATmrl s = (record { level = refl; stack = refl; fault = refl }, refl, λ e. e)
+follows mask I.MovATmrh s = (record { level = refl; stack = refl; fault = refl }, refl, λ e. e)
+follows mask I.MovTmrlA s = (record { level = refl; stack = refl; fault = refl }, refl, λ e. e)
+follows mask I.MovTmrhA s = (record { level = refl; stack = refl; fault = refl }, refl, λ e. e)
+follows mask (I.ReadR4A p) s = (record { level = refl; stack = refl; fault = refl }, refl, λ e. e)
+follows mask (I.ReadMr0A p) s = (record { level = refl; stack = refl; fault = refl }, refl, λ e. e)
+follows mask (I.SoundN n) s = (record { level = refl; stack = refl; fault = refl }, refl, λ e. e)
+follows mask I.SoundA s = (record { level = refl; stack = refl; fault = refl }, refl, λ e. e)
+follows mask I.SoundOne s = (record { level = refl; stack = refl; fault = refl }, refl, λ e. e)
+follows mask I.SoundLoop s = (record { level = refl; stack = refl; fault = refl }, refl, λ e. e)
+follows mask I.SoundOff s = (record { level = refl; stack = refl; fault = refl }, refl, λ e. e)
+follows mask I.Halt s = (record { level = refl; stack = refl; fault = refl }, refl, λ e. e)
 
 -- cycles change none of the five
 timed-same : (k : Count) (c : Cpu) → Same c (timed k c)

@@ -9,6 +9,7 @@ use mathlib.Core.Logic.{_⊎_, inl, inr}
 use native.Mathlib.Omega.{arith}
 use lib.Dec.{eqb}
 use borrow.Author.Tests.{eq-eqb, eqb-true, eqb-false}
+use Rattle.isa.specs.Choice.{pick}
 use Rattle.rom.specs.Fetching.{byteAt}
 use Rattle.isa.specs.Timing.{lengthOf, cyclesOf}
 use Rattle.isa.specs.declared.Instruction.{Instruction}
@@ -17,10 +18,11 @@ use Rattle.isa.specs.declared.decoder.Decoded.the-variants.{Read, Unreadable}
 use Rattle.isa.proofs.Exact.{and-left, and-right}
 use Rattle.cpu.specs.declared.Cpu.{Cpu}
 use Rattle.cpu.specs.State.{State, state, onCpu, address, withPc, withTf, withHeld, withLevel, withStack}
-use Rattle.cpu.specs.Effect.{pick, effect}
+use Rattle.cpu.specs.Effect.{effect}
 use Rattle.cpu.specs.Step.{ticked, entered, moved, settled, instructed, executed, vectorOf, stepped, stopped, step}
 use Rattle.cpu.specs.Run.{ran}
-use Rattle.checker.specs.Marks.{Pair, pair, flowOf, nestingFault, faultOf, readAt, movedFrom, branchTo, handed, handedBy, fault, successors, pickPairs, Member, here, there, Reached}
+use Rattle.checker.specs.Marks.{Pair, pair, flowOf, nestingFault, faultOf, handed, handedBy, fault, successors, Member, here, there, Reached}
+use Rattle.rom.specs.Fetching.{readAt, movedFrom, branchTo}
 use Rattle.checker.specs.declared.flow.Flow.{Flow}
 use Rattle.checker.specs.declared.flow.Flow.the-variants.{On, Enable, Jump, To, Sub, Back}
 use Rattle.checker.proofs.Reach.{reached-next}
@@ -98,7 +100,7 @@ module _ (mask : List ℕ) (safe : Safe mask) where
         main : nestingFault (Sub a) (levelOf c) ≡ 0 → levelOf c ≡ 0
         main n = go (eqb (levelOf c) 0) (eqb-true (levelOf c) 0) n
           where
-            go : (t : Bool) → (t ≡ true → levelOf c ≡ 0) → Rattle.checker.specs.Marks.pickNumber t 0 2 ≡ 0 → levelOf c ≡ 0
+            go : (t : Bool) → (t ≡ true → levelOf c ≡ 0) → Rattle.checker.specs.Marks.pick t 0 2 ≡ 0 → levelOf c ≡ 0
             go true f m = f refl
             go false f m = absurd (omega arith)
     handing Back w n r =
@@ -114,7 +116,7 @@ module _ (mask : List ℕ) (safe : Safe mask) where
         inside : nestingFault Back (levelOf c) ≡ 0 → levelOf c ≡ 0 → ⊥
         inside n = go (eqb (levelOf c) 0) (eqb-false (levelOf c) 0) n
           where
-            go : (t : Bool) → (t ≡ false → levelOf c ≡ 0 → ⊥) → Rattle.checker.specs.Marks.pickNumber t 3 0 ≡ 0 → levelOf c ≡ 0 → ⊥
+            go : (t : Bool) → (t ≡ false → levelOf c ≡ 0 → ⊥) → Rattle.checker.specs.Marks.pick t 3 0 ≡ 0 → levelOf c ≡ 0 → ⊥
             go true f m = absurd (omega arith)
             go false f m = f refl
 

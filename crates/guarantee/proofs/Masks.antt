@@ -12,7 +12,8 @@ use Rattle.isa.specs.Reading.{decoded, map}
 use Rattle.isa.specs.Timing.{lengthOf, columnsOf, columnsAt}
 use Rattle.isa.specs.declared.decoder.Decoded.{Decoded}
 use Rattle.machine.proofs.Table.{Table, table}
-use Rattle.checker.specs.Marks.{Pair, pair, flowOf, readAt, movedFrom, handedBy, fault, successors, Member, here, there, Chain, Reached}
+use Rattle.checker.specs.Marks.{Pair, pair, flowOf, handedBy, fault, successors, Member, here, there, Chain, Reached}
+use Rattle.rom.specs.Fetching.{readAt, movedFrom}
 use Rattle.checker.specs.Verdicts.{Answers, Marked, Lowest, levelBit, rank}
 use Rattle.checker.specs.declared.check.Verdict.{Verdict}
 use Rattle.checker.specs.declared.check.Verdict.the-variants.{Passed, Failed, BadMask, BadMarks}

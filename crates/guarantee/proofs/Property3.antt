@@ -9,9 +9,9 @@ use native.Mathlib.Omega.{arith}
 use lib.Dec.{eqb}
 use lib.ListN.{getD}
 use borrow.Author.Tests.{eqb-true, eq-eqb}
+use Rattle.isa.specs.Choice.{pick}
 use Rattle.cpu.specs.declared.Cpu.{Cpu}
 use Rattle.cpu.specs.declared.Options.{Options}
-use Rattle.cpu.specs.Effect.{pick}
 use Rattle.datapath.specs.Timer.{counted}
 use Rattle.machine.specs.Machine.{stateOf}
 use Rattle.machine.specs.Power.{reset, powered, powerRefusal, answered, powerOn}

@@ -8,7 +8,7 @@ use mathlib.Core.List.{List, [], _∷_}
 use lib.Dec.{ltb, leb, eqb}
 use lib.ListN.{length}
 use borrow.Author.Tests.{ltb-true, leb-true}
-use Rattle.cpu.specs.Effect.{pick}
+use Rattle.isa.specs.Choice.{pick}
 use Rattle.script.specs.Format.{sizeAt, kindAt, within, offsetsFrom, offsets}
 use Rattle.script.specs.Check.{refused, fine, unless, orElse, first, ruled, checked}
 use Rattle.script.specs.declared.Checked.{Checked}

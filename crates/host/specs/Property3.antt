@@ -6,7 +6,7 @@ use mathlib.Core.Path.{_≡_}
 use mathlib.Core.List.{List, [], _∷_, _++_}
 use lib.Dec.{eqb}
 use lib.ListN.{getD}
-use Rattle.cpu.specs.Effect.{pick}
+use Rattle.isa.specs.Choice.{pick}
 use Rattle.machine.specs.Power.{powerOn}
 use Rattle.machine.specs.Events.{Input, power, event}
 use Rattle.machine.specs.declared.Machine.{Machine}

@@ -10,8 +10,9 @@ use mathlib.Core.List.{List, [], _∷_}
 use lib.Dec.{ltb, eqb, lit<}
 use lib.ListN.{length, take, getD}
 use borrow.Author.Tests.{ltb-true, eqb-true, lt-ltb, le-ltb, ne-eqb}
+use Rattle.isa.specs.Choice.{pick}
 use Rattle.isa.specs.Code.{bytesOf, inRange, leading, bitInRange}
-use Rattle.isa.specs.Reading.{Reads, Reading, Entry, none, whole, fixed, nibble, byte, map, complete, pick, decoded}
+use Rattle.isa.specs.Reading.{Reads, Reading, Entry, none, whole, fixed, nibble, byte, map, complete, decoded}
 use Rattle.isa.specs.Timing.{Columns, columns, columnsOf, columnsAt, entryColumns, Timed}
 use Rattle.isa.specs.declared.decoder.Decoded.{Decoded}
 use Rattle.isa.specs.declared.decoder.Decoded.the-variants.{Read, Unreadable}
@@ -25,68 +26,7 @@ use Rattle.isa.specs.declared.ProgramAddress.{ProgramAddress}
 use Rattle.isa.specs.declared.Condition.{Condition}
 use Rattle.isa.specs.declared.Condition.the-variants.{Ja, JnzR0, JnzR1, JnzR4, Jz, JnzA, Jc, Jnc, Jtmr}
 use Rattle.isa.specs.declared.Instruction.{Instruction}
-use Rattle.isa.specs.declared.Instruction.the-variants.{
-  AddAM,
-  AdcAM,
-  SubAM,
-  SbcAM,
-  AddAX,
-  SubAX,
-  Daa,
-  AndAM,
-  OrAM,
-  XorAM,
-  AndMA,
-  OrMA,
-  XorMA,
-  AndAX,
-  OrAX,
-  XorAX,
-  IncA,
-  IncR,
-  IncM,
-  DecA,
-  DecR,
-  DecM,
-  MovAR,
-  MovRA,
-  MovAM,
-  MovMA,
-  MovAX,
-  MovPairXX,
-  MovR4X,
-  RlA,
-  RlcA,
-  RrA,
-  RrcA,
-  InA,
-  OutPaA,
-  Jmp,
-  Branch,
-  Call,
-  Ret,
-  Reti,
-  Clc,
-  Stc,
-  Ei,
-  Di,
-  Nop,
-  TimerXX,
-  TimerOn,
-  TimerOff,
-  MovATmrl,
-  MovATmrh,
-  MovTmrlA,
-  MovTmrhA,
-  ReadR4A,
-  ReadMr0A,
-  SoundN,
-  SoundA,
-  SoundOne,
-  SoundLoop,
-  SoundOff,
-  Halt,
-}
+use Rattle.isa.specs.declared.Instruction.the-variants as I
 
 -- ---- two functions agree below n where the lists of their first n values are one list, which antt computes
 abbrev pub values : ℕ → (ℕ → Decoded) → List Decoded
@@ -113,7 +53,7 @@ pub and-right : (x y : Bool) → x && y ≡ true → y ≡ true
 and-right true y e = e
 and-right false y e = absurd (let z : _≡_ {A = ℕ} 0 1 = cc in omega arith)
 
-passed : {t : Bool} (d : Decoded) → t ≡ true → pick t d ≡ d
+passed : {t : Bool} (d : Decoded) → t ≡ true → pick t d Unreadable ≡ d
 passed d e = rw e
 
 -- the map at a first byte whose field is below n, with b after it
@@ -122,7 +62,7 @@ module _ (n : ℕ) (x : ℕ → ℕ) (b : ℕ) (f : ℕ → Decoded) (e : values
   field k h = agree n (λ (k : ℕ). decoded (x k) b) f e k (ltb-true k n h)
 
 abbrev pair : Pointer → ℕ → ℕ → Decoded
-pair p high low = pick (ltb high 16) (Read (MovPairXX p low high))
+pair p high low = pick (ltb high 16) (Read (I.MovPairXX p low high)) Unreadable
 
 abbrev to : (ProgramAddress → Instruction) → ℕ → ℕ → Decoded
 to f low high = Read (f (record { 0 = high * 256 + low }))
@@ -141,20 +81,20 @@ module _ (a b : ℕ) where
   two : {x y : ℕ} {d : Decoded} → a ∷ b ∷ [] ≡ x ∷ y ∷ [] → decoded x y ≡ d → decoded a b ≡ d
   two {x} {y} {d} e p = ap (λ (n : ℕ). decoded n b) (head e) ∙ ap (decoded x) (head (tail e)) ∙ p
 
-  paired : (p : Pointer) (x low high : ℕ) → values 16 (λ (k : ℕ). decoded (x + k) high) ≡ values 16 (pair p high) → ltb low 16 && ltb high 16 ≡ true → decoded (x + low) high ≡ Read (MovPairXX p low high)
+  paired : (p : Pointer) (x low high : ℕ) → values 16 (λ (k : ℕ). decoded (x + k) high) ≡ values 16 (pair p high) → ltb low 16 && ltb high 16 ≡ true → decoded (x + low) high ≡ Read (I.MovPairXX p low high)
   paired p x low high e h =
       field 16 (λ (k : ℕ). x + k) high (pair p high) e low (and-left (ltb low 16) (ltb high 16) h)
-      ∙ passed {t = ltb high 16} (Read (MovPairXX p low high)) (and-right (ltb low 16) (ltb high 16) h)
+      ∙ passed {t = ltb high 16} (Read (I.MovPairXX p low high)) (and-right (ltb low 16) (ltb high 16) h)
 
   jump : (f : ProgramAddress → Instruction) (x : ℕ) (t : ProgramAddress) → values 16 (λ (k : ℕ). decoded (x + k) (t .0 % 256)) ≡ values 16 (to f (t .0 % 256)) → ltb (t .0) 4096 ≡ true → decoded (x + t .0 / 256) (t .0 % 256) ≡ Read (f t)
   jump f x t e h = address 16 f x t e (omega (arith, ltb-true (t .0) 4096 h))
 
-  target : (k : Condition) (x : ℕ) (t : ProgramAddress) → values 8 (λ (k : ℕ). decoded (x + k) (t .0 % 256)) ≡ values 8 (to (λ (t : ProgramAddress). Branch t k) (t .0 % 256)) → ltb (t .0) 2048 ≡ true → decoded (x + t .0 / 256) (t .0 % 256) ≡ Read (Branch t k)
-  target k x t e h = address 8 (λ (t : ProgramAddress). Branch t k) x t e (omega (arith, ltb-true (t .0) 2048 h))
+  target : (k : Condition) (x : ℕ) (t : ProgramAddress) → values 8 (λ (k : ℕ). decoded (x + k) (t .0 % 256)) ≡ values 8 (to (λ (t : ProgramAddress). I.Branch t k) (t .0 % 256)) → ltb (t .0) 2048 ≡ true → decoded (x + t .0 / 256) (t .0 % 256) ≡ Read (I.Branch t k)
+  target k x t e h = address 8 (λ (t : ProgramAddress). I.Branch t k) x t e (omega (arith, ltb-true (t .0) 2048 h))
 
   -- JAn: the four bits, then the eight high parts
   abbrev eight : ℕ → ℕ → Type 0
-  eight b n = values 8 (λ (k : ℕ). decoded (0b1000_0000 + 8 * n + k) b) ≡ values 8 (to (λ (t : ProgramAddress). Branch t (Ja n)) b)
+  eight b n = values 8 (λ (k : ℕ). decoded (0b1000_0000 + 8 * n + k) b) ≡ values 8 (to (λ (t : ProgramAddress). I.Branch t (Ja n)) b)
 
   bits : (b n : ℕ) → n < 4 → eight b n
   unfolding decoded map
@@ -164,88 +104,88 @@ module _ (a b : ℕ) where
   bits b (suc (suc (suc zero))) h = refl
   bits b (suc (suc (suc (suc n)))) h = absurd (omega arith)
 
-  bit : (n : ℕ) (t : ProgramAddress) → ltb n 4 && ltb (t .0) 2048 ≡ true → decoded (0b1000_0000 + 8 * n + t .0 / 256) (t .0 % 256) ≡ Read (Branch t (Ja n))
+  bit : (n : ℕ) (t : ProgramAddress) → ltb n 4 && ltb (t .0) 2048 ≡ true → decoded (0b1000_0000 + 8 * n + t .0 / 256) (t .0 % 256) ≡ Read (I.Branch t (Ja n))
   bit n t h = target (Ja n) (0b1000_0000 + 8 * n) t (bits (t .0 % 256) n (ltb-true n 4 (and-left (ltb n 4) (ltb (t .0) 2048) h))) (and-right (ltb n 4) (ltb (t .0) 2048) h)
 
   pub back : (i : Instruction) → Reads a b i → decoded a b ≡ Read i
   unfolding bytesOf inRange leading bitInRange decoded map
-  back AddAM r = one (r .bytes) refl
-  back AdcAM r = one (r .bytes) refl
-  back SubAM r = one (r .bytes) refl
-  back SbcAM r = one (r .bytes) refl
-  back (AddAX d) r = two (r .bytes) (passed _ (r .fields))
-  back (SubAX d) r = two (r .bytes) (passed _ (r .fields))
-  back Daa r = one (r .bytes) refl
-  back AndAM r = one (r .bytes) refl
-  back OrAM r = one (r .bytes) refl
-  back XorAM r = one (r .bytes) refl
-  back AndMA r = one (r .bytes) refl
-  back OrMA r = one (r .bytes) refl
-  back XorMA r = one (r .bytes) refl
-  back (AndAX d) r = two (r .bytes) (passed _ (r .fields))
-  back (OrAX d) r = two (r .bytes) (passed _ (r .fields))
-  back (XorAX d) r = two (r .bytes) (passed _ (r .fields))
-  back IncA r = one (r .bytes) refl
-  back (IncR n) r = one (r .bytes) (field 5 (λ (n : ℕ). 0b0001_0000 + 2 * n) b (λ (n : ℕ). Read (IncR n)) refl n (r .fields))
-  back (IncM R1R0) r = one (r .bytes) refl
-  back (IncM R3R2) r = one (r .bytes) refl
-  back DecA r = one (r .bytes) refl
-  back (DecR n) r = one (r .bytes) (field 5 (λ (n : ℕ). 0b0001_0001 + 2 * n) b (λ (n : ℕ). Read (DecR n)) refl n (r .fields))
-  back (DecM R1R0) r = one (r .bytes) refl
-  back (DecM R3R2) r = one (r .bytes) refl
-  back (MovAR n) r = one (r .bytes) (field 5 (λ (n : ℕ). 0b0010_0001 + 2 * n) b (λ (n : ℕ). Read (MovAR n)) refl n (r .fields))
-  back (MovRA n) r = one (r .bytes) (field 5 (λ (n : ℕ). 0b0010_0000 + 2 * n) b (λ (n : ℕ). Read (MovRA n)) refl n (r .fields))
-  back (MovAM R1R0) r = one (r .bytes) refl
-  back (MovAM R3R2) r = one (r .bytes) refl
-  back (MovMA R1R0) r = one (r .bytes) refl
-  back (MovMA R3R2) r = one (r .bytes) refl
-  back (MovAX d) r = one (r .bytes) (field 16 (λ (d : ℕ). 0b0111_0000 + d) b (λ (d : ℕ). Read (MovAX d)) refl d (r .fields))
-  back (MovPairXX R1R0 low high) r = two (r .bytes) (paired R1R0 0b0101_0000 low high refl (r .fields))
-  back (MovPairXX R3R2 low high) r = two (r .bytes) (paired R3R2 0b0110_0000 low high refl (r .fields))
-  back (MovR4X d) r = two (r .bytes) (passed _ (r .fields))
-  back RlA r = one (r .bytes) refl
-  back RlcA r = one (r .bytes) refl
-  back RrA r = one (r .bytes) refl
-  back RrcA r = one (r .bytes) refl
-  back (InA Pm) r = one (r .bytes) refl
-  back (InA Ps) r = one (r .bytes) refl
-  back (InA Pp) r = one (r .bytes) refl
-  back OutPaA r = one (r .bytes) refl
-  back (Jmp t) r = two (r .bytes) (jump Jmp 0b1110_0000 t refl (r .fields))
-  back (Branch t (Ja n)) r = two (r .bytes) (bit n t (r .fields))
-  back (Branch t JnzR0) r = two (r .bytes) (target JnzR0 0b1010_0000 t refl (r .fields))
-  back (Branch t JnzR1) r = two (r .bytes) (target JnzR1 0b1010_1000 t refl (r .fields))
-  back (Branch t JnzR4) r = two (r .bytes) (target JnzR4 0b1101_1000 t refl (r .fields))
-  back (Branch t Jz) r = two (r .bytes) (target Jz 0b1011_0000 t refl (r .fields))
-  back (Branch t JnzA) r = two (r .bytes) (target JnzA 0b1011_1000 t refl (r .fields))
-  back (Branch t Jc) r = two (r .bytes) (target Jc 0b1100_0000 t refl (r .fields))
-  back (Branch t Jnc) r = two (r .bytes) (target Jnc 0b1100_1000 t refl (r .fields))
-  back (Branch t Jtmr) r = two (r .bytes) (target Jtmr 0b1101_0000 t refl (r .fields))
-  back (Call t) r = two (r .bytes) (jump Call 0b1111_0000 t refl (r .fields))
-  back Ret r = one (r .bytes) refl
-  back Reti r = one (r .bytes) refl
-  back Clc r = one (r .bytes) refl
-  back Stc r = one (r .bytes) refl
-  back Ei r = one (r .bytes) refl
-  back Di r = one (r .bytes) refl
-  back Nop r = one (r .bytes) refl
-  back (TimerXX x) r = two (r .bytes) refl
-  back TimerOn r = one (r .bytes) refl
-  back TimerOff r = one (r .bytes) refl
-  back MovATmrl r = one (r .bytes) refl
-  back MovATmrh r = one (r .bytes) refl
-  back MovTmrlA r = one (r .bytes) refl
-  back MovTmrhA r = one (r .bytes) refl
-  back (ReadR4A Current) r = one (r .bytes) refl
-  back (ReadR4A F) r = one (r .bytes) refl
-  back (ReadMr0A Current) r = one (r .bytes) refl
-  back (ReadMr0A F) r = one (r .bytes) refl
-  back (SoundN n) r = two (r .bytes) (passed _ (r .fields))
-  back SoundA r = one (r .bytes) refl
-  back SoundOne r = one (r .bytes) refl
-  back SoundLoop r = one (r .bytes) refl
-  back SoundOff r = one (r .bytes) refl
-  back Halt r = two (r .bytes) refl
+  back I.AddAM r = one (r .bytes) refl
+  back I.AdcAM r = one (r .bytes) refl
+  back I.SubAM r = one (r .bytes) refl
+  back I.SbcAM r = one (r .bytes) refl
+  back (I.AddAX d) r = two (r .bytes) (passed _ (r .fields))
+  back (I.SubAX d) r = two (r .bytes) (passed _ (r .fields))
+  back I.Daa r = one (r .bytes) refl
+  back I.AndAM r = one (r .bytes) refl
+  back I.OrAM r = one (r .bytes) refl
+  back I.XorAM r = one (r .bytes) refl
+  back I.AndMA r = one (r .bytes) refl
+  back I.OrMA r = one (r .bytes) refl
+  back I.XorMA r = one (r .bytes) refl
+  back (I.AndAX d) r = two (r .bytes) (passed _ (r .fields))
+  back (I.OrAX d) r = two (r .bytes) (passed _ (r .fields))
+  back (I.XorAX d) r = two (r .bytes) (passed _ (r .fields))
+  back I.IncA r = one (r .bytes) refl
+  back (I.IncR n) r = one (r .bytes) (field 5 (λ (n : ℕ). 0b0001_0000 + 2 * n) b (λ (n : ℕ). Read (I.IncR n)) refl n (r .fields))
+  back (I.IncM R1R0) r = one (r .bytes) refl
+  back (I.IncM R3R2) r = one (r .bytes) refl
+  back I.DecA r = one (r .bytes) refl
+  back (I.DecR n) r = one (r .bytes) (field 5 (λ (n : ℕ). 0b0001_0001 + 2 * n) b (λ (n : ℕ). Read (I.DecR n)) refl n (r .fields))
+  back (I.DecM R1R0) r = one (r .bytes) refl
+  back (I.DecM R3R2) r = one (r .bytes) refl
+  back (I.MovAR n) r = one (r .bytes) (field 5 (λ (n : ℕ). 0b0010_0001 + 2 * n) b (λ (n : ℕ). Read (I.MovAR n)) refl n (r .fields))
+  back (I.MovRA n) r = one (r .bytes) (field 5 (λ (n : ℕ). 0b0010_0000 + 2 * n) b (λ (n : ℕ). Read (I.MovRA n)) refl n (r .fields))
+  back (I.MovAM R1R0) r = one (r .bytes) refl
+  back (I.MovAM R3R2) r = one (r .bytes) refl
+  back (I.MovMA R1R0) r = one (r .bytes) refl
+  back (I.MovMA R3R2) r = one (r .bytes) refl
+  back (I.MovAX d) r = one (r .bytes) (field 16 (λ (d : ℕ). 0b0111_0000 + d) b (λ (d : ℕ). Read (I.MovAX d)) refl d (r .fields))
+  back (I.MovPairXX R1R0 low high) r = two (r .bytes) (paired R1R0 0b0101_0000 low high refl (r .fields))
+  back (I.MovPairXX R3R2 low high) r = two (r .bytes) (paired R3R2 0b0110_0000 low high refl (r .fields))
+  back (I.MovR4X d) r = two (r .bytes) (passed _ (r .fields))
+  back I.RlA r = one (r .bytes) refl
+  back I.RlcA r = one (r .bytes) refl
+  back I.RrA r = one (r .bytes) refl
+  back I.RrcA r = one (r .bytes) refl
+  back (I.InA Pm) r = one (r .bytes) refl
+  back (I.InA Ps) r = one (r .bytes) refl
+  back (I.InA Pp) r = one (r .bytes) refl
+  back I.OutPaA r = one (r .bytes) refl
+  back (I.Jmp t) r = two (r .bytes) (jump I.Jmp 0b1110_0000 t refl (r .fields))
+  back (I.Branch t (Ja n)) r = two (r .bytes) (bit n t (r .fields))
+  back (I.Branch t JnzR0) r = two (r .bytes) (target JnzR0 0b1010_0000 t refl (r .fields))
+  back (I.Branch t JnzR1) r = two (r .bytes) (target JnzR1 0b1010_1000 t refl (r .fields))
+  back (I.Branch t JnzR4) r = two (r .bytes) (target JnzR4 0b1101_1000 t refl (r .fields))
+  back (I.Branch t Jz) r = two (r .bytes) (target Jz 0b1011_0000 t refl (r .fields))
+  back (I.Branch t JnzA) r = two (r .bytes) (target JnzA 0b1011_1000 t refl (r .fields))
+  back (I.Branch t Jc) r = two (r .bytes) (target Jc 0b1100_0000 t refl (r .fields))
+  back (I.Branch t Jnc) r = two (r .bytes) (target Jnc 0b1100_1000 t refl (r .fields))
+  back (I.Branch t Jtmr) r = two (r .bytes) (target Jtmr 0b1101_0000 t refl (r .fields))
+  back (I.Call t) r = two (r .bytes) (jump I.Call 0b1111_0000 t refl (r .fields))
+  back I.Ret r = one (r .bytes) refl
+  back I.Reti r = one (r .bytes) refl
+  back I.Clc r = one (r .bytes) refl
+  back I.Stc r = one (r .bytes) refl
+  back I.Ei r = one (r .bytes) refl
+  back I.Di r = one (r .bytes) refl
+  back I.Nop r = one (r .bytes) refl
+  back (I.TimerXX x) r = two (r .bytes) refl
+  back I.TimerOn r = one (r .bytes) refl
+  back I.TimerOff r = one (r .bytes) refl
+  back I.MovATmrl r = one (r .bytes) refl
+  back I.MovATmrh r = one (r .bytes) refl
+  back I.MovTmrlA r = one (r .bytes) refl
+  back I.MovTmrhA r = one (r .bytes) refl
+  back (I.ReadR4A Current) r = one (r .bytes) refl
+  back (I.ReadR4A F) r = one (r .bytes) refl
+  back (I.ReadMr0A Current) r = one (r .bytes) refl
+  back (I.ReadMr0A F) r = one (r .bytes) refl
+  back (I.SoundN n) r = two (r .bytes) (passed _ (r .fields))
+  back I.SoundA r = one (r .bytes) refl
+  back I.SoundOne r = one (r .bytes) refl
+  back I.SoundLoop r = one (r .bytes) refl
+  back I.SoundOff r = one (r .bytes) refl
+  back I.Halt r = two (r .bytes) refl
 
 -- ---- from the map to an instruction: one test over the 256 entries
 abbrev same : List ℕ → List ℕ → Bool
@@ -316,7 +256,7 @@ made c a b i s g e =
 same-read : {i j : Instruction} → Read i ≡ Read j → i ≡ j
 same-read e = cc
 
-picked : (t : Bool) (i j : Instruction) → pick t (Read j) ≡ Read i → t ≡ true × j ≡ i
+picked : (t : Bool) (i j : Instruction) → pick t (Read j) Unreadable ≡ Read i → t ≡ true × j ≡ i
 picked true i j e = (refl, same-read e)
 picked false i j e = absurd (let z : _≡_ {A = ℕ} 0 1 = cc in omega arith)
 
@@ -396,7 +336,7 @@ pub and-both : (x y : Bool) → x ≡ true → y ≡ true → x && y ≡ true
 and-both true y e f = f
 and-both false y e f = e
 
-pub to-target : (k : Condition) (a b : ℕ) → b < 256 → bitInRange k ≡ true → a / 8 * 8 ≡ leading k → Reads a b (Branch (record { 0 = a % 8 * 256 + b }) k)
+pub to-target : (k : Condition) (a b : ℕ) → b < 256 → bitInRange k ≡ true → a / 8 * 8 ≡ leading k → Reads a b (I.Branch (record { 0 = a % 8 * 256 + b }) k)
 unfolding inRange bytesOf
 to-target k a b h f e =
     two-byte (and-both (bitInRange k) (ltb (a % 8 * 256 + b) 2048) f (lt-ltb (a % 8 * 256 + b) 2048 (omega arith))) refl (omega arith) (omega arith)
@@ -409,19 +349,19 @@ pub other-halt : (a b : ℕ) → a ≡ 0x37 → (b ≡ 0x3e → ⊥) → (i : In
 unfolding decoded map
 other-halt a b e n = unread a b (rw (e, ne-eqb b 0x3e n) refl)
 
-failed : {t : Bool} (d : Decoded) → t ≡ false → pick t d ≡ Unreadable
+failed : {t : Bool} (d : Decoded) → t ≡ false → pick t d Unreadable ≡ Unreadable
 failed d e = rw e
 
 -- a second byte over 15, after a first byte whose second is 0 and a nibble
-pub over : (a b : ℕ) (f : ℕ → Instruction) → 16 ≤ b → decoded a b ≡ pick (ltb b 16) (Read (f b)) → (i : Instruction) → Reads a b i → ⊥
+pub over : (a b : ℕ) (f : ℕ → Instruction) → 16 ≤ b → decoded a b ≡ pick (ltb b 16) (Read (f b)) Unreadable → (i : Instruction) → Reads a b i → ⊥
 over a b f h e = unread a b (e ∙ failed {t = ltb b 16} (Read (f b)) (le-ltb b 16 h))
 
 pub over-pair : (p : Pointer) (x a b : ℕ) → values 16 (λ (k : ℕ). decoded (x + k) b) ≡ values 16 (pair p b) → x ≤ a → a < x + 16 → 16 ≤ b → (i : Instruction) → Reads a b i → ⊥
 over-pair p x a b e l u h =
-    over a b (MovPairXX p (a - x)) h
+    over a b (I.MovPairXX p (a - x)) h
     (ap (λ (n : ℕ). decoded n b) (omega arith) ∙ agree 16 (λ (k : ℕ). decoded (x + k) b) (pair p b) e (a - x) (omega arith))
 
-pub to-pair : (p : Pointer) (x a b : ℕ) → bytesOf (MovPairXX p (a % 16) b) ≡ (x + a % 16) ∷ b ∷ [] → x % 16 ≡ 0 → x ≤ a → a < x + 16 → b < 16 → Reads a b (MovPairXX p (a % 16) b)
+pub to-pair : (p : Pointer) (x a b : ℕ) → bytesOf (I.MovPairXX p (a % 16) b) ≡ (x + a % 16) ∷ b ∷ [] → x % 16 ≡ 0 → x ≤ a → a < x + 16 → b < 16 → Reads a b (I.MovPairXX p (a % 16) b)
 unfolding inRange
 to-pair p x a b e m l u h =
     two-byte (and-both (ltb (a % 16) 16) (ltb b 16) (lt-ltb (a % 16) 16 (omega arith)) (lt-ltb b 16 h)) e (omega arith) refl

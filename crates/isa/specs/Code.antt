@@ -15,68 +15,7 @@ use Rattle.isa.specs.declared.Page.the-variants.{Current, F}
 use Rattle.isa.specs.declared.Condition.{Condition}
 use Rattle.isa.specs.declared.Condition.the-variants.{Ja, JnzR0, JnzR1, JnzR4, Jz, JnzA, Jc, Jnc, Jtmr}
 use Rattle.isa.specs.declared.Instruction.{Instruction}
-use Rattle.isa.specs.declared.Instruction.the-variants.{
-  AddAM,
-  AdcAM,
-  SubAM,
-  SbcAM,
-  AddAX,
-  SubAX,
-  Daa,
-  AndAM,
-  OrAM,
-  XorAM,
-  AndMA,
-  OrMA,
-  XorMA,
-  AndAX,
-  OrAX,
-  XorAX,
-  IncA,
-  IncR,
-  IncM,
-  DecA,
-  DecR,
-  DecM,
-  MovAR,
-  MovRA,
-  MovAM,
-  MovMA,
-  MovAX,
-  MovPairXX,
-  MovR4X,
-  RlA,
-  RlcA,
-  RrA,
-  RrcA,
-  InA,
-  OutPaA,
-  Jmp,
-  Branch,
-  Call,
-  Ret,
-  Reti,
-  Clc,
-  Stc,
-  Ei,
-  Di,
-  Nop,
-  TimerXX,
-  TimerOn,
-  TimerOff,
-  MovATmrl,
-  MovATmrh,
-  MovTmrlA,
-  MovTmrhA,
-  ReadR4A,
-  ReadMr0A,
-  SoundN,
-  SoundA,
-  SoundOne,
-  SoundLoop,
-  SoundOff,
-  Halt,
-}
+use Rattle.isa.specs.declared.Instruction.the-variants as I
 
 -- the five leading bits of a conditional branch
 unfoldable pub leading : Condition → ℕ
@@ -93,75 +32,75 @@ leading Jtmr = 0b1101_0000
 -- "Machine code": the bytes of an instruction
 unfoldable pub bytesOf : Instruction → List ℕ
 unfolding leading
-bytesOf AddAM = 0b0000_1001 ∷ []
-bytesOf AdcAM = 0b0000_1000 ∷ []
-bytesOf SubAM = 0b0000_1011 ∷ []
-bytesOf SbcAM = 0b0000_1010 ∷ []
-bytesOf (AddAX d) = 0b0100_0000 ∷ d ∷ []
-bytesOf (SubAX d) = 0b0100_0001 ∷ d ∷ []
-bytesOf Daa = 0b0011_0110 ∷ []
-bytesOf AndAM = 0b0001_1010 ∷ []
-bytesOf OrAM = 0b0001_1100 ∷ []
-bytesOf XorAM = 0b0001_1011 ∷ []
-bytesOf AndMA = 0b0001_1101 ∷ []
-bytesOf OrMA = 0b0001_1111 ∷ []
-bytesOf XorMA = 0b0001_1110 ∷ []
-bytesOf (AndAX d) = 0b0100_0010 ∷ d ∷ []
-bytesOf (OrAX d) = 0b0100_0100 ∷ d ∷ []
-bytesOf (XorAX d) = 0b0100_0011 ∷ d ∷ []
-bytesOf IncA = 0b0011_0001 ∷ []
-bytesOf (IncR n) = (0b0001_0000 + 2 * n) ∷ []
-bytesOf (IncM R1R0) = 0b0000_1100 ∷ []
-bytesOf (IncM R3R2) = 0b0000_1110 ∷ []
-bytesOf DecA = 0b0011_1111 ∷ []
-bytesOf (DecR n) = (0b0001_0001 + 2 * n) ∷ []
-bytesOf (DecM R1R0) = 0b0000_1101 ∷ []
-bytesOf (DecM R3R2) = 0b0000_1111 ∷ []
-bytesOf (MovAR n) = (0b0010_0001 + 2 * n) ∷ []
-bytesOf (MovRA n) = (0b0010_0000 + 2 * n) ∷ []
-bytesOf (MovAM R1R0) = 0b0000_0100 ∷ []
-bytesOf (MovAM R3R2) = 0b0000_0110 ∷ []
-bytesOf (MovMA R1R0) = 0b0000_0101 ∷ []
-bytesOf (MovMA R3R2) = 0b0000_0111 ∷ []
-bytesOf (MovAX d) = (0b0111_0000 + d) ∷ []
-bytesOf (MovPairXX R1R0 low high) = (0b0101_0000 + low) ∷ high ∷ []
-bytesOf (MovPairXX R3R2 low high) = (0b0110_0000 + low) ∷ high ∷ []
-bytesOf (MovR4X d) = 0b0100_0110 ∷ d ∷ []
-bytesOf RlA = 0b0000_0001 ∷ []
-bytesOf RlcA = 0b0000_0011 ∷ []
-bytesOf RrA = 0b0000_0000 ∷ []
-bytesOf RrcA = 0b0000_0010 ∷ []
-bytesOf (InA Pm) = 0b0011_0010 ∷ []
-bytesOf (InA Ps) = 0b0011_0011 ∷ []
-bytesOf (InA Pp) = 0b0011_0100 ∷ []
-bytesOf OutPaA = 0b0011_0000 ∷ []
-bytesOf (Jmp t) = (0b1110_0000 + t .0 / 256) ∷ (t .0 % 256) ∷ []
-bytesOf (Branch t k) = (leading k + t .0 / 256) ∷ (t .0 % 256) ∷ []
-bytesOf (Call t) = (0b1111_0000 + t .0 / 256) ∷ (t .0 % 256) ∷ []
-bytesOf Ret = 0b0010_1110 ∷ []
-bytesOf Reti = 0b0010_1111 ∷ []
-bytesOf Clc = 0b0010_1010 ∷ []
-bytesOf Stc = 0b0010_1011 ∷ []
-bytesOf Ei = 0b0010_1100 ∷ []
-bytesOf Di = 0b0010_1101 ∷ []
-bytesOf Nop = 0b0011_1110 ∷ []
-bytesOf (TimerXX x) = 0b0100_0111 ∷ x ∷ []
-bytesOf TimerOn = 0b0011_1000 ∷ []
-bytesOf TimerOff = 0b0011_1001 ∷ []
-bytesOf MovATmrl = 0b0011_1010 ∷ []
-bytesOf MovATmrh = 0b0011_1011 ∷ []
-bytesOf MovTmrlA = 0b0011_1100 ∷ []
-bytesOf MovTmrhA = 0b0011_1101 ∷ []
-bytesOf (ReadR4A Current) = 0b0100_1100 ∷ []
-bytesOf (ReadR4A F) = 0b0100_1101 ∷ []
-bytesOf (ReadMr0A Current) = 0b0100_1110 ∷ []
-bytesOf (ReadMr0A F) = 0b0100_1111 ∷ []
-bytesOf (SoundN n) = 0b0100_0101 ∷ n ∷ []
-bytesOf SoundA = 0b0100_1011 ∷ []
-bytesOf SoundOne = 0b0100_1000 ∷ []
-bytesOf SoundLoop = 0b0100_1001 ∷ []
-bytesOf SoundOff = 0b0100_1010 ∷ []
-bytesOf Halt = 0b0011_0111 ∷ 0b0011_1110 ∷ []
+bytesOf I.AddAM = 0b0000_1001 ∷ []
+bytesOf I.AdcAM = 0b0000_1000 ∷ []
+bytesOf I.SubAM = 0b0000_1011 ∷ []
+bytesOf I.SbcAM = 0b0000_1010 ∷ []
+bytesOf (I.AddAX d) = 0b0100_0000 ∷ d ∷ []
+bytesOf (I.SubAX d) = 0b0100_0001 ∷ d ∷ []
+bytesOf I.Daa = 0b0011_0110 ∷ []
+bytesOf I.AndAM = 0b0001_1010 ∷ []
+bytesOf I.OrAM = 0b0001_1100 ∷ []
+bytesOf I.XorAM = 0b0001_1011 ∷ []
+bytesOf I.AndMA = 0b0001_1101 ∷ []
+bytesOf I.OrMA = 0b0001_1111 ∷ []
+bytesOf I.XorMA = 0b0001_1110 ∷ []
+bytesOf (I.AndAX d) = 0b0100_0010 ∷ d ∷ []
+bytesOf (I.OrAX d) = 0b0100_0100 ∷ d ∷ []
+bytesOf (I.XorAX d) = 0b0100_0011 ∷ d ∷ []
+bytesOf I.IncA = 0b0011_0001 ∷ []
+bytesOf (I.IncR n) = (0b0001_0000 + 2 * n) ∷ []
+bytesOf (I.IncM R1R0) = 0b0000_1100 ∷ []
+bytesOf (I.IncM R3R2) = 0b0000_1110 ∷ []
+bytesOf I.DecA = 0b0011_1111 ∷ []
+bytesOf (I.DecR n) = (0b0001_0001 + 2 * n) ∷ []
+bytesOf (I.DecM R1R0) = 0b0000_1101 ∷ []
+bytesOf (I.DecM R3R2) = 0b0000_1111 ∷ []
+bytesOf (I.MovAR n) = (0b0010_0001 + 2 * n) ∷ []
+bytesOf (I.MovRA n) = (0b0010_0000 + 2 * n) ∷ []
+bytesOf (I.MovAM R1R0) = 0b0000_0100 ∷ []
+bytesOf (I.MovAM R3R2) = 0b0000_0110 ∷ []
+bytesOf (I.MovMA R1R0) = 0b0000_0101 ∷ []
+bytesOf (I.MovMA R3R2) = 0b0000_0111 ∷ []
+bytesOf (I.MovAX d) = (0b0111_0000 + d) ∷ []
+bytesOf (I.MovPairXX R1R0 low high) = (0b0101_0000 + low) ∷ high ∷ []
+bytesOf (I.MovPairXX R3R2 low high) = (0b0110_0000 + low) ∷ high ∷ []
+bytesOf (I.MovR4X d) = 0b0100_0110 ∷ d ∷ []
+bytesOf I.RlA = 0b0000_0001 ∷ []
+bytesOf I.RlcA = 0b0000_0011 ∷ []
+bytesOf I.RrA = 0b0000_0000 ∷ []
+bytesOf I.RrcA = 0b0000_0010 ∷ []
+bytesOf (I.InA Pm) = 0b0011_0010 ∷ []
+bytesOf (I.InA Ps) = 0b0011_0011 ∷ []
+bytesOf (I.InA Pp) = 0b0011_0100 ∷ []
+bytesOf I.OutPaA = 0b0011_0000 ∷ []
+bytesOf (I.Jmp t) = (0b1110_0000 + t .0 / 256) ∷ (t .0 % 256) ∷ []
+bytesOf (I.Branch t k) = (leading k + t .0 / 256) ∷ (t .0 % 256) ∷ []
+bytesOf (I.Call t) = (0b1111_0000 + t .0 / 256) ∷ (t .0 % 256) ∷ []
+bytesOf I.Ret = 0b0010_1110 ∷ []
+bytesOf I.Reti = 0b0010_1111 ∷ []
+bytesOf I.Clc = 0b0010_1010 ∷ []
+bytesOf I.Stc = 0b0010_1011 ∷ []
+bytesOf I.Ei = 0b0010_1100 ∷ []
+bytesOf I.Di = 0b0010_1101 ∷ []
+bytesOf I.Nop = 0b0011_1110 ∷ []
+bytesOf (I.TimerXX x) = 0b0100_0111 ∷ x ∷ []
+bytesOf I.TimerOn = 0b0011_1000 ∷ []
+bytesOf I.TimerOff = 0b0011_1001 ∷ []
+bytesOf I.MovATmrl = 0b0011_1010 ∷ []
+bytesOf I.MovATmrh = 0b0011_1011 ∷ []
+bytesOf I.MovTmrlA = 0b0011_1100 ∷ []
+bytesOf I.MovTmrhA = 0b0011_1101 ∷ []
+bytesOf (I.ReadR4A Current) = 0b0100_1100 ∷ []
+bytesOf (I.ReadR4A F) = 0b0100_1101 ∷ []
+bytesOf (I.ReadMr0A Current) = 0b0100_1110 ∷ []
+bytesOf (I.ReadMr0A F) = 0b0100_1111 ∷ []
+bytesOf (I.SoundN n) = 0b0100_0101 ∷ n ∷ []
+bytesOf I.SoundA = 0b0100_1011 ∷ []
+bytesOf I.SoundOne = 0b0100_1000 ∷ []
+bytesOf I.SoundLoop = 0b0100_1001 ∷ []
+bytesOf I.SoundOff = 0b0100_1010 ∷ []
+bytesOf I.Halt = 0b0011_0111 ∷ 0b0011_1110 ∷ []
 
 -- "nnn being 0 to 4", "d a nibble", JAn's n is 0 to 3; a branch holds 11 bits of its target, a jump and a call 12
 unfoldable pub bitInRange : Condition → Bool
@@ -177,63 +116,63 @@ bitInRange Jtmr = true
 
 unfoldable pub inRange : Instruction → Bool
 unfolding bitInRange
-inRange AddAM = true
-inRange AdcAM = true
-inRange SubAM = true
-inRange SbcAM = true
-inRange (AddAX d) = ltb d 16
-inRange (SubAX d) = ltb d 16
-inRange Daa = true
-inRange AndAM = true
-inRange OrAM = true
-inRange XorAM = true
-inRange AndMA = true
-inRange OrMA = true
-inRange XorMA = true
-inRange (AndAX d) = ltb d 16
-inRange (OrAX d) = ltb d 16
-inRange (XorAX d) = ltb d 16
-inRange IncA = true
-inRange (IncR n) = ltb n 5
-inRange (IncM p) = true
-inRange DecA = true
-inRange (DecR n) = ltb n 5
-inRange (DecM p) = true
-inRange (MovAR n) = ltb n 5
-inRange (MovRA n) = ltb n 5
-inRange (MovAM p) = true
-inRange (MovMA p) = true
-inRange (MovAX d) = ltb d 16
-inRange (MovPairXX p low high) = ltb low 16 && ltb high 16
-inRange (MovR4X d) = ltb d 16
-inRange RlA = true
-inRange RlcA = true
-inRange RrA = true
-inRange RrcA = true
-inRange (InA p) = true
-inRange OutPaA = true
-inRange (Jmp t) = ltb (t .0) 4096
-inRange (Branch t k) = bitInRange k && ltb (t .0) 2048
-inRange (Call t) = ltb (t .0) 4096
-inRange Ret = true
-inRange Reti = true
-inRange Clc = true
-inRange Stc = true
-inRange Ei = true
-inRange Di = true
-inRange Nop = true
-inRange (TimerXX x) = ltb x 256
-inRange TimerOn = true
-inRange TimerOff = true
-inRange MovATmrl = true
-inRange MovATmrh = true
-inRange MovTmrlA = true
-inRange MovTmrhA = true
-inRange (ReadR4A p) = true
-inRange (ReadMr0A p) = true
-inRange (SoundN n) = ltb n 16
-inRange SoundA = true
-inRange SoundOne = true
-inRange SoundLoop = true
-inRange SoundOff = true
-inRange Halt = true
+inRange I.AddAM = true
+inRange I.AdcAM = true
+inRange I.SubAM = true
+inRange I.SbcAM = true
+inRange (I.AddAX d) = ltb d 16
+inRange (I.SubAX d) = ltb d 16
+inRange I.Daa = true
+inRange I.AndAM = true
+inRange I.OrAM = true
+inRange I.XorAM = true
+inRange I.AndMA = true
+inRange I.OrMA = true
+inRange I.XorMA = true
+inRange (I.AndAX d) = ltb d 16
+inRange (I.OrAX d) = ltb d 16
+inRange (I.XorAX d) = ltb d 16
+inRange I.IncA = true
+inRange (I.IncR n) = ltb n 5
+inRange (I.IncM p) = true
+inRange I.DecA = true
+inRange (I.DecR n) = ltb n 5
+inRange (I.DecM p) = true
+inRange (I.MovAR n) = ltb n 5
+inRange (I.MovRA n) = ltb n 5
+inRange (I.MovAM p) = true
+inRange (I.MovMA p) = true
+inRange (I.MovAX d) = ltb d 16
+inRange (I.MovPairXX p low high) = ltb low 16 && ltb high 16
+inRange (I.MovR4X d) = ltb d 16
+inRange I.RlA = true
+inRange I.RlcA = true
+inRange I.RrA = true
+inRange I.RrcA = true
+inRange (I.InA p) = true
+inRange I.OutPaA = true
+inRange (I.Jmp t) = ltb (t .0) 4096
+inRange (I.Branch t k) = bitInRange k && ltb (t .0) 2048
+inRange (I.Call t) = ltb (t .0) 4096
+inRange I.Ret = true
+inRange I.Reti = true
+inRange I.Clc = true
+inRange I.Stc = true
+inRange I.Ei = true
+inRange I.Di = true
+inRange I.Nop = true
+inRange (I.TimerXX x) = ltb x 256
+inRange I.TimerOn = true
+inRange I.TimerOff = true
+inRange I.MovATmrl = true
+inRange I.MovATmrh = true
+inRange I.MovTmrlA = true
+inRange I.MovTmrhA = true
+inRange (I.ReadR4A p) = true
+inRange (I.ReadMr0A p) = true
+inRange (I.SoundN n) = ltb n 16
+inRange I.SoundA = true
+inRange I.SoundOne = true
+inRange I.SoundLoop = true
+inRange I.SoundOff = true
+inRange I.Halt = true

@@ -1,3 +1,4 @@
+pub mod Choice
 pub mod Code
 pub mod Reading
 pub mod Timing

@@ -6,6 +6,7 @@ use mathlib.Core.Bool.{Bool, true, false}
 use mathlib.Core.List.{List, [], _∷_, _++_}
 use lib.Dec.{ltb, eqb}
 use lib.ListN.{length, take, getD}
+use Rattle.isa.specs.Choice.{pick}
 use Rattle.isa.specs.Code.{bytesOf, inRange}
 use Rattle.isa.specs.declared.decoder.Decoded.{Decoded}
 use Rattle.isa.specs.declared.decoder.Decoded.the-variants.{Read, Unreadable}
@@ -18,68 +19,7 @@ use Rattle.isa.specs.declared.Page.the-variants.{Current, F}
 use Rattle.isa.specs.declared.Condition.{Condition}
 use Rattle.isa.specs.declared.Condition.the-variants.{Ja, JnzR0, JnzR1, JnzR4, Jz, JnzA, Jc, Jnc, Jtmr}
 use Rattle.isa.specs.declared.Instruction.{Instruction}
-use Rattle.isa.specs.declared.Instruction.the-variants.{
-  AddAM,
-  AdcAM,
-  SubAM,
-  SbcAM,
-  AddAX,
-  SubAX,
-  Daa,
-  AndAM,
-  OrAM,
-  XorAM,
-  AndMA,
-  OrMA,
-  XorMA,
-  AndAX,
-  OrAX,
-  XorAX,
-  IncA,
-  IncR,
-  IncM,
-  DecA,
-  DecR,
-  DecM,
-  MovAR,
-  MovRA,
-  MovAM,
-  MovMA,
-  MovAX,
-  MovPairXX,
-  MovR4X,
-  RlA,
-  RlcA,
-  RrA,
-  RrcA,
-  InA,
-  OutPaA,
-  Jmp,
-  Branch,
-  Call,
-  Ret,
-  Reti,
-  Clc,
-  Stc,
-  Ei,
-  Di,
-  Nop,
-  TimerXX,
-  TimerOn,
-  TimerOff,
-  MovATmrl,
-  MovATmrh,
-  MovTmrlA,
-  MovTmrhA,
-  ReadR4A,
-  ReadMr0A,
-  SoundN,
-  SoundA,
-  SoundOne,
-  SoundLoop,
-  SoundOff,
-  Halt,
-}
+use Rattle.isa.specs.declared.Instruction.the-variants as I
 
 -- the bytes a, b read as i: i's fields are in range and its bytes are these (document 01, "Codes"). A one-byte code leaves b free
 pub record Reads (a b : ℕ) (i : Instruction) : Type 0 where
@@ -104,37 +44,37 @@ tab zero f rest = rest
 tab (suc n) f rest = f 0 ∷ tab n (λ (k : ℕ). f (suc k)) rest
 
 abbrev pub pair : Pointer → ℕ → Entry
-pair p low = nibble (λ (high : ℕ). MovPairXX p low high)
+pair p low = nibble (λ (high : ℕ). I.MovPairXX p low high)
 
 abbrev pub branch : Condition → ℕ → Entry
-branch k high = byte (λ (low : ℕ). Branch (record { 0 = high * 256 + low }) k)
+branch k high = byte (λ (low : ℕ). I.Branch (record { 0 = high * 256 + low }) k)
 
 -- the map, sixteen first bytes a line
 unfoldable pub map : List Entry
 map =
-    whole RrA ∷ whole RlA ∷ whole RrcA ∷ whole RlcA
-    ∷ whole (MovAM R1R0) ∷ whole (MovMA R1R0) ∷ whole (MovAM R3R2) ∷ whole (MovMA R3R2)
-    ∷ whole AdcAM ∷ whole AddAM ∷ whole SbcAM ∷ whole SubAM
-    ∷ whole (IncM R1R0) ∷ whole (DecM R1R0) ∷ whole (IncM R3R2) ∷ whole (DecM R3R2)
-    ∷ whole (IncR 0) ∷ whole (DecR 0) ∷ whole (IncR 1) ∷ whole (DecR 1)
-    ∷ whole (IncR 2) ∷ whole (DecR 2) ∷ whole (IncR 3) ∷ whole (DecR 3)
-    ∷ whole (IncR 4) ∷ whole (DecR 4) ∷ whole AndAM ∷ whole XorAM
-    ∷ whole OrAM ∷ whole AndMA ∷ whole XorMA ∷ whole OrMA
-    ∷ whole (MovRA 0) ∷ whole (MovAR 0) ∷ whole (MovRA 1) ∷ whole (MovAR 1)
-    ∷ whole (MovRA 2) ∷ whole (MovAR 2) ∷ whole (MovRA 3) ∷ whole (MovAR 3)
-    ∷ whole (MovRA 4) ∷ whole (MovAR 4) ∷ whole Clc ∷ whole Stc
-    ∷ whole Ei ∷ whole Di ∷ whole Ret ∷ whole Reti
-    ∷ whole OutPaA ∷ whole IncA ∷ whole (InA Pm) ∷ whole (InA Ps)
-    ∷ whole (InA Pp) ∷ none ∷ whole Daa ∷ fixed 0x3e Halt
-    ∷ whole TimerOn ∷ whole TimerOff ∷ whole MovATmrl ∷ whole MovATmrh
-    ∷ whole MovTmrlA ∷ whole MovTmrhA ∷ whole Nop ∷ whole DecA
-    ∷ nibble AddAX ∷ nibble SubAX ∷ nibble AndAX ∷ nibble XorAX
-    ∷ nibble OrAX ∷ nibble SoundN ∷ nibble MovR4X ∷ byte TimerXX
-    ∷ whole SoundOne ∷ whole SoundLoop ∷ whole SoundOff ∷ whole SoundA
-    ∷ whole (ReadR4A Current) ∷ whole (ReadR4A F) ∷ whole (ReadMr0A Current) ∷ whole (ReadMr0A F)
+    whole I.RrA ∷ whole I.RlA ∷ whole I.RrcA ∷ whole I.RlcA
+    ∷ whole (I.MovAM R1R0) ∷ whole (I.MovMA R1R0) ∷ whole (I.MovAM R3R2) ∷ whole (I.MovMA R3R2)
+    ∷ whole I.AdcAM ∷ whole I.AddAM ∷ whole I.SbcAM ∷ whole I.SubAM
+    ∷ whole (I.IncM R1R0) ∷ whole (I.DecM R1R0) ∷ whole (I.IncM R3R2) ∷ whole (I.DecM R3R2)
+    ∷ whole (I.IncR 0) ∷ whole (I.DecR 0) ∷ whole (I.IncR 1) ∷ whole (I.DecR 1)
+    ∷ whole (I.IncR 2) ∷ whole (I.DecR 2) ∷ whole (I.IncR 3) ∷ whole (I.DecR 3)
+    ∷ whole (I.IncR 4) ∷ whole (I.DecR 4) ∷ whole I.AndAM ∷ whole I.XorAM
+    ∷ whole I.OrAM ∷ whole I.AndMA ∷ whole I.XorMA ∷ whole I.OrMA
+    ∷ whole (I.MovRA 0) ∷ whole (I.MovAR 0) ∷ whole (I.MovRA 1) ∷ whole (I.MovAR 1)
+    ∷ whole (I.MovRA 2) ∷ whole (I.MovAR 2) ∷ whole (I.MovRA 3) ∷ whole (I.MovAR 3)
+    ∷ whole (I.MovRA 4) ∷ whole (I.MovAR 4) ∷ whole I.Clc ∷ whole I.Stc
+    ∷ whole I.Ei ∷ whole I.Di ∷ whole I.Ret ∷ whole I.Reti
+    ∷ whole I.OutPaA ∷ whole I.IncA ∷ whole (I.InA Pm) ∷ whole (I.InA Ps)
+    ∷ whole (I.InA Pp) ∷ none ∷ whole I.Daa ∷ fixed 0x3e I.Halt
+    ∷ whole I.TimerOn ∷ whole I.TimerOff ∷ whole I.MovATmrl ∷ whole I.MovATmrh
+    ∷ whole I.MovTmrlA ∷ whole I.MovTmrhA ∷ whole I.Nop ∷ whole I.DecA
+    ∷ nibble I.AddAX ∷ nibble I.SubAX ∷ nibble I.AndAX ∷ nibble I.XorAX
+    ∷ nibble I.OrAX ∷ nibble I.SoundN ∷ nibble I.MovR4X ∷ byte I.TimerXX
+    ∷ whole I.SoundOne ∷ whole I.SoundLoop ∷ whole I.SoundOff ∷ whole I.SoundA
+    ∷ whole (I.ReadR4A Current) ∷ whole (I.ReadR4A F) ∷ whole (I.ReadMr0A Current) ∷ whole (I.ReadMr0A F)
     ∷ tab 16 (pair R1R0)
     (tab 16 (pair R3R2)
-    (tab 16 (λ (d : ℕ). whole (MovAX d))
+    (tab 16 (λ (d : ℕ). whole (I.MovAX d))
     (tab 8 (branch (Ja 0))
     (tab 8 (branch (Ja 1))
     (tab 8 (branch (Ja 2))
@@ -147,20 +87,16 @@ map =
     (tab 8 (branch Jnc)
     (tab 8 (branch Jtmr)
     (tab 8 (branch JnzR4)
-    (tab 16 (λ (high : ℕ). byte (λ (low : ℕ). Jmp (record { 0 = high * 256 + low })))
-    (tab 16 (λ (high : ℕ). byte (λ (low : ℕ). Call (record { 0 = high * 256 + low })))
+    (tab 16 (λ (high : ℕ). byte (λ (low : ℕ). I.Jmp (record { 0 = high * 256 + low })))
+    (tab 16 (λ (high : ℕ). byte (λ (low : ℕ). I.Call (record { 0 = high * 256 + low })))
     []))))))))))))))))
-
-abbrev pub pick : Bool → Decoded → Decoded
-pick true d = d
-pick false d = Unreadable
 
 -- an entry with its second byte
 abbrev pub complete : Entry → ℕ → Decoded
 complete none b = Unreadable
 complete (whole i) b = Read i
-complete (fixed k i) b = pick (eqb b k) (Read i)
-complete (nibble f) b = pick (ltb b 16) (Read (f b))
+complete (fixed k i) b = pick (eqb b k) (Read i) Unreadable
+complete (nibble f) b = pick (ltb b 16) (Read (f b)) Unreadable
 complete (byte f) b = Read (f b)
 
 unfoldable pub decoded : ℕ → ℕ → Decoded

@@ -6,68 +6,7 @@ use mathlib.Core.List.{List, [], _∷_}
 use lib.ListN.{getD}
 use Rattle.isa.specs.Reading.{Reads, Entry, none, whole, fixed, nibble, byte, map}
 use Rattle.isa.specs.declared.Instruction.{Instruction}
-use Rattle.isa.specs.declared.Instruction.the-variants.{
-  AddAM,
-  AdcAM,
-  SubAM,
-  SbcAM,
-  AddAX,
-  SubAX,
-  Daa,
-  AndAM,
-  OrAM,
-  XorAM,
-  AndMA,
-  OrMA,
-  XorMA,
-  AndAX,
-  OrAX,
-  XorAX,
-  IncA,
-  IncR,
-  IncM,
-  DecA,
-  DecR,
-  DecM,
-  MovAR,
-  MovRA,
-  MovAM,
-  MovMA,
-  MovAX,
-  MovPairXX,
-  MovR4X,
-  RlA,
-  RlcA,
-  RrA,
-  RrcA,
-  InA,
-  OutPaA,
-  Jmp,
-  Branch,
-  Call,
-  Ret,
-  Reti,
-  Clc,
-  Stc,
-  Ei,
-  Di,
-  Nop,
-  TimerXX,
-  TimerOn,
-  TimerOff,
-  MovATmrl,
-  MovATmrh,
-  MovTmrlA,
-  MovTmrhA,
-  ReadR4A,
-  ReadMr0A,
-  SoundN,
-  SoundA,
-  SoundOne,
-  SoundLoop,
-  SoundOff,
-  Halt,
-}
+use Rattle.isa.specs.declared.Instruction.the-variants as I
 
 pub record Columns : Type 0 where
   pub length : ℕ
@@ -78,66 +17,66 @@ columns l c = record { length = l; cycles = c }
 
 -- the summary, in its order: Byte, then Cycle
 unfoldable pub columnsOf : Instruction → Columns
-columnsOf AddAM = columns 1 1
-columnsOf AdcAM = columns 1 1
-columnsOf SubAM = columns 1 1
-columnsOf SbcAM = columns 1 1
-columnsOf (AddAX d) = columns 2 2
-columnsOf (SubAX d) = columns 2 2
-columnsOf Daa = columns 1 1
-columnsOf AndAM = columns 1 1
-columnsOf OrAM = columns 1 1
-columnsOf XorAM = columns 1 1
-columnsOf AndMA = columns 1 1
-columnsOf OrMA = columns 1 1
-columnsOf XorMA = columns 1 1
-columnsOf (AndAX d) = columns 2 2
-columnsOf (OrAX d) = columns 2 2
-columnsOf (XorAX d) = columns 2 2
-columnsOf IncA = columns 1 1
-columnsOf (IncR n) = columns 1 1
-columnsOf (IncM p) = columns 1 1
-columnsOf DecA = columns 1 1
-columnsOf (DecR n) = columns 1 1
-columnsOf (DecM p) = columns 1 1
-columnsOf (MovAR n) = columns 1 1
-columnsOf (MovRA n) = columns 1 1
-columnsOf (MovAM p) = columns 1 1
-columnsOf (MovMA p) = columns 1 1
-columnsOf (MovAX d) = columns 1 1
-columnsOf (MovPairXX p low high) = columns 2 2
-columnsOf (MovR4X d) = columns 2 2
-columnsOf RlA = columns 1 1
-columnsOf RlcA = columns 1 1
-columnsOf RrA = columns 1 1
-columnsOf RrcA = columns 1 1
-columnsOf (InA p) = columns 1 1
-columnsOf OutPaA = columns 1 1
-columnsOf (Jmp t) = columns 2 2
-columnsOf (Branch t k) = columns 2 2
-columnsOf (Call t) = columns 2 2
-columnsOf Ret = columns 1 1
-columnsOf Reti = columns 1 1
-columnsOf Clc = columns 1 1
-columnsOf Stc = columns 1 1
-columnsOf Ei = columns 1 1
-columnsOf Di = columns 1 1
-columnsOf Nop = columns 1 1
-columnsOf (TimerXX x) = columns 2 2
-columnsOf TimerOn = columns 1 1
-columnsOf TimerOff = columns 1 1
-columnsOf MovATmrl = columns 1 1
-columnsOf MovATmrh = columns 1 1
-columnsOf MovTmrlA = columns 1 1
-columnsOf MovTmrhA = columns 1 1
-columnsOf (ReadR4A p) = columns 1 2
-columnsOf (ReadMr0A p) = columns 1 2
-columnsOf (SoundN n) = columns 2 2
-columnsOf SoundA = columns 1 1
-columnsOf SoundOne = columns 1 1
-columnsOf SoundLoop = columns 1 1
-columnsOf SoundOff = columns 1 1
-columnsOf Halt = columns 2 2
+columnsOf I.AddAM = columns 1 1
+columnsOf I.AdcAM = columns 1 1
+columnsOf I.SubAM = columns 1 1
+columnsOf I.SbcAM = columns 1 1
+columnsOf (I.AddAX d) = columns 2 2
+columnsOf (I.SubAX d) = columns 2 2
+columnsOf I.Daa = columns 1 1
+columnsOf I.AndAM = columns 1 1
+columnsOf I.OrAM = columns 1 1
+columnsOf I.XorAM = columns 1 1
+columnsOf I.AndMA = columns 1 1
+columnsOf I.OrMA = columns 1 1
+columnsOf I.XorMA = columns 1 1
+columnsOf (I.AndAX d) = columns 2 2
+columnsOf (I.OrAX d) = columns 2 2
+columnsOf (I.XorAX d) = columns 2 2
+columnsOf I.IncA = columns 1 1
+columnsOf (I.IncR n) = columns 1 1
+columnsOf (I.IncM p) = columns 1 1
+columnsOf I.DecA = columns 1 1
+columnsOf (I.DecR n) = columns 1 1
+columnsOf (I.DecM p) = columns 1 1
+columnsOf (I.MovAR n) = columns 1 1
+columnsOf (I.MovRA n) = columns 1 1
+columnsOf (I.MovAM p) = columns 1 1
+columnsOf (I.MovMA p) = columns 1 1
+columnsOf (I.MovAX d) = columns 1 1
+columnsOf (I.MovPairXX p low high) = columns 2 2
+columnsOf (I.MovR4X d) = columns 2 2
+columnsOf I.RlA = columns 1 1
+columnsOf I.RlcA = columns 1 1
+columnsOf I.RrA = columns 1 1
+columnsOf I.RrcA = columns 1 1
+columnsOf (I.InA p) = columns 1 1
+columnsOf I.OutPaA = columns 1 1
+columnsOf (I.Jmp t) = columns 2 2
+columnsOf (I.Branch t k) = columns 2 2
+columnsOf (I.Call t) = columns 2 2
+columnsOf I.Ret = columns 1 1
+columnsOf I.Reti = columns 1 1
+columnsOf I.Clc = columns 1 1
+columnsOf I.Stc = columns 1 1
+columnsOf I.Ei = columns 1 1
+columnsOf I.Di = columns 1 1
+columnsOf I.Nop = columns 1 1
+columnsOf (I.TimerXX x) = columns 2 2
+columnsOf I.TimerOn = columns 1 1
+columnsOf I.TimerOff = columns 1 1
+columnsOf I.MovATmrl = columns 1 1
+columnsOf I.MovATmrh = columns 1 1
+columnsOf I.MovTmrlA = columns 1 1
+columnsOf I.MovTmrhA = columns 1 1
+columnsOf (I.ReadR4A p) = columns 1 2
+columnsOf (I.ReadMr0A p) = columns 1 2
+columnsOf (I.SoundN n) = columns 2 2
+columnsOf I.SoundA = columns 1 1
+columnsOf I.SoundOne = columns 1 1
+columnsOf I.SoundLoop = columns 1 1
+columnsOf I.SoundOff = columns 1 1
+columnsOf I.Halt = columns 2 2
 
 -- what the list's entry for a first byte is: the columns of every instruction that starts with it, 0 and 0 where there is none
 pub record Timed (a : ℕ) (c : Columns) : Type 0 where

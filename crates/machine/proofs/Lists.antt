@@ -9,11 +9,11 @@ use mathlib.Core.List.{List, [], _∷_}
 use lib.Dec.{ltb, eqb, lit<}
 use lib.ListN.{length, getD, drop, length-drop}
 use borrow.Author.Tests.{ltb-true, eqb-true, eq-eqb}
+use Rattle.isa.specs.Choice.{pick}
 use Rattle.isa.proofs.Exact.{and-left, and-right, and-both}
 use Rattle.datapath.specs.Alu.{flag}
 use Rattle.datapath.specs.Timer.{counted}
 use Rattle.cpu.specs.State.{State, state, withTf, withHalted, withPins}
-use Rattle.cpu.specs.Effect.{pick}
 use Rattle.cpu.specs.Step.{step, timed}
 use Rattle.cpu.specs.Range.{nibble, nibbles, valid, memoryOk, optionsOk}
 use Rattle.cpu.specs.declared.Cpu.{Cpu}

@@ -6,9 +6,9 @@ use mathlib.Core.List.{List, [], _∷_}
 use lib.Dec.{ltb, eqb}
 use lib.Bits.{bitAnd, bitXor}
 use lib.ListN.{length}
+use Rattle.isa.specs.Choice.{pick}
 use Rattle.datapath.specs.Timer.{counted}
 use Rattle.cpu.specs.State.{withHeld, withHalted, withPins}
-use Rattle.cpu.specs.Effect.{pick}
 use Rattle.cpu.specs.Step.{timed}
 use Rattle.cpu.specs.Range.{nibble, valid}
 use Rattle.cpu.specs.declared.Cpu.{Cpu}

@@ -4,8 +4,8 @@ use Prim.Native.Nat.{ℕ}
 use mathlib.Core.List.{List}
 use lib.Dec.{eqb}
 use lib.ListN.{length, getD, drop, replicate}
+use Rattle.isa.specs.Choice.{pick}
 use Rattle.cpu.specs.State.{address}
-use Rattle.cpu.specs.Effect.{pick}
 use Rattle.cpu.specs.Range.{nibbles, optionsOk}
 use Rattle.cpu.specs.declared.Cpu.{Cpu}
 use Rattle.cpu.specs.declared.Registers.{Registers}

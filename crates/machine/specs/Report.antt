@@ -5,8 +5,8 @@ use Prim.Native.Nat.{ℕ, zero, suc, _+_, _/_, _%_}
 use mathlib.Core.List.{List, [], _∷_, _++_}
 use lib.Dec.{eqb}
 use lib.ListN.{length}
+use Rattle.isa.specs.Choice.{pick}
 use Rattle.datapath.specs.Memory.{loaded}
-use Rattle.cpu.specs.Effect.{pick}
 use Rattle.cpu.specs.Range.{valid}
 use Rattle.cpu.specs.declared.Cpu.{Cpu}
 use Rattle.machine.specs.Machine.{stateOf}

@@ -1,12 +1,14 @@
 -- Reading at an address of a mask: document 01's numbers for what is refused, and what is read. Assumes nothing.
-use Prim.Native.Nat.{ℕ, _+_, _%_}
+use Prim.Native.Nat.{ℕ, _+_, _*_, _/_, _%_}
 use mathlib.Core.Bool.{Bool, true, false}
 use mathlib.Core.List.{List}
 use lib.Dec.{ltb, eqb}
 use lib.ListN.{length, getD}
+use Rattle.isa.specs.Choice.{pick}
 use Rattle.isa.specs.Reading.{decoded}
 use Rattle.isa.specs.Timing.{lengthOf, cyclesOf}
 use Rattle.isa.specs.declared.Instruction.{Instruction}
+use Rattle.isa.specs.declared.ProgramAddress.{ProgramAddress}
 use Rattle.isa.specs.declared.decoder.Decoded.{Decoded}
 use Rattle.isa.specs.declared.decoder.Decoded.the-variants.{Read, Unreadable}
 use Rattle.rom.specs.declared.reader.Fetched.{Fetched}
@@ -15,6 +17,28 @@ use Rattle.rom.specs.declared.reader.Fetched.the-variants.{BadMask, BadA
 -- "The byte after FFFh is the one at 0"
 abbrev pub byteAt : List ℕ → ℕ → ℕ
 byteAt mask a = getD mask (a % 4096) 0
+
+-- what stands at an address, for the engine, the checker and the reader alike
+abbrev pub readAt : List ℕ → ℕ → Decoded
+readAt mask a = decoded (byteAt mask a) (byteAt mask (a + 1))
+
+-- its length and cycles, by the list's entry for its first byte
+abbrev pub lengthAt : List ℕ → ℕ → ℕ
+lengthAt mask a = lengthOf (byteAt mask a)
+
+abbrev pub cyclesAt : List ℕ → ℕ → ℕ
+cyclesAt mask a = cyclesOf (byteAt mask a)
+
+-- "PC moves on by the length, modulo 4,096": the moved address
+abbrev pub movedBy : ℕ → ℕ → ℕ
+movedBy length a = (a + length) % 4096
+
+abbrev pub movedFrom : List ℕ → ℕ → ℕ
+movedFrom mask a = movedBy (lengthAt mask a) a
+
+-- "A conditional branch keeps bit 11 of that moved PC": bits 0 to 10 are the target's
+abbrev pub branchTo : ℕ → ProgramAddress → ℕ
+branchTo moved t = moved / 2048 * 2048 + t .0 % 2048
 
 -- what stands at an address: refused with a number, no instruction, or an instruction with its length and cycles
 pub data Answer : Type 0 where
@@ -29,17 +53,13 @@ answerOf BadAddress = refused 5
 answerOf Unread = unreadable
 answerOf (Fetch i l c) = instruction i l c
 
-abbrev pub pick : Bool → Answer → Answer → Answer
-pick true x y = x
-pick false x y = y
-
--- the bytes a, b with the list's entry for a
+-- a reading with the list's entry for its first byte
 abbrev pub withTiming : ℕ → Decoded → Answer
-withTiming a (Read i) = instruction i (lengthOf a) (cyclesOf a)
-withTiming a Unreadable = unreadable
+withTiming first (Read i) = instruction i (lengthOf first) (cyclesOf first)
+withTiming first Unreadable = unreadable
 
 abbrev pub standing : List ℕ → ℕ → Answer
-standing mask a = withTiming (byteAt mask a) (decoded (byteAt mask a) (byteAt mask (a + 1)))
+standing mask a = withTiming (byteAt mask a) (readAt mask a)
 
 -- "Checked in this order; the lowest number wins"
 abbrev pub fetching : List ℕ → ℕ → Answer

@@ -8,7 +8,7 @@ use mathlib.Core.List.{List, [], _∷_, map}
 use lib.Dec.{eqb}
 use lib.ListN.{length}
 use borrow.Author.Tests.{eq-eqb, eqb-true, eqb-false}
-use Rattle.cpu.specs.Effect.{pick}
+use Rattle.isa.specs.Choice.{pick}
 use Rattle.cpu.specs.Range.{nibbles, optionsOk, valid}
 use Rattle.cpu.proofs.Kept.{Bytes}
 use Rattle.machine.specs.Machine.{stateOf}

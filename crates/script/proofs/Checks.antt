@@ -8,7 +8,7 @@ use mathlib.Core.List.{List}
 use lib.Dec.{leb, eqb}
 use lib.ListN.{length}
 use borrow.Author.Tests.{eq-eqb, ne-eqb, le-leb, lt-leb, eqb-true, eqb-false, leb-true}
-use Rattle.cpu.specs.Effect.{pick}
+use Rattle.isa.specs.Choice.{pick}
 use Rattle.script.specs.Format.{sizeAt, kindAt, offsetsFrom, offsets}
 use Rattle.script.specs.Check.{refused, fine, unless, orElse, first, ruled, checked}
 use Rattle.script.specs.declared.Checked.{Checked}

@@ -7,7 +7,7 @@ use mathlib.Core.List.{List}
 use lib.Dec.{ltb, eqb}
 use lib.ListN.{length}
 use borrow.Author.Tests.{eq-eqb, ne-eqb, lt-ltb, le-ltb, ltb-true, ltb-false, eqb-true}
-use Rattle.cpu.specs.Effect.{pick}
+use Rattle.isa.specs.Choice.{pick}
 use Rattle.script.specs.Format.{sizeAt, kindAt, sizeOf}
 use Rattle.script.specs.Check.{formatAt}
 

@@ -8,7 +8,7 @@ use mathlib.Core.List.{List, [], _∷_}
 use lib.Dec.{ltb}
 use lib.ListN.{length}
 use borrow.Author.Tests.{lt-ltb, le-ltb, ltb-true, ltb-false}
-use Rattle.cpu.specs.Effect.{pick}
+use Rattle.isa.specs.Choice.{pick}
 use Rattle.script.specs.Format.{sizeAt, within, offsetsFrom}
 
 -- past the end

@@ -3,7 +3,7 @@ use Prim.Native.Nat.{ℕ, _+_}
 use mathlib.Core.List.{List, [], _∷_, _++_}
 use lib.Dec.{ltb, eqb}
 use lib.ListN.{length, drop}
-use Rattle.cpu.specs.Effect.{pick}
+use Rattle.isa.specs.Choice.{pick}
 use Rattle.machine.specs.Power.{blank}
 use Rattle.machine.specs.Events.{Input, answerTo}
 use Rattle.machine.specs.Report.{reported}

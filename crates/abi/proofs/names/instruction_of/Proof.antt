@@ -1,7 +1,7 @@
 -- `abi::names::instruction_of` meets its contract: an arm knows the form, and some the operand a, at which the list of forms computes.
 -- Assumes nothing.
 use mathlib.Core.Path.{ap, _∙_}
-use Rattle.isa.specs.declared.Instruction.the-variants.{IncM, DecM, MovAM, MovMA, InA, ReadR4A, ReadMr0A}
+use Rattle.isa.specs.declared.Instruction.the-variants as I
 use Rattle.abi.specs.Answers.{writingBy}
 use Rattle.abi.specs.Forms.{forms, named}
 use Rattle.abi.proofs.Arms.{at, at-both, past, no-pointer, no-port, no-page, no-form}
@@ -123,7 +123,7 @@ returns-21 : tie.Need-returns-21
 unfolding forms named
 returns-21 c =
     c .unnamed .ensures
-    ∙ ap writingBy (no-pointer IncM _ (past 2 _ (c .before .match2 .rest))) ∙ at _ 18 _ _ (c .before .before .match .keys19)
+    ∙ ap writingBy (no-pointer I.IncM _ (past 2 _ (c .before .match2 .rest))) ∙ at _ 18 _ _ (c .before .before .match .keys19)
 
 returns-22 : tie.Need-returns-22
 unfolding forms named
@@ -145,7 +145,7 @@ returns-26 : tie.Need-returns-26
 unfolding forms named
 returns-26 c =
     c .unnamed2 .ensures
-    ∙ ap writingBy (no-pointer DecM _ (past 2 _ (c .before .match3 .rest))) ∙ at _ 21 _ _ (c .before .before .match .keys22)
+    ∙ ap writingBy (no-pointer I.DecM _ (past 2 _ (c .before .match3 .rest))) ∙ at _ 21 _ _ (c .before .before .match .keys22)
 
 returns-27 : tie.Need-returns-27
 unfolding forms named
@@ -167,7 +167,7 @@ returns-31 : tie.Need-returns-31
 unfolding forms named
 returns-31 c =
     c .unnamed3 .ensures
-    ∙ ap writingBy (no-pointer MovAM _ (past 2 _ (c .before .match4 .rest))) ∙ at _ 24 _ _ (c .before .before .match .keys25)
+    ∙ ap writingBy (no-pointer I.MovAM _ (past 2 _ (c .before .match4 .rest))) ∙ at _ 24 _ _ (c .before .before .match .keys25)
 
 returns-32 : tie.Need-returns-32
 unfolding forms named
@@ -181,7 +181,7 @@ returns-34 : tie.Need-returns-34
 unfolding forms named
 returns-34 c =
     c .unnamed4 .ensures
-    ∙ ap writingBy (no-pointer MovMA _ (past 2 _ (c .before .match5 .rest))) ∙ at _ 25 _ _ (c .before .before .match .keys26)
+    ∙ ap writingBy (no-pointer I.MovMA _ (past 2 _ (c .before .match5 .rest))) ∙ at _ 25 _ _ (c .before .before .match .keys26)
 
 returns-35 : tie.Need-returns-35
 unfolding forms named
@@ -227,7 +227,7 @@ returns-45 : tie.Need-returns-45
 unfolding forms named
 returns-45 c =
     c .unnamed5 .ensures
-    ∙ ap writingBy (no-port InA _ (past 3 _ (c .before .match6 .rest))) ∙ at _ 33 _ _ (c .before .before .match .keys34)
+    ∙ ap writingBy (no-port I.InA _ (past 3 _ (c .before .match6 .rest))) ∙ at _ 33 _ _ (c .before .before .match .keys34)
 
 returns-46 : tie.Need-returns-46
 unfolding forms named
@@ -313,7 +313,7 @@ returns-66 : tie.Need-returns-66
 unfolding forms named
 returns-66 c =
     c .unnamed6 .ensures
-    ∙ ap writingBy (no-page ReadR4A _ (past 2 _ (c .before .match7 .rest))) ∙ at _ 52 _ _ (c .before .before .match .keys53)
+    ∙ ap writingBy (no-page I.ReadR4A _ (past 2 _ (c .before .match7 .rest))) ∙ at _ 52 _ _ (c .before .before .match .keys53)
 
 returns-67 : tie.Need-returns-67
 unfolding forms named
@@ -327,7 +327,7 @@ returns-69 : tie.Need-returns-69
 unfolding forms named
 returns-69 c =
     c .unnamed7 .ensures
-    ∙ ap writingBy (no-page ReadMr0A _ (past 2 _ (c .before .match8 .rest))) ∙ at _ 53 _ _ (c .before .before .match .keys54)
+    ∙ ap writingBy (no-page I.ReadMr0A _ (past 2 _ (c .before .match8 .rest))) ∙ at _ 53 _ _ (c .before .before .match .keys54)
 
 returns-70 : tie.Need-returns-70
 unfolding forms named

@@ -4,7 +4,7 @@ use mathlib.Core.Path.{refl, ap, _∙_}
 use native.Mathlib.Omega.{arith}
 use borrow.Author.Tests.{lt-ltb, le-ltb}
 use Rattle.isa.specs.declared.Pointer.{Pointer}
-use Rattle.isa.specs.declared.Instruction.the-variants.{MovPairXX}
+use Rattle.isa.specs.declared.Instruction.the-variants as I
 use Rattle.abi.specs.Forms.{pairNamed}
 use Rattle.abi.specs.Answers.{writingBy}
 use Rattle.abi.proofs.Arms.{past, no-pointer}
@@ -41,7 +41,7 @@ unfolding pairNamed
 returns-4 c =
     let b = c .before .before .before .args .b in
     c .unnamed2 .ensures
-    ∙ rw (lt-ltb b 256 (omega arith)) (ap writingBy (no-pointer (λ (p : Pointer). MovPairXX p (b % 16) (b / 16)) _ (past 2 _ (c .before .match .rest))))
+    ∙ rw (lt-ltb b 256 (omega arith)) (ap writingBy (no-pointer (λ (p : Pointer). I.MovPairXX p (b % 16) (b / 16)) _ (past 2 _ (c .before .match .rest))))
 
 pub pair-named-spec : {M : Type 1} → statement M
 pair-named-spec =

@@ -6,7 +6,8 @@ use borrow.Author.Tests.{eq-eqb, ne-eqb}
 use Rattle.isa.specs.declared.ProgramAddress.{ProgramAddress}
 use Rattle.checker.specs.declared.flow.Flow.{Flow}
 use Rattle.checker.specs.declared.flow.Flow.the-variants.{On, Enable, Jump, To, Sub, Back}
-use Rattle.checker.specs.Marks.{readAt, nestingFault, fault}
+use Rattle.checker.specs.Marks.{nestingFault, fault}
+use Rattle.rom.specs.Fetching.{readAt}
 use Rattle.checker.specs.Walk.{pairOf}
 use Rattle.checker.proofs.Fetched.{met}
 use Rattle.checker.proofs.Successors.{fault-unread, fault-flow}

@@ -8,10 +8,12 @@ use native.Mathlib.Omega.{arith}
 use lib.Dec.{eqb}
 use lib.ListN.{getD}
 use borrow.Author.Tests.{eq-eqb, ne-eqb}
+use Rattle.isa.specs.Choice.{pick}
 use Rattle.isa.specs.declared.ProgramAddress.{ProgramAddress}
 use Rattle.checker.specs.declared.flow.Flow.{Flow}
 use Rattle.checker.specs.declared.flow.Flow.the-variants.{On, Enable, Jump, To, Sub, Back}
-use Rattle.checker.specs.Marks.{readAt, pickPairs, nestingFault, handed, successors}
+use Rattle.checker.specs.Marks.{nestingFault, handed, successors}
+use Rattle.rom.specs.Fetching.{readAt}
 use Rattle.checker.specs.Walk.{pairOf, ranks}
 use Rattle.checker.proofs.Fetched.{met, length-in, entry-fits}
 use Rattle.checker.proofs.Reach.{Targets}
@@ -21,7 +23,7 @@ use Rattle.checker.proofs.next.next_codes.Statement.{statement}
 use Rattle.checker.proofs.next.next_codes.Tie as tie
 
 abbrev handed-on : Flow → ℕ → ℕ → List ℕ
-handed-on g moved l = ranks (pickPairs (eqb (nestingFault g l) 0) (handed g moved l) [])
+handed-on g moved l = ranks (pick (eqb (nestingFault g l) 0) (handed g moved l) [])
 
 read-at : (c : tie.After-decode) → c .decode .result ≡ readAt (c .before .before .before .before .args .mask .now) (c .before .before .before .before .args .code / 3)
 read-at c =
@@ -62,7 +64,7 @@ sub-other t moved l n = rw (ne-eqb l 0 n) refl
 back : (moved l : ℕ) → [] ≡ handed-on Back moved l
 back moved l = go (eqb (nestingFault Back l) 0)
   where
-    go : (b : Bool) → [] ≡ ranks (pickPairs b [] [])
+    go : (b : Bool) → [] ≡ ranks (pick b [] [])
     go true = refl
     go false = refl
 

@@ -1,8 +1,10 @@
 -- `cpu::Cpu::branch` meets its contract: the test and the tested processor are the definitions'. Assumes nothing.
 use mathlib.Core.Path.{_≡_, refl, sym, ap, _∙_}
 use mathlib.Core.Bool.{Bool, true, false}
-use Rattle.cpu.specs.Effect.{branchTarget, branched, holds, pick, tested}
-use Rattle.cpu.specs.State.{withPc}
+use Rattle.isa.specs.Choice.{pick}
+use Rattle.rom.specs.Fetching.{branchTo}
+use Rattle.cpu.specs.Effect.{branched, holds, tested}
+use Rattle.cpu.specs.State.{address, withPc}
 use Rattle.cpu.specs.declared.Cpu.{Cpu}
 use Rattle.isa.specs.declared.Condition.{Condition}
 use Rattle.isa.specs.declared.ProgramAddress.{ProgramAddress}
@@ -10,9 +12,9 @@ use borrow.Author.Needs.{needs}
 use Rattle.cpu.proofs.Cpu.branch.Statement.{statement}
 use Rattle.cpu.proofs.Cpu.branch.Tie as tie
 
-met : (k : Condition) (t : ProgramAddress) (s : Cpu) (taken : Bool) {next : Cpu} → holds k s ≡ taken → next ≡ tested k s → pick taken (withPc (branchTarget (s .control .pc) t) next) next ≡ branched k t s
+met : (k : Condition) (t : ProgramAddress) (s : Cpu) (taken : Bool) {next : Cpu} → holds k s ≡ taken → next ≡ tested k s → pick taken (withPc (address (branchTo (s .control .pc .0) t)) next) next ≡ branched k t s
 unfolding branched
-met k t s taken {next} e p = ap (λ (n : Cpu). pick taken (withPc (branchTarget (s .control .pc) t) n) n) p ∙ ap (λ (b : Bool). pick b (withPc (branchTarget (s .control .pc) t) (tested k s)) (tested k s)) (sym e)
+met k t s taken {next} e p = ap (λ (n : Cpu). pick taken (withPc (address (branchTo (s .control .pc .0) t)) n) n) p ∙ ap (λ (b : Bool). pick b (withPc (address (branchTo (s .control .pc .0) t)) (tested k s)) (tested k s)) (sym e)
 
 holds-requires : tie.Need-holds-requires
 holds-requires c κs = search needs

@@ -13,7 +13,7 @@ use borrow.Author.Tests.{lt-ltb, eqb-true, ltb-true, ltb-false}
 use Rattle.isa.specs.Code.{bytesOf, inRange, leading, bitInRange}
 use Rattle.isa.specs.Reading.{decoded, map}
 use Rattle.isa.specs.declared.Pointer.the-variants.{R1R0, R3R2}
-use Rattle.isa.specs.declared.Instruction.the-variants.{AddAX, SubAX, AndAX, OrAX, XorAX, MovR4X, SoundN, IncR, DecR, MovRA, MovAR, Jmp, Call}
+use Rattle.isa.specs.declared.Instruction.the-variants as I
 use Rattle.isa.specs.declared.Condition.the-variants.{Ja, JnzR0, JnzR1, JnzR4, Jz, JnzA, Jc, Jnc, Jtmr}
 use Rattle.isa.proofs.Arms.{NoneOf, anyOf, none-of}
 use Rattle.isa.proofs.Exact.{below-at, one-byte, two-byte, to-register, to-pair, to-target, to-address, no-pattern, other-halt, over, over-pair}
@@ -135,11 +135,11 @@ returns-16 c = one-byte refl refl (c .match .keys16)
 
 returns-17 : tie.Need-returns-17
 unfolding bytesOf inRange
-returns-17 c = to-register IncR 0x10 _ _ refl refl (⊎-elim (λ w. omega arith) (⊎-elim (λ w. omega arith) (⊎-elim (λ w. omega arith) (⊎-elim (λ w. omega arith) (λ w. omega arith)))) (c .match .keys17))
+returns-17 c = to-register I.IncR 0x10 _ _ refl refl (⊎-elim (λ w. omega arith) (⊎-elim (λ w. omega arith) (⊎-elim (λ w. omega arith) (⊎-elim (λ w. omega arith) (λ w. omega arith)))) (c .match .keys17))
 
 returns-18 : tie.Need-returns-18
 unfolding bytesOf inRange
-returns-18 c = to-register DecR 0x11 _ _ refl refl (⊎-elim (λ w. omega arith) (⊎-elim (λ w. omega arith) (⊎-elim (λ w. omega arith) (⊎-elim (λ w. omega arith) (λ w. omega arith)))) (c .match .keys18))
+returns-18 c = to-register I.DecR 0x11 _ _ refl refl (⊎-elim (λ w. omega arith) (⊎-elim (λ w. omega arith) (⊎-elim (λ w. omega arith) (⊎-elim (λ w. omega arith) (λ w. omega arith)))) (c .match .keys18))
 
 returns-19 : tie.Need-returns-19
 unfolding bytesOf inRange
@@ -167,11 +167,11 @@ returns-24 c = one-byte refl refl (c .match .keys24)
 
 returns-25 : tie.Need-returns-25
 unfolding bytesOf inRange
-returns-25 c = to-register MovRA 0x20 _ _ refl refl (⊎-elim (λ w. omega arith) (⊎-elim (λ w. omega arith) (⊎-elim (λ w. omega arith) (⊎-elim (λ w. omega arith) (λ w. omega arith)))) (c .match .keys25))
+returns-25 c = to-register I.MovRA 0x20 _ _ refl refl (⊎-elim (λ w. omega arith) (⊎-elim (λ w. omega arith) (⊎-elim (λ w. omega arith) (⊎-elim (λ w. omega arith) (λ w. omega arith)))) (c .match .keys25))
 
 returns-26 : tie.Need-returns-26
 unfolding bytesOf inRange
-returns-26 c = to-register MovAR 0x21 _ _ refl refl (⊎-elim (λ w. omega arith) (⊎-elim (λ w. omega arith) (⊎-elim (λ w. omega arith) (⊎-elim (λ w. omega arith) (λ w. omega arith)))) (c .match .keys26))
+returns-26 c = to-register I.MovAR 0x21 _ _ refl refl (⊎-elim (λ w. omega arith) (⊎-elim (λ w. omega arith) (⊎-elim (λ w. omega arith) (⊎-elim (λ w. omega arith) (λ w. omega arith)))) (c .match .keys26))
 
 returns-27 : tie.Need-returns-27
 unfolding bytesOf inRange
@@ -266,7 +266,7 @@ returns-49 c = two-byte (lt-ltb _ 16 (c .if2 .taken)) refl (c .before .match .ke
 
 returns-50 : tie.Need-returns-50
 unfolding decoded map
-returns-50 c = over _ _ AddAX (c .if2 .left) (rw (c .before .match .keys48) refl)
+returns-50 c = over _ _ I.AddAX (c .if2 .left) (rw (c .before .match .keys48) refl)
 
 returns-51 : tie.Need-returns-51
 unfolding bytesOf inRange
@@ -274,7 +274,7 @@ returns-51 c = two-byte (lt-ltb _ 16 (c .if3 .taken)) refl (c .before .match .ke
 
 returns-52 : tie.Need-returns-52
 unfolding decoded map
-returns-52 c = over _ _ SubAX (c .if3 .left) (rw (c .before .match .keys49) refl)
+returns-52 c = over _ _ I.SubAX (c .if3 .left) (rw (c .before .match .keys49) refl)
 
 returns-53 : tie.Need-returns-53
 unfolding bytesOf inRange
@@ -282,7 +282,7 @@ returns-53 c = two-byte (lt-ltb _ 16 (c .if4 .taken)) refl (c .before .match .ke
 
 returns-54 : tie.Need-returns-54
 unfolding decoded map
-returns-54 c = over _ _ AndAX (c .if4 .left) (rw (c .before .match .keys50) refl)
+returns-54 c = over _ _ I.AndAX (c .if4 .left) (rw (c .before .match .keys50) refl)
 
 returns-55 : tie.Need-returns-55
 unfolding bytesOf inRange
@@ -290,7 +290,7 @@ returns-55 c = two-byte (lt-ltb _ 16 (c .if5 .taken)) refl (c .before .match .ke
 
 returns-56 : tie.Need-returns-56
 unfolding decoded map
-returns-56 c = over _ _ XorAX (c .if5 .left) (rw (c .before .match .keys51) refl)
+returns-56 c = over _ _ I.XorAX (c .if5 .left) (rw (c .before .match .keys51) refl)
 
 returns-57 : tie.Need-returns-57
 unfolding bytesOf inRange
@@ -298,7 +298,7 @@ returns-57 c = two-byte (lt-ltb _ 16 (c .if6 .taken)) refl (c .before .match .ke
 
 returns-58 : tie.Need-returns-58
 unfolding decoded map
-returns-58 c = over _ _ OrAX (c .if6 .left) (rw (c .before .match .keys52) refl)
+returns-58 c = over _ _ I.OrAX (c .if6 .left) (rw (c .before .match .keys52) refl)
 
 returns-59 : tie.Need-returns-59
 unfolding bytesOf inRange
@@ -306,7 +306,7 @@ returns-59 c = two-byte (lt-ltb _ 16 (c .if7 .taken)) refl (c .before .match .ke
 
 returns-60 : tie.Need-returns-60
 unfolding decoded map
-returns-60 c = over _ _ SoundN (c .if7 .left) (rw (c .before .match .keys53) refl)
+returns-60 c = over _ _ I.SoundN (c .if7 .left) (rw (c .before .match .keys53) refl)
 
 returns-61 : tie.Need-returns-61
 unfolding bytesOf inRange
@@ -314,7 +314,7 @@ returns-61 c = two-byte (lt-ltb _ 16 (c .if8 .taken)) refl (c .before .match .ke
 
 returns-62 : tie.Need-returns-62
 unfolding decoded map
-returns-62 c = over _ _ MovR4X (c .if8 .left) (rw (c .before .match .keys54) refl)
+returns-62 c = over _ _ I.MovR4X (c .if8 .left) (rw (c .before .match .keys54) refl)
 
 returns-63 : tie.Need-returns-63
 unfolding bytesOf inRange
@@ -414,11 +414,11 @@ returns-86 c = to-target JnzR4 _ _ (omega arith) refl (omega arith)
 
 returns-87 : tie.Need-returns-87
 unfolding bytesOf inRange
-returns-87 c = to-address Jmp 0xe0 _ _ refl refl (omega arith) (omega arith)
+returns-87 c = to-address I.Jmp 0xe0 _ _ refl refl (omega arith) (omega arith)
 
 returns-88 : tie.Need-returns-88
 unfolding bytesOf inRange
-returns-88 c = to-address Call 0xf0 _ _ refl refl (omega arith) (omega arith)
+returns-88 c = to-address I.Call 0xf0 _ _ refl refl (omega arith) (omega arith)
 
 pub decode-spec : {M : Type 1} → statement M
 decode-spec =

@@ -7,7 +7,7 @@ use native.Mathlib.Omega.{arith}
 use lib.Dec.{eqb}
 use lib.ListN.{length}
 use borrow.Author.Tests.{eqb-true}
-use Rattle.cpu.specs.Effect.{pick}
+use Rattle.isa.specs.Choice.{pick}
 use Rattle.cpu.specs.Range.{nibbles, optionsOk}
 use Rattle.cpu.specs.declared.Options.{Options}
 use Rattle.machine.specs.Power.{powered, powerOn, powerRefusal}

@@ -1,9 +1,9 @@
 -- `machine::events::counting` meets its contract: the test, the count and the flag are the definitions'. Assumes nothing.
 use mathlib.Core.Path.{_≡_, refl, sym, ap, _∙_}
 use mathlib.Core.Bool.{Bool, true, false}
+use Rattle.isa.specs.Choice.{pick}
 use Rattle.datapath.specs.declared.timer.Count.{Count}
 use Rattle.datapath.specs.Timer.{counted}
-use Rattle.cpu.specs.Effect.{pick}
 use Rattle.cpu.specs.Step.{timed}
 use Rattle.machine.specs.Events.{clocked, counting}
 use borrow.Author.Needs.{needs}

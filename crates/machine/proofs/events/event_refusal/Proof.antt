@@ -6,7 +6,7 @@ use native.Mathlib.Omega.{arith}
 use lib.Dec.{ltb}
 use lib.ListN.{length}
 use borrow.Author.Tests.{eq-eqb, ne-eqb, lt-ltb, le-ltb}
-use Rattle.cpu.specs.Effect.{pick}
+use Rattle.isa.specs.Choice.{pick}
 use Rattle.machine.specs.Events.{eventRefusal}
 use borrow.Author.Needs.{needs}
 use Rattle.machine.proofs.events.event_refusal.Statement.{statement}

@@ -1,7 +1,7 @@
 -- `machine::events::pinned` meets its contract: the test and the ports are the definitions'. Assumes nothing.
 use mathlib.Core.Path.{_≡_, refl, sym, ap, _∙_}
 use mathlib.Core.Bool.{Bool}
-use Rattle.cpu.specs.Effect.{pick}
+use Rattle.isa.specs.Choice.{pick}
 use Rattle.cpu.specs.declared.Cpu.{Cpu}
 use Rattle.machine.specs.Events.{pinned, wakes, withPorts, woken}
 use borrow.Author.Needs.{needs}

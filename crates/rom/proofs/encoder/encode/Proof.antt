@@ -10,7 +10,7 @@ use Rattle.isa.specs.Code.{bytesOf, inRange}
 use Rattle.isa.specs.declared.Pointer.{Pointer}
 use Rattle.isa.specs.declared.Port.{Port}
 use Rattle.isa.specs.declared.Page.{Page}
-use Rattle.isa.specs.declared.Instruction.the-variants.{IncM, DecM, MovAM, MovMA, MovPairXX, InA, ReadR4A, ReadMr0A}
+use Rattle.isa.specs.declared.Instruction.the-variants as I
 use borrow.Author.Needs.{needs}
 use Rattle.rom.proofs.encoder.encode.Statement.{statement}
 use Rattle.rom.proofs.encoder.encode.Tie as tie
@@ -371,11 +371,11 @@ returns-18 c = c .with-register .ensures ∙ sym (ap writing (c .before .before 
 
 returns-19 : tie.Need-returns-19
 unfolding bytesOf inRange
-returns-19 c = sym (ap writing (c .before .before .before .instruction7 .given .1) ∙ ap (λ (p : Pointer). writing (IncM p)) (c .enum-told13 .given .1))
+returns-19 c = sym (ap writing (c .before .before .before .instruction7 .given .1) ∙ ap (λ (p : Pointer). writing (I.IncM p)) (c .enum-told13 .given .1))
 
 returns-20 : tie.Need-returns-20
 unfolding bytesOf inRange
-returns-20 c = sym (ap writing (c .before .before .before .instruction7 .given .1) ∙ ap (λ (p : Pointer). writing (IncM p)) (c .enum-told14 .given .1))
+returns-20 c = sym (ap writing (c .before .before .before .instruction7 .given .1) ∙ ap (λ (p : Pointer). writing (I.IncM p)) (c .enum-told14 .given .1))
 
 returns-21 : tie.Need-returns-21
 unfolding bytesOf inRange
@@ -387,11 +387,11 @@ returns-22 c = c .with-register2 .ensures ∙ sym (ap writing (c .before .before
 
 returns-23 : tie.Need-returns-23
 unfolding bytesOf inRange
-returns-23 c = sym (ap writing (c .before .before .before .instruction9 .given .1) ∙ ap (λ (p : Pointer). writing (DecM p)) (c .enum-told16 .given .1))
+returns-23 c = sym (ap writing (c .before .before .before .instruction9 .given .1) ∙ ap (λ (p : Pointer). writing (I.DecM p)) (c .enum-told16 .given .1))
 
 returns-24 : tie.Need-returns-24
 unfolding bytesOf inRange
-returns-24 c = sym (ap writing (c .before .before .before .instruction9 .given .1) ∙ ap (λ (p : Pointer). writing (DecM p)) (c .enum-told17 .given .1))
+returns-24 c = sym (ap writing (c .before .before .before .instruction9 .given .1) ∙ ap (λ (p : Pointer). writing (I.DecM p)) (c .enum-told17 .given .1))
 
 returns-25 : tie.Need-returns-25
 unfolding bytesOf inRange
@@ -403,19 +403,19 @@ returns-26 c = c .with-register4 .ensures ∙ sym (ap writing (c .before .before
 
 returns-27 : tie.Need-returns-27
 unfolding bytesOf inRange
-returns-27 c = sym (ap writing (c .before .before .before .instruction12 .given .1) ∙ ap (λ (p : Pointer). writing (MovAM p)) (c .enum-told18 .given .1))
+returns-27 c = sym (ap writing (c .before .before .before .instruction12 .given .1) ∙ ap (λ (p : Pointer). writing (I.MovAM p)) (c .enum-told18 .given .1))
 
 returns-28 : tie.Need-returns-28
 unfolding bytesOf inRange
-returns-28 c = sym (ap writing (c .before .before .before .instruction12 .given .1) ∙ ap (λ (p : Pointer). writing (MovAM p)) (c .enum-told19 .given .1))
+returns-28 c = sym (ap writing (c .before .before .before .instruction12 .given .1) ∙ ap (λ (p : Pointer). writing (I.MovAM p)) (c .enum-told19 .given .1))
 
 returns-29 : tie.Need-returns-29
 unfolding bytesOf inRange
-returns-29 c = sym (ap writing (c .before .before .before .instruction13 .given .1) ∙ ap (λ (p : Pointer). writing (MovMA p)) (c .enum-told20 .given .1))
+returns-29 c = sym (ap writing (c .before .before .before .instruction13 .given .1) ∙ ap (λ (p : Pointer). writing (I.MovMA p)) (c .enum-told20 .given .1))
 
 returns-30 : tie.Need-returns-30
 unfolding bytesOf inRange
-returns-30 c = sym (ap writing (c .before .before .before .instruction13 .given .1) ∙ ap (λ (p : Pointer). writing (MovMA p)) (c .enum-told21 .given .1))
+returns-30 c = sym (ap writing (c .before .before .before .instruction13 .given .1) ∙ ap (λ (p : Pointer). writing (I.MovMA p)) (c .enum-told21 .given .1))
 
 returns-31 : tie.Need-returns-31
 unfolding bytesOf inRange
@@ -423,11 +423,11 @@ returns-31 c = c .with-low-nibble .ensures ∙ sym (ap writing (c .before .befor
 
 returns-32 : tie.Need-returns-32
 unfolding bytesOf inRange
-returns-32 c = c .with-nibbles .ensures ∙ sym (ap writing (c .before .before .before .before .instruction15 .given .1) ∙ ap (λ (p : Pointer). writing (MovPairXX p (c .before .before .before .before .instruction15 .given .0 .1 .0) (c .before .before .before .before .instruction15 .given .0 .1 .1 .0))) (c .before .enum-told22 .given .1))
+returns-32 c = c .with-nibbles .ensures ∙ sym (ap writing (c .before .before .before .before .instruction15 .given .1) ∙ ap (λ (p : Pointer). writing (I.MovPairXX p (c .before .before .before .before .instruction15 .given .0 .1 .0) (c .before .before .before .before .instruction15 .given .0 .1 .1 .0))) (c .before .enum-told22 .given .1))
 
 returns-33 : tie.Need-returns-33
 unfolding bytesOf inRange
-returns-33 c = c .with-nibbles2 .ensures ∙ sym (ap writing (c .before .before .before .before .instruction15 .given .1) ∙ ap (λ (p : Pointer). writing (MovPairXX p (c .before .before .before .before .instruction15 .given .0 .1 .0) (c .before .before .before .before .instruction15 .given .0 .1 .1 .0))) (c .before .enum-told23 .given .1))
+returns-33 c = c .with-nibbles2 .ensures ∙ sym (ap writing (c .before .before .before .before .instruction15 .given .1) ∙ ap (λ (p : Pointer). writing (I.MovPairXX p (c .before .before .before .before .instruction15 .given .0 .1 .0) (c .before .before .before .before .instruction15 .given .0 .1 .1 .0))) (c .before .enum-told23 .given .1))
 
 returns-34 : tie.Need-returns-34
 unfolding bytesOf inRange
@@ -451,15 +451,15 @@ returns-38 c = sym (ap writing (c .enum-told27 .given .1))
 
 returns-39 : tie.Need-returns-39
 unfolding bytesOf inRange
-returns-39 c = sym (ap writing (c .before .before .before .instruction17 .given .1) ∙ ap (λ (p : Port). writing (InA p)) (c .enum-told28 .given .1))
+returns-39 c = sym (ap writing (c .before .before .before .instruction17 .given .1) ∙ ap (λ (p : Port). writing (I.InA p)) (c .enum-told28 .given .1))
 
 returns-40 : tie.Need-returns-40
 unfolding bytesOf inRange
-returns-40 c = sym (ap writing (c .before .before .before .instruction17 .given .1) ∙ ap (λ (p : Port). writing (InA p)) (c .enum-told29 .given .1))
+returns-40 c = sym (ap writing (c .before .before .before .instruction17 .given .1) ∙ ap (λ (p : Port). writing (I.InA p)) (c .enum-told29 .given .1))
 
 returns-41 : tie.Need-returns-41
 unfolding bytesOf inRange
-returns-41 c = sym (ap writing (c .before .before .before .instruction17 .given .1) ∙ ap (λ (p : Port). writing (InA p)) (c .enum-told30 .given .1))
+returns-41 c = sym (ap writing (c .before .before .before .instruction17 .given .1) ∙ ap (λ (p : Port). writing (I.InA p)) (c .enum-told30 .given .1))
 
 returns-42 : tie.Need-returns-42
 unfolding bytesOf inRange
@@ -535,19 +535,19 @@ returns-59 c = sym (ap writing (c .enum-told44 .given .1))
 
 returns-60 : tie.Need-returns-60
 unfolding bytesOf inRange
-returns-60 c = sym (ap writing (c .before .before .before .instruction22 .given .1) ∙ ap (λ (p : Page). writing (ReadR4A p)) (c .enum-told45 .given .1))
+returns-60 c = sym (ap writing (c .before .before .before .instruction22 .given .1) ∙ ap (λ (p : Page). writing (I.ReadR4A p)) (c .enum-told45 .given .1))
 
 returns-61 : tie.Need-returns-61
 unfolding bytesOf inRange
-returns-61 c = sym (ap writing (c .before .before .before .instruction22 .given .1) ∙ ap (λ (p : Page). writing (ReadR4A p)) (c .enum-told46 .given .1))
+returns-61 c = sym (ap writing (c .before .before .before .instruction22 .given .1) ∙ ap (λ (p : Page). writing (I.ReadR4A p)) (c .enum-told46 .given .1))
 
 returns-62 : tie.Need-returns-62
 unfolding bytesOf inRange
-returns-62 c = sym (ap writing (c .before .before .before .instruction23 .given .1) ∙ ap (λ (p : Page). writing (ReadMr0A p)) (c .enum-told47 .given .1))
+returns-62 c = sym (ap writing (c .before .before .before .instruction23 .given .1) ∙ ap (λ (p : Page). writing (I.ReadMr0A p)) (c .enum-told47 .given .1))
 
 returns-63 : tie.Need-returns-63
 unfolding bytesOf inRange
-returns-63 c = sym (ap writing (c .before .before .before .instruction23 .given .1) ∙ ap (λ (p : Page). writing (ReadMr0A p)) (c .enum-told48 .given .1))
+returns-63 c = sym (ap writing (c .before .before .before .instruction23 .given .1) ∙ ap (λ (p : Page). writing (I.ReadMr0A p)) (c .enum-told48 .given .1))
 
 returns-64 : tie.Need-returns-64
 unfolding bytesOf inRange

@@ -9,15 +9,15 @@ use Rattle.isa.specs.Code.{bytesOf, inRange, leading, bitInRange}
 use Rattle.isa.specs.declared.ProgramAddress.{ProgramAddress}
 use Rattle.isa.specs.declared.Condition.{Condition}
 use Rattle.isa.specs.declared.Condition.the-variants.{Ja}
-use Rattle.isa.specs.declared.Instruction.the-variants.{Branch}
+use Rattle.isa.specs.declared.Instruction.the-variants as I
 use borrow.Author.Needs.{needs}
 use Rattle.rom.proofs.encoder.with_condition.Statement.{statement}
 use Rattle.rom.proofs.encoder.with_condition.Tie as tie
 
 -- JAn, by whether its bit is one of the four
-ja : (n : ℕ) (t : ProgramAddress) {b : Bool} → ltb n 4 ≡ b → writing (Branch t (Ja n)) ≡ fitting (b && ltb (t .0) 2048) (bytesOf (Branch t (Ja n)))
+ja : (n : ℕ) (t : ProgramAddress) {b : Bool} → ltb n 4 ≡ b → writing (I.Branch t (Ja n)) ≡ fitting (b && ltb (t .0) 2048) (bytesOf (I.Branch t (Ja n)))
 unfolding inRange bitInRange
-ja n t e = ap (λ (b : Bool). fitting (b && ltb (t .0) 2048) (bytesOf (Branch t (Ja n)))) e
+ja n t e = ap (λ (b : Bool). fitting (b && ltb (t .0) 2048) (bytesOf (I.Branch t (Ja n)))) e
 
 enum-known-condition : tie.Need-enum-known-condition
 enum-known-condition c = search needs
@@ -35,7 +35,7 @@ returns : tie.Need-returns
 unfolding bytesOf inRange leading bitInRange
 returns c =
     c .with-address .ensures
-    ∙ sym (ap (λ (k : Condition). writing (Branch (c .before .before .before .before .before .args .target) k)) (c .before .before .before .condition .given .1)
+    ∙ sym (ap (λ (k : Condition). writing (I.Branch (c .before .before .before .before .before .args .target) k)) (c .before .before .before .condition .given .1)
     ∙ ja (c .before .before .before .condition .given .0 .0) (c .before .before .before .before .before .args .target) (lt-ltb (c .before .before .before .condition .given .0 .0) 4 (c .before .if1 .taken)))
 
 enum-told : tie.Need-enum-told
@@ -89,40 +89,40 @@ with-address-requires-9 c κs = search needs
 returns-2 : tie.Need-returns-2
 unfolding bytesOf inRange leading bitInRange
 returns-2 c =
-    sym (ap (λ (k : Condition). writing (Branch (c .before .before .before .before .args .target) k)) (c .before .before .condition .given .1)
+    sym (ap (λ (k : Condition). writing (I.Branch (c .before .before .before .before .args .target) k)) (c .before .before .condition .given .1)
     ∙ ja (c .before .before .condition .given .0 .0) (c .before .before .before .before .args .target) (le-ltb (c .before .before .condition .given .0 .0) 4 (c .if1 .left)))
 
 returns-3 : tie.Need-returns-3
 unfolding bytesOf inRange leading bitInRange
-returns-3 c = c .with-address2 .ensures ∙ sym (ap (λ (k : Condition). writing (Branch (c .before .before .before .args .target) k)) (c .before .enum-told .given .1))
+returns-3 c = c .with-address2 .ensures ∙ sym (ap (λ (k : Condition). writing (I.Branch (c .before .before .before .args .target) k)) (c .before .enum-told .given .1))
 
 returns-4 : tie.Need-returns-4
 unfolding bytesOf inRange leading bitInRange
-returns-4 c = c .with-address3 .ensures ∙ sym (ap (λ (k : Condition). writing (Branch (c .before .before .before .args .target) k)) (c .before .enum-told2 .given .1))
+returns-4 c = c .with-address3 .ensures ∙ sym (ap (λ (k : Condition). writing (I.Branch (c .before .before .before .args .target) k)) (c .before .enum-told2 .given .1))
 
 returns-5 : tie.Need-returns-5
 unfolding bytesOf inRange leading bitInRange
-returns-5 c = c .with-address4 .ensures ∙ sym (ap (λ (k : Condition). writing (Branch (c .before .before .before .args .target) k)) (c .before .enum-told3 .given .1))
+returns-5 c = c .with-address4 .ensures ∙ sym (ap (λ (k : Condition). writing (I.Branch (c .before .before .before .args .target) k)) (c .before .enum-told3 .given .1))
 
 returns-6 : tie.Need-returns-6
 unfolding bytesOf inRange leading bitInRange
-returns-6 c = c .with-address5 .ensures ∙ sym (ap (λ (k : Condition). writing (Branch (c .before .before .before .args .target) k)) (c .before .enum-told4 .given .1))
+returns-6 c = c .with-address5 .ensures ∙ sym (ap (λ (k : Condition). writing (I.Branch (c .before .before .before .args .target) k)) (c .before .enum-told4 .given .1))
 
 returns-7 : tie.Need-returns-7
 unfolding bytesOf inRange leading bitInRange
-returns-7 c = c .with-address6 .ensures ∙ sym (ap (λ (k : Condition). writing (Branch (c .before .before .before .args .target) k)) (c .before .enum-told5 .given .1))
+returns-7 c = c .with-address6 .ensures ∙ sym (ap (λ (k : Condition). writing (I.Branch (c .before .before .before .args .target) k)) (c .before .enum-told5 .given .1))
 
 returns-8 : tie.Need-returns-8
 unfolding bytesOf inRange leading bitInRange
-returns-8 c = c .with-address7 .ensures ∙ sym (ap (λ (k : Condition). writing (Branch (c .before .before .before .args .target) k)) (c .before .enum-told6 .given .1))
+returns-8 c = c .with-address7 .ensures ∙ sym (ap (λ (k : Condition). writing (I.Branch (c .before .before .before .args .target) k)) (c .before .enum-told6 .given .1))
 
 returns-9 : tie.Need-returns-9
 unfolding bytesOf inRange leading bitInRange
-returns-9 c = c .with-address8 .ensures ∙ sym (ap (λ (k : Condition). writing (Branch (c .before .before .before .args .target) k)) (c .before .enum-told7 .given .1))
+returns-9 c = c .with-address8 .ensures ∙ sym (ap (λ (k : Condition). writing (I.Branch (c .before .before .before .args .target) k)) (c .before .enum-told7 .given .1))
 
 returns-10 : tie.Need-returns-10
 unfolding bytesOf inRange leading bitInRange
-returns-10 c = c .with-address9 .ensures ∙ sym (ap (λ (k : Condition). writing (Branch (c .before .before .before .args .target) k)) (c .before .enum-told8 .given .1))
+returns-10 c = c .with-address9 .ensures ∙ sym (ap (λ (k : Condition). writing (I.Branch (c .before .before .before .args .target) k)) (c .before .enum-told8 .given .1))
 
 pub with-condition-spec : {M : Type 1} → statement M
 with-condition-spec =

@@ -1,7 +1,7 @@
 -- `script::check::choice` meets its contract: only a power-on has options. Assumes nothing.
 use mathlib.Core.Path.{sym, ap, _∙_}
 use mathlib.Core.Bool.{Bool}
-use Rattle.cpu.specs.Effect.{pick}
+use Rattle.isa.specs.Choice.{pick}
 use Rattle.script.specs.Format.{inputOf}
 use Rattle.script.specs.Check.{choiceOf}
 use Rattle.script.specs.declared.Record.{Record}

@@ -4,7 +4,7 @@ use mathlib.Core.Path.{sym, ap, _∙_}
 use mathlib.Core.Bool.{Bool}
 use lib.Dec.{ltb}
 use borrow.Author.Tests.{le-ltb}
-use Rattle.cpu.specs.Effect.{pick}
+use Rattle.isa.specs.Choice.{pick}
 use Rattle.machine.specs.Events.{event}
 use Rattle.machine.specs.declared.events.Event.{Event}
 use Rattle.script.specs.Check.{valueOf}

@@ -1,7 +1,7 @@
 -- `script::check::value` meets its contract: a power-on has one nibble to test. Assumes nothing.
 use mathlib.Core.Path.{sym, ap, _∙_}
 use mathlib.Core.Bool.{Bool}
-use Rattle.cpu.specs.Effect.{pick}
+use Rattle.isa.specs.Choice.{pick}
 use Rattle.script.specs.Format.{inputOf}
 use Rattle.script.specs.Check.{valueOf}
 use Rattle.script.specs.declared.Record.{Record}
