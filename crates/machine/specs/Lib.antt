@@ -1,4 +1,5 @@
 pub mod Events
 pub mod Machine
 pub mod Power
+pub mod Property2
 pub mod Report

@@ -6,7 +6,7 @@ use mathlib.Core.Path.{_≡_, refl, sym, ap, ap₂, _∙_}
 use mathlib.Core.List.{List, [], _∷_, _++_, map}
 use lib.ListN.{length, getD, drop, drop-of-length-le}
 use lib.Seq.{drop-cons}
-use Rattle.cpu.proofs.Kept.{Bytes}
+use Rattle.rom.specs.Fetching.{Bytes}
 use Rattle.machine.specs.Report.{places}
 use Rattle.script.specs.Format.{wordAt, sizeAt, kindAt, payloadAt, sizeOf, offsetsFrom, offsets, inputAt, inputs, pair, written, writtenAll}
 use Rattle.script.specs.Check.{first, ruled, checked}

@@ -8,7 +8,7 @@ use mathlib.Core.Bool.{true}
 use mathlib.Core.List.{List, _++_}
 use lib.ListN.{length, take, drop}
 use Rattle.cpu.specs.Range.{valid}
-use Rattle.cpu.proofs.Kept.{Bytes}
+use Rattle.rom.specs.Fetching.{Bytes}
 use Rattle.machine.specs.Machine.{stateOf}
 use Rattle.machine.specs.Power.{blank}
 use Rattle.machine.specs.Report.{reported}
