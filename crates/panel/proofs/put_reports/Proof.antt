@@ -33,7 +33,7 @@ put-report-requires c κs = search needs
 loop-less : tie.Need-loop-less Inv-loop μ-loop
 loop-less c =
     let l = c .before .before .before .before .before in
-    let a = l .before .before .before .before .args in
+    let a = l .before .before .before .before .before .args in
     let r = c .before .before .before .step-record .ensures in
     let e =
     ap (λ (p : Progress). p .at) r
