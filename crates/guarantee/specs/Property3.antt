@@ -3,6 +3,7 @@
 -- the machine that the one before answered. Assumes nothing.
 use Prim.Native.Nat.{ℕ, _<_}
 use mathlib.Core.Path.{_≡_}
+use mathlib.Core.Bool.{true}
 use mathlib.Core.List.{List}
 use lib.ListN.{getD}
 use Rattle.cpu.specs.declared.Options.{Options}
@@ -10,7 +11,7 @@ use Rattle.machine.specs.Power.{powered, powerOn}
 use Rattle.machine.specs.Events.{Input, after, Session}
 use Rattle.machine.specs.declared.Machine.{Machine}
 use Rattle.machine.specs.declared.Answer.{Answer}
-use Rattle.checker.specs.Verdicts.{Answers, levelBit}
+use Rattle.checker.specs.Verdicts.{Answers, isMarked}
 use Rattle.checker.specs.declared.check.Verdict.the-variants.{Passed}
 
 -- what is assumed: the mask is bytes, the checker passed it and wrote these marks, and a power-on was accepted, whatever machine was there
@@ -26,7 +27,7 @@ pub record Given (mask old marks : List ℕ) (options : Options) (image : List �
 pub record Holds (mask marks : List ℕ) (options : Options) (image : List ℕ) (inputs : List Input) (last : Machine) : Type 0 where
   pub state : last ≡ after mask inputs (powered options image)
   pub no-fault : last .cpu .status .fault ≡ 0
-  pub marked : levelBit (getD marks (last .cpu .control .pc .0) 0) (last .cpu .interrupts .level) ≡ 1
+  pub marked : isMarked marks (last .cpu .control .pc .0) (last .cpu .interrupts .level) ≡ true
 
 -- "The list starts from the machine that an accepted power-on returned. Its events are kinds 1 to 6, in any order and number .. a refused one
 -- leaves it as it was, and a further power-on has options and an image of its own. Every Run in the list has the one passed mask"
