@@ -1,20 +1,25 @@
 -- From the flags to the answer: the marks hold the flags as bits, and the first flagged code that is forbidden is the lowest reached pair
--- that is, since a pair's code is its rank. Assumes nothing.
-use Prim.Native.Nat.{ℕ, zero, suc, _+_, _*_, _<_, _≤_}
+-- that is, since a pair's code is its rank. And the answer is the only one: bytes with the same three bits are equal, and so are two lowest
+-- pairs. Assumes nothing.
+use Prim.Native.Nat.{ℕ, zero, suc, _+_, _*_, _/_, _%_, _^_, _<_, _≤_}
 use native.Mathlib.Omega.{arith}
 use native.Mathlib.Decide.{decLe}
-use mathlib.Core.Path.{_≡_, sym, ap, subst, _∙_}
+use mathlib.Core.Path.{_≡_, refl, sym, ap, subst, _∙_}
+use mathlib.Core.Bool.{Bool, true, false}
 use mathlib.Core.List.{List}
+use lib.Dec.{eqb}
 use lib.ListN.{length, getD}
-use Rattle.checker.specs.Marks.{Pair, pair, fault, Reached}
-use Rattle.checker.specs.Verdicts.{levelBit, Marked, rank, Lowest, Answers}
-use Rattle.checker.specs.Walk.{pairOf, Found, markOf, Packed, First, Judged}
+use lib.Seq.{ext-getD}
+use borrow.Author.Tests.{eq-eqb, eqb-true, eqb-false}
+use Rattle.checker.specs.Marks.{addresses, levels, Pair, pair, fault, Reached}
+use Rattle.checker.specs.Verdicts.{isMarked, Marked, rank, Lowest, Safe, Written, Answers, AnswersDetermine}
+use Rattle.checker.specs.Walk.{pairs, pairOf, nextCodes, Found, markOf, Packed, First, Judged}
 use Rattle.checker.specs.declared.check.Verdict.{Verdict}
 use Rattle.checker.specs.declared.check.Verdict.the-variants.{Passed, Failed, BadMask, BadMarks}
-use Rattle.checker.proofs.Turn.{pair-rank}
+use Rattle.checker.proofs.Reach.{pair-rank, code-reached, reached-code, reached-level}
 
 -- the bit of a level in a mark byte is its flag
-flag : (seen : List ℕ) → ((k : ℕ) → getD seen k 0 ≤ 1) → (a l : ℕ) → l < 3 → levelBit (markOf seen a) l ≡ getD seen (a * 3 + l) 0
+flag : (seen : List ℕ) → ((k : ℕ) → getD seen k 0 ≤ 1) → (a l : ℕ) → l < levels → markOf seen a / 2 ^ l % 2 ≡ getD seen (a * levels + l) 0
 flag seen f a zero h = omega (arith, f (a * 3), f (a * 3 + 1), f (a * 3 + 2), ap (λ (n : ℕ). getD seen n 0) (plus-zero (a * 3)))
   where
     plus-zero : (n : ℕ) → n + 0 ≡ n
@@ -23,45 +28,128 @@ flag seen f a (suc zero) h = omega (arith, f (a * 3), f (a * 3 + 1), f (a * 3 + 
 flag seen f a (suc (suc zero)) h = omega (arith, f (a * 3), f (a * 3 + 1), f (a * 3 + 2))
 flag seen f a (suc (suc (suc l))) h = absurd (omega arith)
 
-module _ (mask seen : List ℕ) (s : Found mask seen) where
-  -- of a pair in range, flagged
-  pub at-pair : (a l : ℕ) → l < 3 → getD seen (a * 3 + l) 0 ≡ 1 → Reached mask (pair a l)
-  at-pair a l h e = subst (Reached mask) (pair-rank (pair a l) h) (s .sound (a * 3 + l) e)
+module _ (mask seen : List ℕ) (s : Found pairs (nextCodes mask) seen) where
+  -- of a pair with a level, flagged
+  at-pair : (a l : ℕ) → l < levels → getD seen (a * levels + l) 0 ≡ 1 → Reached mask (pair a l)
+  at-pair a l h e = subst (Reached mask) (pair-rank (pair a l) h) (code-reached mask (a * levels + l) (s .sound (a * levels + l) e))
 
-  pub marked : (marks : List ℕ) → Packed seen marks → Marked mask marks
+  -- a reached pair is flagged
+  flagged : (p : Pair) → Reached mask p → (rank p < pairs) × (getD seen (rank p) 0 ≡ 1)
+  flagged p r = s .full (rank p) (reached-code mask p r .1)
+
+  marked : (marks : List ℕ) → Packed seen marks → Marked mask marks
   marked marks p =
       record {
         size = p .size;
         rest = λ a h. omega (arith, p .byte a h, s .flags (a * 3), s .flags (a * 3 + 1), s .flags (a * 3 + 2));
-        sound = λ a l h k e. at-pair a l k (sym (told a l h k) ∙ e);
-        full = λ a l h k r. told a l h k ∙ s .full (pair a l) r .2;
+        sound = λ a l h k e. at-pair a l k (sym (told a l h k) ∙ eqb-true (getD marks a 0 / 2 ^ l % 2) 1 e);
+        full = λ a l h k r. eq-eqb (getD marks a 0 / 2 ^ l % 2) 1 (told a l h k ∙ flagged (pair a l) r .1);
       }
     where
-      told : (a l : ℕ) → a < 4096 → l < 3 → levelBit (getD marks a 0) l ≡ getD seen (a * 3 + l) 0
-      told a l h k = ap (λ (n : ℕ). levelBit n l) (p .byte a h) ∙ flag seen (s .flags) a l k
+      told : (a l : ℕ) → a < addresses → l < levels → getD marks a 0 / 2 ^ l % 2 ≡ getD seen (a * levels + l) 0
+      told a l h k = ap (λ (n : ℕ). n / 2 ^ l % 2) (p .byte a h) ∙ flag seen (s .flags) a l k
 
-  pub passed : ((k : ℕ) → k < 12288 → getD seen k 0 ≡ 1 → fault mask (pairOf k) ≡ 0) → (p : Pair) → Reached mask p → fault mask p ≡ 0
-  passed j p r =
-      let f = s .full p r in
-      sym (ap (fault mask) (pair-rank p (f .1))) ∙ j (rank p) (omega (arith, f .0, f .1)) (f .2)
+  -- no fault at the code of a reached pair is no fault at the pair
+  of-rank : (p : Pair) → Reached mask p → fault mask (pairOf (rank p)) ≡ 0 → fault mask p ≡ 0
+  of-rank p r e = sym (ap (fault mask) (pair-rank p (reached-level mask p r))) ∙ e
 
-  pub lowest : (f a l : ℕ) → First mask seen f a l → Lowest mask f a l
+  lowest : (f a l : ℕ) → First mask seen f a l → Lowest mask f a l
   lowest f a l j =
       record {
         reached = at-pair a l (j .level) (j .found);
         forbidden = j .forbidden;
         not-zero = j .not-zero;
-        lowest = λ p r n. go p r n (decLe (a * 3 + l) (rank p));
+        lowest = λ p r n. go p r n (decLe (rank (pair a l)) (rank p));
       }
     where
-      go : (p : Pair) → Reached mask p → (fault mask p ≡ 0 → ⊥) → Dec (a * 3 + l ≤ rank p) → a * 3 + l ≤ rank p
+      go : (p : Pair) → Reached mask p → (fault mask p ≡ 0 → ⊥) → Dec (rank (pair a l) ≤ rank p) → rank (pair a l) ≤ rank p
       go p r n (yes h) = h
-      go p r n (no h) =
-          let f = s .full p r in
-          absurd (n (sym (ap (fault mask) (pair-rank p (f .1))) ∙ j .clean (rank p) (omega arith) (f .2)))
+      go p r n (no h) = absurd (n (of-rank p r (j .clean (rank p) (omega arith) (flagged p r .1))))
 
-  pub answered : (old marks : List ℕ) (r : Verdict) → length mask ≡ 4096 → Packed seen marks → Judged mask seen r → Answers mask old marks r
-  answered old marks Passed e p j = (e, marked marks p, passed j)
-  answered old marks (Failed f a l) e p j = (e, marked marks p, lowest f a l j)
-  answered old marks BadMask e p j = absurd j
-  answered old marks BadMarks e p j = absurd j
+  pub answered : (old marks : List ℕ) (r : Verdict) → length mask ≡ 4096 → length old ≡ 4096 → Packed seen marks → Judged mask seen r → Answers mask old marks r
+  answered old marks Passed e f p j =
+      (record { mask-size = e; marks-size = f; marked = marked marks p }, λ q r. of-rank q r (j (rank q) (flagged q r .0) (flagged q r .1)))
+  answered old marks (Failed g a l) e f p j = (record { mask-size = e; marks-size = f; marked = marked marks p }, lowest g a l j)
+  answered old marks BadMask e f p j = absurd j
+  answered old marks BadMarks e f p j = absurd j
+
+-- ---- the only answer
+-- a bit that is 1 in both or in neither
+same-bit : (x y : ℕ) → (eqb (x % 2) 1 ≡ true → eqb (y % 2) 1 ≡ true) → (eqb (y % 2) 1 ≡ true → eqb (x % 2) 1 ≡ true) → x % 2 ≡ y % 2
+same-bit x y f g = go (eqb (x % 2) 1) (eqb (y % 2) 1) (eqb-true (x % 2) 1) (eqb-false (x % 2) 1) (eqb-true (y % 2) 1) (eqb-false (y % 2) 1) f g
+  where
+    go : (s t : Bool) → (s ≡ true → x % 2 ≡ 1) → (s ≡ false → x % 2 ≡ 1 → ⊥) → (t ≡ true → y % 2 ≡ 1) → (t ≡ false → y % 2 ≡ 1 → ⊥)
+        → (s ≡ true → t ≡ true) → (t ≡ true → s ≡ true) → x % 2 ≡ y % 2
+    go true t a b c d f g = a refl ∙ sym (c (f refl))
+    go false true a b c d f g = a (g refl) ∙ sym (c refl)
+    go false false a b c d f g = neither (x % 2) (y % 2) (b refl) (d refl) (omega arith) (omega arith)
+      where
+        neither : (x y : ℕ) → (x ≡ 1 → ⊥) → (y ≡ 1 → ⊥) → x < 2 → y < 2 → x ≡ y
+        neither x y m n h k = omega arith
+
+of-bits : (x : ℕ) → x < 8 → x ≡ x / 2 ^ 0 % 2 + x / 2 ^ 1 % 2 * 2 + x / 2 ^ 2 % 2 * 4
+of-bits x h = omega arith
+
+-- marks of the same pairs
+pub same-marks : (mask new other : List ℕ) → Marked mask new → Marked mask other → new ≡ other
+same-marks mask new other m n = ext-getD 0 new other (m .size ∙ sym (n .size)) (λ a h. byte a (omega (arith, m .size)))
+  where
+    bit : (a l : ℕ) → a < addresses → l < levels → getD new a 0 / 2 ^ l % 2 ≡ getD other a 0 / 2 ^ l % 2
+    bit a l h k =
+        same-bit (getD new a 0 / 2 ^ l) (getD other a 0 / 2 ^ l) (λ e. n .full a l h k (m .sound a l h k e)) (λ e. m .full a l h k (n .sound a l h k e))
+
+    byte : (a : ℕ) → a < addresses → getD new a 0 ≡ getD other a 0
+    byte a h =
+        of-bits (getD new a 0) (m .rest a h)
+        ∙ rw (bit a 0 h (omega arith), bit a 1 h (omega arith), bit a 2 h (omega arith)) refl
+        ∙ sym (of-bits (getD other a 0) (n .rest a h))
+
+same-lowest : (mask : List ℕ) (f a l g b m : ℕ) → Lowest mask f a l → Lowest mask g b m → Failed f a l ≡ Failed g b m
+same-lowest mask f a l g b m v w =
+    let h : l < levels = reached-level mask (pair a l) (v .reached) in
+    let k : m < levels = reached-level mask (pair b m) (w .reached) in
+    let below = v .lowest (pair b m) (w .reached) (λ z. w .not-zero (sym (w .forbidden) ∙ z)) in
+    let above = w .lowest (pair a l) (v .reached) (λ z. v .not-zero (sym (v .forbidden) ∙ z)) in
+    let p : a ≡ b = omega arith in
+    let q : l ≡ m = omega arith in
+    let r : f ≡ g = sym (v .forbidden) ∙ rw (p, q) (w .forbidden) in
+    rw (p, q, r) refl
+
+-- what a mask and marks of the right lengths are answered, by what is reached
+module _ (mask old new : List ℕ) (m : length mask ≡ 4096) (o : length old ≡ 4096) where
+  pub answer-passed : (v : Verdict) → Safe mask → Answers mask old new v → v ≡ Passed
+  answer-passed Passed s w = refl
+  answer-passed (Failed f a l) s w = absurd (w .1 .not-zero (sym (w .1 .forbidden) ∙ s (pair a l) (w .1 .reached)))
+  answer-passed BadMask s w = absurd (w .0 m)
+  answer-passed BadMarks s w = absurd (w .1 o)
+
+  pub answer-failed : (f a l : ℕ) (v : Verdict) → Lowest mask f a l → Answers mask old new v → v ≡ Failed f a l
+  answer-failed f a l Passed s w = absurd (s .not-zero (sym (s .forbidden) ∙ w .1 (pair a l) (s .reached)))
+  answer-failed f a l (Failed g b n) s w = same-lowest mask g b n f a l (w .1) s
+  answer-failed f a l BadMask s w = absurd (w .0 m)
+  answer-failed f a l BadMarks s w = absurd (w .1 o)
+
+pub answers-determine : AnswersDetermine
+answers-determine mask old new other v w a b = go v a
+  where
+    -- the same marks, of an answer that is not refused
+    written : (v : Verdict) → Written mask old new → w ≡ v → (Answers mask old other v → Written mask old other) → (v ≡ w) × (new ≡ other)
+    written v x e f = (sym e, same-marks mask new other (x .marked) (f (subst (Answers mask old other) e b) .marked))
+
+    go : (v : Verdict) → Answers mask old new v → (v ≡ w) × (new ≡ other)
+    go Passed a = written Passed (a .0) (answer-passed mask old other (a .0 .mask-size) (a .0 .marks-size) w (a .1) b) (λ x. x .0)
+    go (Failed f c l) a = written (Failed f c l) (a .0) (answer-failed mask old other (a .0 .mask-size) (a .0 .marks-size) f c l w (a .1) b) (λ x. x .0)
+    go BadMask a = bad-mask w b
+      where
+        bad-mask : (w : Verdict) → Answers mask old other w → (BadMask ≡ w) × (new ≡ other)
+        bad-mask Passed b = absurd (a .0 (b .0 .mask-size))
+        bad-mask (Failed f c l) b = absurd (a .0 (b .0 .mask-size))
+        bad-mask BadMask b = (refl, a .1 ∙ sym (b .1))
+        bad-mask BadMarks b = absurd (a .0 (b .0))
+    go BadMarks a = bad-marks w b
+      where
+        bad-marks : (w : Verdict) → Answers mask old other w → (BadMarks ≡ w) × (new ≡ other)
+        bad-marks Passed b = absurd (a .1 (b .0 .marks-size))
+        bad-marks (Failed f c l) b = absurd (a .1 (b .0 .marks-size))
+        bad-marks BadMask b = absurd (b .0 (a .0))
+        bad-marks BadMarks b = (refl, a .2 ∙ sym (b .2))

@@ -44,17 +44,21 @@ after-set P xs i k v h same other = go (ℕ-discrete k i)
     go (no n) = subst P (sym (getD-set-other xs i k v 0 n)) (other n)
 
 -- ---- a push, by cases
+-- a new code, found
+abbrev pub found-also : Work → ℕ → Work
+found-also w c = work (set (w .seen) c 1) (set (w .queue) (w .tail) c) (w .tail + 1)
+
 pub push-cases : (P : Work → Type 0) (w : Work) (c : ℕ)
-    → (getD (w .seen) c 0 ≡ 0 → P (work (set (w .seen) c 1) (set (w .queue) (w .tail) c) (w .tail + 1)))
+    → (getD (w .seen) c 0 ≡ 0 → P (found-also w c))
     → ((getD (w .seen) c 0 ≡ 0 → ⊥) → P w) → P (pushed w c)
 unfolding pushed
 push-cases P w c new old = go (eqb (getD (w .seen) c 0) 0) refl
   where
-    go : (b : Bool) → eqb (getD (w .seen) c 0) 0 ≡ b → P (pick b (work (set (w .seen) c 1) (set (w .queue) (w .tail) c) (w .tail + 1)) w)
+    go : (b : Bool) → eqb (getD (w .seen) c 0) 0 ≡ b → P (pick b (found-also w c) w)
     go true e = new (eqb-true (getD (w .seen) c 0) 0 e)
     go false e = old (eqb-false (getD (w .seen) c 0) 0 e)
 
-pub push-new : (w : Work) (c : ℕ) → getD (w .seen) c 0 ≡ 0 → work (set (w .seen) c 1) (set (w .queue) (w .tail) c) (w .tail + 1) ≡ pushed w c
+pub push-new : (w : Work) (c : ℕ) → getD (w .seen) c 0 ≡ 0 → found-also w c ≡ pushed w c
 unfolding pushed
 push-new w c e = rw (eq-eqb (getD (w .seen) c 0) 0 e) refl
 
@@ -63,15 +67,15 @@ unfolding pushed
 push-old w c n = rw (ne-eqb (getD (w .seen) c 0) 0 n) refl
 
 -- ---- room
-pub room-left : (seen : List ℕ) (tail c : ℕ) → Room seen tail → c < 12288 → getD seen c 0 ≡ 0 → tail < 12288
+pub room-left : {n : ℕ} (seen : List ℕ) (tail c : ℕ) → Room n seen tail → c < n → getD seen c 0 ≡ 0 → tail < n
 room-left seen tail c r h e =
     let z : zeros seen ≡ suc (zeros (set seen c 1)) = zeros-set seen c (omega (arith, r .size)) e in omega (arith, r .left)
 
-pub room-new : (seen : List ℕ) (tail c : ℕ) → Room seen tail → c < 12288 → getD seen c 0 ≡ 0 → Room (set seen c 1) (tail + 1)
+pub room-new : {n : ℕ} (seen : List ℕ) (tail c : ℕ) → Room n seen tail → c < n → getD seen c 0 ≡ 0 → Room n (set seen c 1) (tail + 1)
 room-new seen tail c r h e =
     let z : zeros seen ≡ suc (zeros (set seen c 1)) = zeros-set seen c (omega (arith, r .size)) e in
     record { size = length-set seen c 1 ∙ r .size; left = omega (arith, r .left) }
 
-pub room-pushed : (w : Work) (c : ℕ) → Room (w .seen) (w .tail) → c < 12288 → Room (pushed w c .seen) (pushed w c .tail)
-room-pushed w c r h =
-    push-cases (λ (v : Work). Room (v .seen) (v .tail)) w c (λ e. room-new (w .seen) (w .tail) c r h e) (λ n. r)
+pub room-pushed : {n : ℕ} (w : Work) (c : ℕ) → Room n (w .seen) (w .tail) → c < n → Room n (pushed w c .seen) (pushed w c .tail)
+room-pushed {n} w c r h =
+    push-cases (λ (v : Work). Room n (v .seen) (v .tail)) w c (λ e. room-new (w .seen) (w .tail) c r h e) (λ n. r)

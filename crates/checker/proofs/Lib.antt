@@ -1,4 +1,5 @@
 pub mod Fetched
+pub mod Chains
 pub mod Reach
 pub mod Successors
 pub mod Count

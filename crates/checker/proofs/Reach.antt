@@ -1,7 +1,6 @@
--- Chains and the pairs that they reach. The start is reached, and so is each successor of a reached pair, since a chain can be made longer
--- at its end. What holds of the start and passes to successors holds of every reached pair, by induction along the chain. So every
--- reached pair is in range: an instruction that was read names only targets that are addresses. Assumes nothing.
-use Prim.Native.Nat.{ℕ, _+_, _%_, _<_}
+-- The pairs of a mask that chains reach. Their levels are 0, 1 and 2, so that chains of pairs are chains of their codes; and they are in range
+-- where the mask is bytes, since an instruction that was read names only targets that are addresses. Assumes nothing.
+use Prim.Native.Nat.{ℕ, _+_, _*_, _/_, _%_, _<_}
 use native.Mathlib.Omega.{arith}
 use mathlib.Core.Path.{_≡_, refl}
 use mathlib.Core.Bool.{Bool, true}
@@ -11,145 +10,118 @@ use lib.ListN.{getD}
 use borrow.Author.Tests.{ltb-true}
 use Rattle.isa.specs.Choice.{pick}
 use Rattle.isa.specs.Code.{inRange}
-use Rattle.rom.specs.Fetching.{byteAt}
+use Rattle.isa.specs.Views.{View, on, jmp, branch, call, ret, reti, ei, view}
 use Rattle.isa.proofs.Exact.{sound}
 use Rattle.isa.specs.declared.decoder.Decoded.{Decoded}
 use Rattle.isa.specs.declared.decoder.Decoded.the-variants.{Read}
 use Rattle.isa.specs.declared.Instruction.{Instruction}
-use Rattle.isa.specs.declared.Instruction.the-variants as I
+use Rattle.rom.specs.Fetching.{Bytes, byteAt, readAt, movedFrom}
 use Rattle.checker.specs.declared.flow.Flow.{Flow}
 use Rattle.checker.specs.declared.flow.Flow.the-variants.{On, Enable, Jump, To, Sub, Back}
-use Rattle.checker.specs.Marks.{Pair, pair, flowOf, handed, handedBy, fault, successors, Member, here, there, Chain, one, more, Reached}
-use Rattle.rom.specs.Fetching.{readAt, movedFrom}
+use Rattle.checker.specs.Chains.{Member, here, there, Reaches}
+use Rattle.checker.specs.Marks.{addresses, levels, Pair, pair, flowBy, flowOf, handed, handedBy, fault, successors, Reached}
+use Rattle.checker.specs.Verdicts.{rank}
+use Rattle.checker.specs.Walk.{All, Small, pairs, pairOf, nextCodes}
+use Rattle.checker.proofs.Chains.{all-member, all-of, all-map, reached-all, of-code, to-code}
 
--- ---- chains
-pub reached-start : (mask : List ℕ) → Reached mask (pair 0 0)
-reached-start mask = record { chain = pair 0 0 ∷ []; links = one }
-
-longer : {mask : List ℕ} {p q : Pair} {ps : List Pair} → Chain mask p ps q → (r : Pair) → Member r (successors mask q) → (rs : List Pair) × Chain mask p rs r
-longer (one {p = p}) r m = (p ∷ r ∷ [], more m one)
-longer (more {p = p} n c) r m = let l = longer c r m in (p ∷ l .0, more n (l .1))
-
-pub reached-next : (mask : List ℕ) (p q : Pair) → Reached mask p → Member q (successors mask p) → Reached mask q
-reached-next mask p q r m = let l = longer (r .links) q m in record { chain = l .0; links = l .1 }
-
--- what holds of a chain's first pair and passes to successors holds of its last
-along : {mask : List ℕ} (P : Pair → Type 0) → ((p q : Pair) → P p → Member q (successors mask p) → P q)
-    → {p q : Pair} {ps : List Pair} → Chain mask p ps q → P p → P q
-along P next one h = h
-along P next (more {p = p} {q = q} m c) h = along P next c (next p q h m)
-
-pub reached-all : (mask : List ℕ) (P : Pair → Type 0) → P (pair 0 0) → ((p q : Pair) → P p → Member q (successors mask p) → P q)
-    → (p : Pair) → Reached mask p → P p
-reached-all mask P start next p r = along P next (r .links) start
-
--- ---- ranges
+-- ---- what a flow hands on
 -- the target of a jump or a call is an address
 abbrev pub Targets : Flow → Type 0
 Targets On = Unit {0}
 Targets Enable = Unit {0}
-Targets (Jump t) = t .0 < 4096
+Targets (Jump t) = t .0 < addresses
 Targets (To t) = Unit {0}
-Targets (Sub t) = t .0 < 4096
+Targets (Sub t) = t .0 < addresses
 Targets Back = Unit {0}
 
 pub targets : (i : Instruction) → inRange i ≡ true → Targets (flowOf i)
 unfolding flowOf inRange
-targets I.AddAM e = tt
-targets I.AdcAM e = tt
-targets I.SubAM e = tt
-targets I.SbcAM e = tt
-targets (I.AddAX d) e = tt
-targets (I.SubAX d) e = tt
-targets I.Daa e = tt
-targets I.AndAM e = tt
-targets I.OrAM e = tt
-targets I.XorAM e = tt
-targets I.AndMA e = tt
-targets I.OrMA e = tt
-targets I.XorMA e = tt
-targets (I.AndAX d) e = tt
-targets (I.OrAX d) e = tt
-targets (I.XorAX d) e = tt
-targets I.IncA e = tt
-targets (I.IncR n) e = tt
-targets (I.IncM p) e = tt
-targets I.DecA e = tt
-targets (I.DecR n) e = tt
-targets (I.DecM p) e = tt
-targets (I.MovAR n) e = tt
-targets (I.MovRA n) e = tt
-targets (I.MovAM p) e = tt
-targets (I.MovMA p) e = tt
-targets (I.MovAX d) e = tt
-targets (I.MovPairXX p low high) e = tt
-targets (I.MovR4X d) e = tt
-targets I.RlA e = tt
-targets I.RlcA e = tt
-targets I.RrA e = tt
-targets I.RrcA e = tt
-targets (I.InA p) e = tt
-targets I.OutPaA e = tt
-targets (I.Jmp t) e = ltb-true (t .0) 4096 e
-targets (I.Branch t k) e = tt
-targets (I.Call t) e = ltb-true (t .0) 4096 e
-targets I.Ret e = tt
-targets I.Reti e = tt
-targets I.Clc e = tt
-targets I.Stc e = tt
-targets I.Ei e = tt
-targets I.Di e = tt
-targets I.Nop e = tt
-targets (I.TimerXX x) e = tt
-targets I.TimerOn e = tt
-targets I.TimerOff e = tt
-targets I.MovATmrl e = tt
-targets I.MovATmrh e = tt
-targets I.MovTmrlA e = tt
-targets I.MovTmrhA e = tt
-targets (I.ReadR4A p) e = tt
-targets (I.ReadMr0A p) e = tt
-targets (I.SoundN n) e = tt
-targets I.SoundA e = tt
-targets I.SoundOne e = tt
-targets I.SoundLoop e = tt
-targets I.SoundOff e = tt
-targets I.Halt e = tt
+targets i = go (view i)
+  where
+    go : {i : Instruction} (v : View i) → inRange i ≡ true → Targets (flowBy v)
+    go on e = tt
+    go (jmp t) e = ltb-true (t .0) addresses e
+    go (branch t k) e = tt
+    go (call t) e = ltb-true (t .0) addresses e
+    go ret e = tt
+    go reti e = tt
+    go ei e = tt
 
--- a property of each pair of a list
-abbrev pub All : (Pair → Type 0) → List Pair → Type 0
-All P [] = Unit {0}
-All P (p ∷ ps) = P p × All P ps
+abbrev InAddresses : Pair → Type 0
+InAddresses p = p .address < addresses
 
-pub all-member : (P : Pair → Type 0) {q : Pair} {ps : List Pair} → Member q ps → All P ps → P q
-all-member P here h = h .0
-all-member P (there m) h = all-member P m (h .1)
+abbrev pub InLevels : Pair → Type 0
+InLevels p = p .level < levels
 
--- the successors of a pair in range are in range
-handed-range : (f : Flow) (moved l : ℕ) → Targets f → moved < 4096 → l < 3 → All (λ (q : Pair). (q .address < 4096) × (q .level < 3)) (handed f moved l)
-handed-range On moved l t h k = ((h, k), tt)
-handed-range Enable moved l t h k = ((h, k), ((omega arith, omega arith), ((omega arith, omega arith), tt)))
-handed-range (Jump a) moved l t h k = ((t, k), tt)
-handed-range (To a) moved l t h k = ((h, k), ((omega arith, k), tt))
-handed-range (Sub a) moved l t h k = ((t, omega arith), ((h, omega arith), tt))
-handed-range Back moved l t h k = tt
+handed-addresses : (f : Flow) (moved l : ℕ) → Targets f → moved < addresses → All InAddresses (handed f moved l)
+handed-addresses On moved l t h = (h, tt)
+handed-addresses Enable moved l t h = (h, (omega arith, (omega arith, tt)))
+handed-addresses (Jump a) moved l t h = (t, tt)
+handed-addresses (To a) moved l t h = (h, (omega arith, tt))
+handed-addresses (Sub a) moved l t h = (t, (h, tt))
+handed-addresses Back moved l t h = tt
 
+handed-levels : (f : Flow) (moved l : ℕ) → l < levels → All InLevels (handed f moved l)
+handed-levels On moved l k = (k, tt)
+handed-levels Enable moved l k = (k, (omega arith, (omega arith, tt)))
+handed-levels (Jump a) moved l k = (k, tt)
+handed-levels (To a) moved l k = (k, (k, tt))
+handed-levels (Sub a) moved l k = (omega arith, (omega arith, tt))
+handed-levels Back moved l k = tt
+
+-- ---- pairs and their codes
+pub pair-rank : (p : Pair) → InLevels p → pairOf (rank p) ≡ p
+pair-rank p h =
+    let a : (p .address * levels + p .level) / levels ≡ p .address = omega arith in
+    let l : (p .address * levels + p .level) % levels ≡ p .level = omega arith in
+    λ k. record { address = a k; level = l k }
+
+pub rank-pair : (c : ℕ) → rank (pairOf c) ≡ c
+rank-pair c = omega arith
+
+-- ---- one successor
 picked : (b : Bool) (ps : List Pair) (q : Pair) → Member q (pick b ps []) → Member q ps
 picked true ps q m = m
 
-pub read-targets : (mask : List ℕ) → ((k : ℕ) → getD mask k 0 < 256) → (a : ℕ) (i : Instruction) → readAt mask a ≡ Read i → Targets (flowOf i)
-read-targets mask bytes a i e = targets i (sound (byteAt mask a) (byteAt mask (a + 1)) i (bytes ((a + 1) % 4096)) e .fields)
+module _ (mask : List ℕ) where
+  -- what holds of all that the instruction at a pair hands on holds of the pair's successors
+  each-next : (P : Pair → Type 0) (p q : Pair) → ((i : Instruction) → readAt mask (p .address) ≡ Read i → All P (handed (flowOf i) (movedFrom mask (p .address)) (p .level)))
+      → Member q (successors mask p) → P q
+  unfolding successors
+  each-next P p q f m =
+      go (readAt mask (p .address)) refl (picked (eqb (fault mask p) 0) (handedBy (readAt mask (p .address)) (movedFrom mask (p .address)) (p .level)) q m)
+    where
+      go : (d : Decoded) → readAt mask (p .address) ≡ d → Member q (handedBy d (movedFrom mask (p .address)) (p .level)) → P q
+      go (Read i) e n = all-member P n (f i e)
 
-pub next-in-range : (mask : List ℕ) → ((k : ℕ) → getD mask k 0 < 256) → (p q : Pair) → p .level < 3 → Member q (successors mask p) → (q .address < 4096) × (q .level < 3)
-unfolding successors
-next-in-range mask bytes p q k m =
-    go (readAt mask (p .address)) refl (picked (eqb (fault mask p) 0) (handedBy (readAt mask (p .address)) (movedFrom mask (p .address)) (p .level)) q m)
-  where
-    go : (d : Decoded) → readAt mask (p .address) ≡ d → Member q (handedBy d (movedFrom mask (p .address)) (p .level)) → (q .address < 4096) × (q .level < 3)
-    go (Read i) e n = all-member (λ (q : Pair). (q .address < 4096) × (q .level < 3)) n
-        (handed-range (flowOf i) (movedFrom mask (p .address)) (p .level) (read-targets mask bytes (p .address) i e) (omega arith) k)
+  next-level : (p q : Pair) → InLevels p → Member q (successors mask p) → InLevels q
+  next-level p q k = each-next InLevels p q (λ i e. handed-levels (flowOf i) (movedFrom mask (p .address)) (p .level) k)
 
-pub reached-in-range : (mask : List ℕ) → ((k : ℕ) → getD mask k 0 < 256) → (p : Pair) → Reached mask p → (p .address < 4096) × (p .level < 3)
-reached-in-range mask bytes p r =
-    reached-all mask (λ (p : Pair). (p .address < 4096) × (p .level < 3)) (omega arith, omega arith)
-    (λ p q h m. next-in-range mask bytes p q (h .1) m) p r
+  pub reached-level : (p : Pair) → Reached mask p → InLevels p
+  reached-level = reached-all InLevels (omega arith) next-level
+
+  -- ---- codes
+  pub code-reached : (k : ℕ) → Reaches (nextCodes mask) 0 k → Reached mask (pairOf k)
+  code-reached = of-code (successors mask) (pair 0 0) rank pairOf InLevels (omega arith) next-level pair-rank
+
+  pub reached-code : (p : Pair) → Reached mask p → InLevels p × Reaches (nextCodes mask) 0 (rank p)
+  reached-code = to-code (successors mask) (pair 0 0) rank pairOf InLevels (omega arith) next-level pair-rank
+
+  -- ---- ranges
+  module _ (bytes : Bytes mask) where
+    pub read-targets : (a : ℕ) (i : Instruction) → readAt mask a ≡ Read i → Targets (flowOf i)
+    read-targets a i e = targets i (sound (byteAt mask a) (byteAt mask (a + 1)) i (bytes ((a + 1) % 4096)) e .fields)
+
+    next-address : (p q : Pair) → Member q (successors mask p) → InAddresses q
+    next-address p q =
+        each-next InAddresses p q
+        (λ i e. handed-addresses (flowOf i) (movedFrom mask (p .address)) (p .level) (read-targets (p .address) i e) (omega arith))
+
+    pub reached-address : (p : Pair) → Reached mask p → InAddresses p
+    reached-address = reached-all InAddresses (omega arith) (λ p q h. next-address p q)
+
+    pub codes-small : (c : ℕ) → Small pairs (nextCodes mask c)
+    codes-small c =
+        all-map rank (λ (k : ℕ). k < pairs) (successors mask (pairOf c))
+        (all-of (λ (q : Pair). rank q < pairs) (successors mask (pairOf c))
+        (λ q m. omega (arith, next-address (pairOf c) q m, next-level (pairOf c) q (omega arith) m)))

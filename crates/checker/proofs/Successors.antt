@@ -5,7 +5,7 @@ use mathlib.Core.List.{List, []}
 use lib.Dec.{eqb}
 use lib.ListN.{getD}
 use Rattle.isa.specs.Choice.{pick}
-use Rattle.rom.specs.Fetching.{byteAt}
+use Rattle.rom.specs.Fetching.{Bytes, byteAt}
 use Rattle.isa.specs.Timing.{lengthOf}
 use Rattle.isa.specs.declared.decoder.Decoded.{Decoded}
 use Rattle.isa.specs.declared.decoder.Decoded.the-variants.{Read, Unreadable}
@@ -41,5 +41,5 @@ module _ (mask : List ℕ) (c : ℕ) (d : Decoded) (at : d ≡ readAt mask (c / 
         ap₂ (λ (g : Flow) (n : ℕ). pick (eqb (nestingFault g (c % 3)) 0) (handed g ((c / 3 + n) % 4096) (c % 3)) []) (sym q ∙ p) (t ∙ ap lengthOf s)
         ∙ ap (λ (d : Decoded). left d ((c / 3 + lengthOf (byteAt mask (c / 3))) % 4096) (c % 3)) (sym r ∙ at)
 
-    pub next-targets : ((k : ℕ) → getD mask k 0 < 256) → Targets g
+    pub next-targets : Bytes mask → Targets g
     next-targets bytes = subst Targets (sym p ∙ q) (read-targets mask bytes (c / 3) i (sym at ∙ r))

@@ -1,3 +1,4 @@
+pub mod Chains
 pub mod Marks
 pub mod Verdicts
 pub mod Walk

@@ -2,7 +2,7 @@
 use Prim.Native.Nat.{ℕ, _+_, _*_, _/_, _%_}
 use mathlib.Core.Path.{_≡_}
 use mathlib.Core.Bool.{Bool, true, false}
-use mathlib.Core.List.{List, [], _∷_}
+use mathlib.Core.List.{List, [], _∷_, _++_}
 use lib.Dec.{eqb}
 use Rattle.isa.specs.Choice.{pick}
 use Rattle.rom.specs.Fetching.{readAt, movedFrom, branchTo}
@@ -10,9 +10,17 @@ use Rattle.isa.specs.declared.ProgramAddress.{ProgramAddress}
 use Rattle.isa.specs.declared.decoder.Decoded.{Decoded}
 use Rattle.isa.specs.declared.decoder.Decoded.the-variants.{Read, Unreadable}
 use Rattle.isa.specs.declared.Instruction.{Instruction}
-use Rattle.isa.specs.declared.Instruction.the-variants as I
+use Rattle.isa.specs.Views.{View, on, jmp, branch, call, ret, reti, ei, view}
+use Rattle.checker.specs.Chains.{Reaches}
 use Rattle.checker.specs.declared.flow.Flow.{Flow}
 use Rattle.checker.specs.declared.flow.Flow.the-variants.{On, Enable, Jump, To, Sub, Back}
+
+-- "A program address counts to 4,095"; "level (0 main, 1 subroutine, 2 interrupt)"
+abbrev pub addresses : ℕ
+addresses = 4096
+
+abbrev pub levels : ℕ
+levels = 3
 
 -- "A pair is an address with a level" (document 01's term)
 pub record Pair : Type 0 where
@@ -22,69 +30,19 @@ pub record Pair : Type 0 where
 abbrev pub pair : ℕ → ℕ → Pair
 pair a l = record { address = a; level = l }
 
--- where an instruction hands the program on: to the moved address, also to the two vectors (EI), only to a target (JMP), also to a
--- target (a branch), to a subroutine (CALL), or back (RET and RETI)
+-- where an instruction hands the program on: to the moved address, only to a target (JMP), also to a target (a branch), to a subroutine
+-- (CALL), back (RET and RETI), or also to the two vectors (EI)
+abbrev pub flowBy : {i : Instruction} → View i → Flow
+flowBy on = On
+flowBy (jmp t) = Jump t
+flowBy (branch t k) = To t
+flowBy (call t) = Sub t
+flowBy ret = Back
+flowBy reti = Back
+flowBy ei = Enable
+
 unfoldable pub flowOf : Instruction → Flow
-flowOf I.AddAM = On
-flowOf I.AdcAM = On
-flowOf I.SubAM = On
-flowOf I.SbcAM = On
-flowOf (I.AddAX d) = On
-flowOf (I.SubAX d) = On
-flowOf I.Daa = On
-flowOf I.AndAM = On
-flowOf I.OrAM = On
-flowOf I.XorAM = On
-flowOf I.AndMA = On
-flowOf I.OrMA = On
-flowOf I.XorMA = On
-flowOf (I.AndAX d) = On
-flowOf (I.OrAX d) = On
-flowOf (I.XorAX d) = On
-flowOf I.IncA = On
-flowOf (I.IncR n) = On
-flowOf (I.IncM p) = On
-flowOf I.DecA = On
-flowOf (I.DecR n) = On
-flowOf (I.DecM p) = On
-flowOf (I.MovAR n) = On
-flowOf (I.MovRA n) = On
-flowOf (I.MovAM p) = On
-flowOf (I.MovMA p) = On
-flowOf (I.MovAX d) = On
-flowOf (I.MovPairXX p low high) = On
-flowOf (I.MovR4X d) = On
-flowOf I.RlA = On
-flowOf I.RlcA = On
-flowOf I.RrA = On
-flowOf I.RrcA = On
-flowOf (I.InA p) = On
-flowOf I.OutPaA = On
-flowOf (I.Jmp t) = Jump t
-flowOf (I.Branch t k) = To t
-flowOf (I.Call t) = Sub t
-flowOf I.Ret = Back
-flowOf I.Reti = Back
-flowOf I.Clc = On
-flowOf I.Stc = On
-flowOf I.Ei = Enable
-flowOf I.Di = On
-flowOf I.Nop = On
-flowOf (I.TimerXX x) = On
-flowOf I.TimerOn = On
-flowOf I.TimerOff = On
-flowOf I.MovATmrl = On
-flowOf I.MovATmrh = On
-flowOf I.MovTmrlA = On
-flowOf I.MovTmrhA = On
-flowOf (I.ReadR4A p) = On
-flowOf (I.ReadMr0A p) = On
-flowOf (I.SoundN n) = On
-flowOf I.SoundA = On
-flowOf I.SoundOne = On
-flowOf I.SoundLoop = On
-flowOf I.SoundOff = On
-flowOf I.Halt = On
+flowOf i = flowBy (view i)
 
 -- "is CALL in level 1 or 2, or is RET or RETI in level 0"
 abbrev pub nestingFault : Flow → ℕ → ℕ
@@ -104,14 +62,26 @@ unfoldable pub fault : List ℕ → Pair → ℕ
 fault mask p = faultOf (readAt mask (p .address)) (p .level)
 
 -- "Successors of any other pair: the moved address in the same level; a branch also its target; JMP only its target; CALL in level 0 its
--- target in level 1 and the moved address in level 0; EI also 4 and 8 in level 2; RET and RETI none"
+-- target in level 1 and the moved address in level 0; .. RET and RETI none"
+abbrev pub onward : Flow → ℕ → ℕ → List Pair
+onward On moved l = pair moved l ∷ []
+onward Enable moved l = pair moved l ∷ []
+onward (Jump t) moved l = pair (t .0) l ∷ []
+onward (To t) moved l = pair moved l ∷ pair (branchTo moved t) l ∷ []
+onward (Sub t) moved l = pair (t .0) 1 ∷ pair moved 0 ∷ []
+onward Back moved l = []
+
+-- "EI also 4 and 8 in level 2"
+abbrev pub vectors : Flow → List Pair
+vectors On = []
+vectors Enable = pair 4 2 ∷ pair 8 2 ∷ []
+vectors (Jump t) = []
+vectors (To t) = []
+vectors (Sub t) = []
+vectors Back = []
+
 abbrev pub handed : Flow → ℕ → ℕ → List Pair
-handed On moved l = pair moved l ∷ []
-handed Enable moved l = pair moved l ∷ pair 4 2 ∷ pair 8 2 ∷ []
-handed (Jump t) moved l = pair (t .0) l ∷ []
-handed (To t) moved l = pair moved l ∷ pair (branchTo moved t) l ∷ []
-handed (Sub t) moved l = pair (t .0) 1 ∷ pair moved 0 ∷ []
-handed Back moved l = []
+handed f moved l = onward f moved l ++ vectors f
 
 abbrev pub handedBy : Decoded → ℕ → ℕ → List Pair
 handedBy (Read i) moved l = handed (flowOf i) moved l
@@ -122,17 +92,6 @@ unfoldable pub successors : List ℕ → Pair → List Pair
 successors mask p =
     pick (eqb (fault mask p) 0) (handedBy (readAt mask (p .address)) (movedFrom mask (p .address)) (p .level)) []
 
--- one of a list
-pub data Member (p : Pair) : List Pair → Type 0 where
-  here : {ps : List Pair} → Member p (p ∷ ps)
-  there : {q : Pair} {ps : List Pair} → Member p ps → Member p (q ∷ ps)
-
--- "A chain is a list of one or more pairs, each after the first a successor of the one before": from its first pair to its last
-pub data Chain (mask : List ℕ) : Pair → List Pair → Pair → Type 0 where
-  one : {p : Pair} → Chain mask p (p ∷ []) p
-  more : {p q r : Pair} {ps : List Pair} → Member q (successors mask p) → Chain mask q ps r → Chain mask p (p ∷ ps) r
-
 -- "the pairs that chains from address 0, level 0 reach"
-pub record Reached (mask : List ℕ) (p : Pair) : Type 0 where
-  pub chain : List Pair
-  pub links : Chain mask (pair 0 0) chain p
+abbrev pub Reached : List ℕ → Pair → Type 0
+Reached mask p = Reaches (successors mask) (pair 0 0) p

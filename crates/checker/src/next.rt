@@ -1,8 +1,8 @@
 // What the instruction at a pair says of it. A pair's code is three times its address, and its level added: 0 to 12,287. No function hands
 // the decoder's answer on: a copy of it, right after it was written byte by byte, stalls the processor.
 ghost use mathlib.Core.Path.{_≡_};
-ghost use Rattle.checker.specs.Marks.{fault, successors};
-ghost use Rattle.checker.specs.Walk.{codesOf, pairOf, ranks};
+ghost use Rattle.checker.specs.Marks.{fault};
+ghost use Rattle.checker.specs.Walk.{codesOf, nextCodes, pairOf};
 ghost use Rattle.isa.specs.Timing.{entries};
 use crate::flow::Flow;
 use crate::flow::flow_of;
@@ -48,7 +48,7 @@ pub(crate) fn fault_of(mask: &[u8], code: u16) -> u8
 // constant is built at each use.
 pub(crate) fn next_codes(mask: &[u8], list: &[u8; 256], code: u16) -> Codes
     requires { ⌜ now list ≡ entries ⌝ }
-    ensures { λ r. ⌜ codesOf r ≡ ranks (successors (now (mask .entry)) (pairOf code)) ⌝ }
+    ensures { λ r. ⌜ codesOf r ≡ nextCodes (now (mask .entry)) code ⌝ }
 {
     let address = code / 3;
     let level = code % 3;

@@ -1,15 +1,15 @@
 // The walk over the pairs that chains from the start reach, each taken once, in the order in which they were found.
 ghost use mathlib.Core.Path.{_≡_};
 ghost use Prim.Native.Nat.{_<_};
-ghost use Rattle.checker.specs.Walk.{Found, Room, Small, codesOf, pushed, pushedAll, work};
+ghost use Rattle.checker.specs.Walk.{Found, Room, Small, codesOf, nextCodes, pairs, pushed, pushedAll, work};
 use crate::next::Codes;
 use crate::next::next_codes;
 use rom::timing::list;
 
 // A code that is not found yet goes to the queue's end. Returns how many are found.
 fn push(seen: &mut [u8; 12288], queue: &mut [u16; 12288], tail: u16, code: u16) -> u16
-    requires { ⌜ code < 12288 ⌝ }
-    requires { ⌜ Room (now seen) tail ⌝ }
+    requires { ⌜ code < pairs ⌝ }
+    requires { ⌜ Room pairs (now seen) tail ⌝ }
     ensures { λ r.
         ⌜ work (now (seen .exit)) (now (queue .exit)) r ≡ pushed (work (now (seen .entry)) (now (queue .entry)) tail) code ⌝ }
 {
@@ -25,8 +25,8 @@ fn push(seen: &mut [u8; 12288], queue: &mut [u16; 12288], tail: u16, code: u16) 
 
 // Each of these codes that is not found yet goes to the queue's end.
 fn push_all(seen: &mut [u8; 12288], queue: &mut [u16; 12288], tail: u16, codes: Codes) -> u16
-    requires { ⌜ Small (codesOf codes) ⌝ }
-    requires { ⌜ Room (now seen) tail ⌝ }
+    requires { ⌜ Small pairs (codesOf codes) ⌝ }
+    requires { ⌜ Room pairs (now seen) tail ⌝ }
     ensures { λ r.
         ⌜ work (now (seen .exit)) (now (queue .exit)) r ≡ pushedAll (work (now (seen .entry)) (now (queue .entry)) tail) (codesOf codes) ⌝ }
 {
@@ -47,7 +47,7 @@ fn push_all(seen: &mut [u8; 12288], queue: &mut [u16; 12288], tail: u16, codes: 
 
 // A flag for each code: 1 where chains from the start, code 0, reach its pair.
 pub(crate) fn reach(mask: &[u8]) -> [u8; 12288]
-    ensures { λ r. ⌜ Found (now (mask .entry)) r ⌝ }
+    ensures { λ r. ⌜ Found pairs (nextCodes (now (mask .entry))) r ⌝ }
 {
     let entries = list();
     let mut seen = [0u8; 12288];

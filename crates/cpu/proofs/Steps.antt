@@ -4,6 +4,7 @@ use Prim.Native.Nat.{ℕ, _+_, _/_, _%_, _<_, _^_}
 use mathlib.Core.Path.{_≡_, refl, sym, ap, ap₂, subst, _∙_}
 use mathlib.Core.Bool.{Bool, true, false}
 use mathlib.Core.List.{List}
+use mathlib.Core.Logic.{inl, inr}
 use native.Mathlib.Omega.{arith}
 use lib.Dec.{eqb}
 use lib.ListN.{getD}
@@ -12,46 +13,19 @@ use Rattle.isa.specs.Choice.{pick}
 use Rattle.rom.specs.Fetching.{byteAt}
 use Rattle.isa.specs.Reading.{Reading, decoded}
 use Rattle.isa.specs.Timing.{entries, lengthOf, cyclesOf}
+use Rattle.isa.specs.Views.{View, on, jmp, branch, call, ret, reti, ei, view}
 use Rattle.isa.specs.declared.decoder.Decoded.{Decoded}
 use Rattle.isa.specs.declared.decoder.Decoded.the-variants.{Read}
 use Rattle.isa.proofs.Exact.{reading}
 use Rattle.isa.proofs.List.{length-at, cycles-at}
 use Rattle.isa.specs.declared.ProgramAddress.{ProgramAddress}
-use Rattle.isa.specs.declared.Pointer.the-variants.{R1R0, R3R2}
-use Rattle.isa.specs.declared.Condition.{Condition}
-use Rattle.isa.specs.declared.Condition.the-variants.{Ja, JnzR0, JnzR1, JnzR4, Jz, JnzA, Jc, Jnc, Jtmr}
 use Rattle.isa.specs.declared.Instruction.{Instruction}
-use Rattle.isa.specs.declared.Instruction.the-variants as I
 use Rattle.datapath.specs.Timer.{clocks, counted}
 use Rattle.cpu.specs.State.{State, state, onCpu, address, withPc, withCf, withTf, withHeld, withLevel, withStack, withFault, withCycles}
-use Rattle.cpu.specs.Effect.{withRegister, holds, tested, branched, called, returned, returnedWithCarry, effect}
+use Rattle.cpu.specs.Effect.{called, returned, returnedWithCarry, effect}
 use Rattle.cpu.specs.Step.{timed, ticked, entered, moved, settled, instructed, executed, vectorOf, stepped, step}
 use Rattle.cpu.specs.declared.Cpu.{Cpu}
-
--- what leaves the status leaves the fault
-module _ (f : ℕ) where
-  chosen : (t : Bool) (a b : Cpu) → a .status .fault ≡ f → b .status .fault ≡ f → pick t a b .status .fault ≡ f
-  chosen true a b p q = p
-  chosen false a b p q = q
-
-  register-keeps : (n v : ℕ) (c : Cpu) → c .status .fault ≡ f → withRegister n v c .status .fault ≡ f
-  unfolding withRegister
-  register-keeps n v c p = chosen (eqb n 0) _ _ p (chosen (eqb n 1) _ _ p (chosen (eqb n 2) _ _ p (chosen (eqb n 3) _ _ p p)))
-
-  test-keeps : (k : Condition) (c : Cpu) → c .status .fault ≡ f → tested k c .status .fault ≡ f
-  test-keeps (Ja n) c p = p
-  test-keeps JnzR0 c p = p
-  test-keeps JnzR1 c p = p
-  test-keeps JnzR4 c p = p
-  test-keeps Jz c p = p
-  test-keeps JnzA c p = p
-  test-keeps Jc c p = p
-  test-keeps Jnc c p = p
-  test-keeps Jtmr c p = p
-
-  branch-keeps : (k : Condition) (t : ProgramAddress) (c : Cpu) → c .status .fault ≡ f → branched k t c .status .fault ≡ f
-  unfolding branched
-  branch-keeps k t c p = chosen (holds k c) _ _ (test-keeps k c p) (test-keeps k c p)
+use Rattle.cpu.proofs.Leaves.{Standing, standing, Leaves, leaves}
 
 -- a choice of which one part keeps the fault at 0: where there is a fault, the other part was chosen
 module _ (c : Cpu) (z : c .status .fault ≡ 0) where
@@ -82,67 +56,18 @@ module _ (c : Cpu) (z : c .status .fault ≡ 0) where
 only-fault : (mask : List ℕ) (i : Instruction) (s : State) → s .cpu .status .fault ≡ 0 → (effect mask i s .cpu .status .fault ≡ 0 → ⊥)
     → effect mask i s ≡ onCpu (withFault (effect mask i s .cpu .status .fault)) s
 unfolding effect
-only-fault mask I.AddAM s e f = absurd (f e)
-only-fault mask I.AdcAM s e f = absurd (f e)
-only-fault mask I.SubAM s e f = absurd (f e)
-only-fault mask I.SbcAM s e f = absurd (f e)
-only-fault mask (I.AddAX d) s e f = absurd (f e)
-only-fault mask (I.SubAX d) s e f = absurd (f e)
-only-fault mask I.Daa s e f = absurd (f e)
-only-fault mask I.AndAM s e f = absurd (f e)
-only-fault mask I.OrAM s e f = absurd (f e)
-only-fault mask I.XorAM s e f = absurd (f e)
-only-fault mask I.AndMA s e f = absurd (f e)
-only-fault mask I.OrMA s e f = absurd (f e)
-only-fault mask I.XorMA s e f = absurd (f e)
-only-fault mask (I.AndAX d) s e f = absurd (f e)
-only-fault mask (I.OrAX d) s e f = absurd (f e)
-only-fault mask (I.XorAX d) s e f = absurd (f e)
-only-fault mask I.IncA s e f = absurd (f e)
-only-fault mask (I.IncR n) s e f = absurd (f (register-keeps 0 n _ (s .cpu) e))
-only-fault mask (I.IncM p) s e f = absurd (f e)
-only-fault mask I.DecA s e f = absurd (f e)
-only-fault mask (I.DecR n) s e f = absurd (f (register-keeps 0 n _ (s .cpu) e))
-only-fault mask (I.DecM p) s e f = absurd (f e)
-only-fault mask (I.MovAR n) s e f = absurd (f e)
-only-fault mask (I.MovRA n) s e f = absurd (f (register-keeps 0 n _ (s .cpu) e))
-only-fault mask (I.MovAM p) s e f = absurd (f e)
-only-fault mask (I.MovMA p) s e f = absurd (f e)
-only-fault mask (I.MovAX d) s e f = absurd (f e)
-only-fault mask (I.MovPairXX R1R0 low high) s e f = absurd (f e)
-only-fault mask (I.MovPairXX R3R2 low high) s e f = absurd (f e)
-only-fault mask (I.MovR4X d) s e f = absurd (f e)
-only-fault mask I.RlA s e f = absurd (f e)
-only-fault mask I.RlcA s e f = absurd (f e)
-only-fault mask I.RrA s e f = absurd (f e)
-only-fault mask I.RrcA s e f = absurd (f e)
-only-fault mask (I.InA p) s e f = absurd (f e)
-only-fault mask I.OutPaA s e f = absurd (f e)
-only-fault mask (I.Jmp t) s e f = absurd (f e)
-only-fault mask (I.Branch t k) s e f = absurd (f (branch-keeps 0 k t (s .cpu) e))
-only-fault mask (I.Call t) s e f = ap (λ (c : Cpu). state c (s .memory)) (call-only (s .cpu) e t f)
-only-fault mask I.Ret s e f = ap (λ (c : Cpu). state c (s .memory)) (ret-only (s .cpu) e f)
-only-fault mask I.Reti s e f = ap (λ (c : Cpu). state c (s .memory)) (reti-only (s .cpu) e f)
-only-fault mask I.Clc s e f = absurd (f e)
-only-fault mask I.Stc s e f = absurd (f e)
-only-fault mask I.Ei s e f = absurd (f e)
-only-fault mask I.Di s e f = absurd (f e)
-only-fault mask I.Nop s e f = absurd (f e)
-only-fault mask (I.TimerXX x) s e f = absurd (f e)
-only-fault mask I.TimerOn s e f = absurd (f e)
-only-fault mask I.TimerOff s e f = absurd (f e)
-only-fault mask I.MovATmrl s e f = absurd (f e)
-only-fault mask I.MovATmrh s e f = absurd (f e)
-only-fault mask I.MovTmrlA s e f = absurd (f e)
-only-fault mask I.MovTmrhA s e f = absurd (f e)
-only-fault mask (I.ReadR4A p) s e f = absurd (f e)
-only-fault mask (I.ReadMr0A p) s e f = absurd (f e)
-only-fault mask (I.SoundN n) s e f = absurd (f e)
-only-fault mask I.SoundA s e f = absurd (f e)
-only-fault mask I.SoundOne s e f = absurd (f e)
-only-fault mask I.SoundLoop s e f = absurd (f e)
-only-fault mask I.SoundOff s e f = absurd (f e)
-only-fault mask I.Halt s e f = absurd (f e)
+only-fault mask i s e = go (view i) (leaves mask i s)
+  where
+    go : {i : Instruction} (v : View i) → Leaves v (standing (s .cpu)) (standing (effect mask i s .cpu)) → (effect mask i s .cpu .status .fault ≡ 0 → ⊥)
+        → effect mask i s ≡ onCpu (withFault (effect mask i s .cpu .status .fault)) s
+    go on l f = absurd (f (l .fault ∙ e))
+    go (jmp t) l f = absurd (f (l .fault ∙ e))
+    go (branch t k) (inl l) f = absurd (f (l .fault ∙ e))
+    go (branch t k) (inr l) f = absurd (f (l .fault ∙ e))
+    go (call t) l f = ap (λ (c : Cpu). state c (s .memory)) (call-only (s .cpu) e t f)
+    go ret l f = ap (λ (c : Cpu). state c (s .memory)) (ret-only (s .cpu) e f)
+    go reti l f = ap (λ (c : Cpu). state c (s .memory)) (reti-only (s .cpu) e f)
+    go ei l f = absurd (f e)
 
 -- a fault: the processor with its PC back is the one before, with the fault set
 pub faulted : (mask : List ℕ) (i : Instruction) (s t : State) (l n : ℕ) → t ≡ effect mask i (onCpu (moved l) s) → s .cpu .status .fault ≡ 0 → (t .cpu .status .fault ≡ 0 → ⊥)

@@ -1,4 +1,3 @@
-pub mod Flows
 pub mod Kept
 pub mod Masks
 pub mod Property3

@@ -1,2 +1,3 @@
 pub mod Property3
 pub mod Reports
+pub mod Table

@@ -3,3 +3,4 @@ pub mod Machine
 pub mod Power
 pub mod Property2
 pub mod Report
+pub mod Table

@@ -42,7 +42,7 @@ returns-3 : tie.Need-returns-3
 returns-3 c =
     let r = c .before .before .before .before .before .before .before in
     let s = r .before .before .before .before .before .args in (
-      answered (s .mask .now) (r .reach .result) (r .reach .ensures) (s .marks .now) (c .before .before .before .before .pack .last .1 .0) (c .judge .result) (r .before .before .if1 .left) (c .before .before .before .before .pack .ensures) (c .judge .ensures),
+      answered (s .mask .now) (r .reach .result) (r .reach .ensures) (s .marks .now) (c .before .before .before .before .pack .last .1 .0) (c .judge .result) (r .before .before .if1 .left) (r .before .if2 .left) (c .before .before .before .before .pack .ensures) (c .judge .ensures),
       judged (s .mask .now) (r .reach .result) (c .judge .result) (c .judge .ensures)
           ∙ rw (eq-eqb _ 4096 (r .before .before .if1 .left), eq-eqb _ 4096 (r .before .if2 .left)) refl,
     )

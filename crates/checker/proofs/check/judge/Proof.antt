@@ -7,16 +7,16 @@ use borrow.Author.Count.{below-more}
 use borrow.Author.Needs.{needs}
 use lib.ListN.{getD}
 use Rattle.checker.specs.Marks.{fault}
-use Rattle.checker.specs.Walk.{pairOf}
-use Rattle.checker.proofs.Turn.{rank-pair}
+use Rattle.checker.specs.Walk.{pairs, pairOf}
+use Rattle.checker.proofs.Reach.{rank-pair}
 use Rattle.checker.proofs.check.judge.Statement.{statement}
 use Rattle.checker.proofs.check.judge.Tie as tie
 
 abbrev Inv-loop : tie.InvT-loop
-Inv-loop mask seen code₀ code = (code ≤ 12288) × ((k : ℕ) → k < code → getD seen k 0 ≡ 1 → fault mask (pairOf k) ≡ 0)
+Inv-loop mask seen code₀ code = (code ≤ pairs) × ((k : ℕ) → k < code → getD seen k 0 ≡ 1 → fault mask (pairOf k) ≡ 0)
 
 abbrev μ-loop : tie.MeasureT-loop
-μ-loop mask seen code₀ code = 12288 - code
+μ-loop mask seen code₀ code = pairs - code
 
 loop-holds : tie.Need-loop-holds Inv-loop μ-loop
 loop-holds c = (omega arith, λ k h. absurd (omega arith))

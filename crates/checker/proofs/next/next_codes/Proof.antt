@@ -3,7 +3,7 @@
 use Prim.Native.Nat.{ℕ, _+_, _*_, _/_, _%_}
 use mathlib.Core.Path.{_≡_, refl, ap, _∙_}
 use mathlib.Core.Bool.{Bool, true, false}
-use mathlib.Core.List.{List, [], _∷_}
+use mathlib.Core.List.{List, [], _∷_, map}
 use native.Mathlib.Omega.{arith}
 use lib.Dec.{eqb}
 use lib.ListN.{getD}
@@ -12,9 +12,10 @@ use Rattle.isa.specs.Choice.{pick}
 use Rattle.isa.specs.declared.ProgramAddress.{ProgramAddress}
 use Rattle.checker.specs.declared.flow.Flow.{Flow}
 use Rattle.checker.specs.declared.flow.Flow.the-variants.{On, Enable, Jump, To, Sub, Back}
-use Rattle.checker.specs.Marks.{nestingFault, handed, successors}
+use Rattle.checker.specs.Marks.{nestingFault, handed}
+use Rattle.checker.specs.Verdicts.{rank}
 use Rattle.rom.specs.Fetching.{readAt}
-use Rattle.checker.specs.Walk.{pairOf, ranks}
+use Rattle.checker.specs.Walk.{nextCodes}
 use Rattle.checker.proofs.Fetched.{met, length-in, entry-fits}
 use Rattle.checker.proofs.Reach.{Targets}
 use Rattle.checker.proofs.Successors.{next-unread, next-flow, next-targets}
@@ -23,7 +24,7 @@ use Rattle.checker.proofs.next.next_codes.Statement.{statement}
 use Rattle.checker.proofs.next.next_codes.Tie as tie
 
 abbrev handed-on : Flow → ℕ → ℕ → List ℕ
-handed-on g moved l = ranks (pick (eqb (nestingFault g l) 0) (handed g moved l) [])
+handed-on g moved l = map rank (pick (eqb (nestingFault g l) 0) (handed g moved l) [])
 
 read-at : (c : tie.After-decode) → c .decode .result ≡ readAt (c .before .before .before .before .args .mask .now) (c .before .before .before .before .args .code / 3)
 read-at c =
@@ -34,13 +35,13 @@ read-at c =
 
 at-flow : (c : tie.After-flow-of) (g : Flow) → c .flow-of .result ≡ g
     → handed-on g ((c .before .before .before .before .before .before .before .before .before .args .code / 3 + getD (c .before .before .before .before .before .before .before .before .before .args .list .now) (c .before .before .before .before .before .before .before .byte-at .result) 0 / 16) % 4096) (c .before .before .before .before .before .before .before .before .before .args .code % 3)
-    ≡ ranks (successors (c .before .before .before .before .before .before .before .before .before .args .mask .now) (pairOf (c .before .before .before .before .before .before .before .before .before .args .code)))
+    ≡ nextCodes (c .before .before .before .before .before .before .before .before .before .args .mask .now) (c .before .before .before .before .before .before .before .before .before .args .code)
 at-flow c g e =
     let s = c .before .before .before .before .before .before .before .before .before in
     let r = c .before .before .before .before .before in
     let i = c .before .before .before .instruction .given in
     let first = c .before .before .before .before .before .before .before .byte-at in
-    ap ranks
+    ap (map rank)
     (next-flow (s .args .mask .now) (s .args .code) (r .decode .result) (read-at r) (i .0 .0) (c .flow-of .result) g (i .1) (c .flow-of .ensures) e
     (first .result) (getD (s .args .list .now) (first .result) 0 / 16) (first .ensures) (length-in (s .args .list .now) (first .result) (s .pre)))
 
@@ -64,7 +65,7 @@ sub-other t moved l n = rw (ne-eqb l 0 n) refl
 back : (moved l : ℕ) → [] ≡ handed-on Back moved l
 back moved l = go (eqb (nestingFault Back l) 0)
   where
-    go : (b : Bool) → [] ≡ ranks (pick b [] [])
+    go : (b : Bool) → [] ≡ map rank (pick b [] [])
     go true = refl
     go false = refl
 
@@ -90,7 +91,7 @@ returns : tie.Need-returns
 returns c =
     let r = c .before .before in
     let s = r .before .before .before .before in
-    ap ranks (next-unread (s .args .mask .now) (s .args .code) (r .decode .result) (read-at r) (c .enum-told .given .1))
+    ap (map rank) (next-unread (s .args .mask .now) (s .args .code) (r .decode .result) (read-at r) (c .enum-told .given .1))
 
 cast-length : tie.Need-cast-length
 cast-length c = search needs

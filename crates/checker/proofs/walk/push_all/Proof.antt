@@ -1,7 +1,7 @@
 -- `checker::walk::push_all` meets its contract: an arm knows the codes, and a push keeps the room. Assumes nothing.
 use Prim.Native.Nat.{ℕ, _<_}
 use mathlib.Core.Path.{_≡_, sym, ap, subst, _∙_}
-use Rattle.checker.specs.Walk.{Work, work, pushed, pushedAll, Room, Small, codesOf}
+use Rattle.checker.specs.Walk.{Work, work, pushed, pushedAll, Room, Small, pairs, codesOf}
 use Rattle.checker.specs.declared.next.Codes.{Codes}
 use Rattle.checker.specs.declared.next.Codes.the-variants.{Nothing, One, Two, Three}
 use Rattle.checker.proofs.Count.{room-pushed}
@@ -10,12 +10,12 @@ use Rattle.checker.proofs.walk.push_all.Statement.{statement}
 use Rattle.checker.proofs.walk.push_all.Tie as tie
 
 -- a list's codes are in range where they are these codes
-small : (s d : Codes) → s ≡ d → Small (codesOf s) → Small (codesOf d)
-small s d e h = subst (λ (d : Codes). Small (codesOf d)) e h
+small : (s d : Codes) → s ≡ d → Small pairs (codesOf s) → Small pairs (codesOf d)
+small s d e h = subst (λ (d : Codes). Small pairs (codesOf d)) e h
 
 -- the room after a push
-room-after : (v w : Work) (c : ℕ) → w ≡ pushed v c → Room (v .seen) (v .tail) → c < 12288 → Room (w .seen) (w .tail)
-room-after v w c e r h = subst (λ (u : Work). Room (u .seen) (u .tail)) (sym e) (room-pushed v c r h)
+room-after : (v w : Work) (c : ℕ) → w ≡ pushed v c → Room pairs (v .seen) (v .tail) → c < pairs → Room pairs (w .seen) (w .tail)
+room-after v w c e r h = subst (λ (u : Work). Room pairs (u .seen) (u .tail)) (sym e) (room-pushed v c r h)
 
 -- pushes in a row
 none-pushed : (w : Work) (s : Codes) → s ≡ Nothing → w ≡ pushedAll w (codesOf s)

@@ -5,17 +5,18 @@ use mathlib.Core.Path.{sym, ap, subst, _∙_}
 use native.Mathlib.Omega.{arith}
 use borrow.Author.Needs.{needs}
 use lib.ListN.{getD, replicate, length-replicate}
-use Rattle.checker.specs.Walk.{Work, work, pushedAll, Small}
+use Rattle.checker.specs.Walk.{Work, work, pushedAll, Small, pairs, nextCodes}
 use Rattle.checker.proofs.Count.{zeros-replicate, getD-zeros}
-use Rattle.checker.proofs.Turn.{Walking, first, next-small, turn, found}
+use Rattle.checker.proofs.Reach.{codes-small}
+use Rattle.checker.proofs.Turn.{Walking, first, turn, found}
 use Rattle.checker.proofs.walk.reach.Statement.{statement}
 use Rattle.checker.proofs.walk.reach.Tie as tie
 
 abbrev Inv-loop : tie.InvT-loop
-Inv-loop mask entries seen₀ queue₀ head₀ tail₀ seen queue head tail = Walking mask (work seen queue tail) head
+Inv-loop mask entries seen₀ queue₀ head₀ tail₀ seen queue head tail = Walking pairs (nextCodes mask) (work seen queue tail) head
 
 abbrev μ-loop : tie.MeasureT-loop
-μ-loop mask entries seen₀ queue₀ head₀ tail₀ seen queue head tail = 12288 - head
+μ-loop mask entries seen₀ queue₀ head₀ tail₀ seen queue head tail = pairs - head
 
 list-requires : tie.Need-list-requires Inv-loop μ-loop
 list-requires c κs = search needs
@@ -25,8 +26,8 @@ array-write-seen c = omega arith
 
 loop-holds : tie.Need-loop-holds Inv-loop μ-loop
 loop-holds c =
-    first (c .before .before .args .mask .now) (replicate 12288 0) (replicate 12288 0) (length-replicate {A = ℕ} 12288 0) (zeros-replicate 12288) (getD-zeros 12288)
-    (length-replicate {A = ℕ} 12288 0) (getD-zeros 12288)
+    let len = length-replicate {A = ℕ} pairs 0 in
+    first pairs (nextCodes (c .before .before .args .mask .now)) (omega arith) (replicate pairs 0) (replicate pairs 0) len (zeros-replicate pairs) (getD-zeros pairs) len (getD-zeros pairs)
 
 cast-at : tie.Need-cast-at Inv-loop μ-loop
 cast-at c = omega (arith, c .before .loop .inv .core .room .left)
@@ -44,8 +45,8 @@ push-all-requires : tie.Need-push-all-requires Inv-loop μ-loop
 push-all-requires c κs =
     let l = c .before .before .before .before .before in
     let mask = l .before .before .before .args .mask .now in
-    let small = next-small mask (λ k. omega (arith, l .before .before .shared-slice-known .given k)) (getD (l .loop .queue) (l .loop .head) 0) in
-    (subst Small (sym (c .before .before .next-codes .ensures)) small, l .loop .inv .core .room)
+    let small = codes-small mask (λ k. omega (arith, l .before .before .shared-slice-known .given k)) (getD (l .loop .queue) (l .loop .head) 0) in
+    (subst (Small pairs) (sym (c .before .before .next-codes .ensures)) small, l .loop .inv .core .room)
 
 add-head : tie.Need-add-head Inv-loop μ-loop
 add-head c = omega (arith, c .before .before .before .before .before .before .loop .inv .core .room .left)
@@ -58,13 +59,14 @@ loop-again c =
     let l = c .before .before .before .before .before .before in
     let mask = l .before .before .before .args .mask .now in
     let w = work (l .loop .seen) (l .loop .queue) (l .loop .tail) in
-    subst (λ (v : Work). Walking mask v (l .loop .head + 1)) (sym (c .push-all .ensures ∙ ap (pushedAll w) (c .before .before .before .next-codes .ensures)))
-    (turn mask (λ k. omega (arith, l .before .before .shared-slice-known .given k)) w (l .loop .head) (l .loop .inv) (c .before .before .before .before .before .loop-test .taken))
+    subst (λ (v : Work). Walking pairs (nextCodes mask) v (l .loop .head + 1)) (sym (c .push-all .ensures ∙ ap (pushedAll w) (c .before .before .before .next-codes .ensures)))
+    (turn pairs (nextCodes mask) (omega arith) (codes-small mask (λ k. omega (arith, l .before .before .shared-slice-known .given k))) w (l .loop .head) (l .loop .inv) (c .before .before .before .before .before .loop-test .taken))
 
 returns : tie.Need-returns Inv-loop μ-loop
 returns c =
     let l = c .before in
-    found (l .before .before .before .args .mask .now) (λ k. omega (arith, l .before .before .shared-slice-known .given k)) (work (l .loop .seen) (l .loop .queue) (l .loop .tail)) (l .loop .head) (l .loop .inv)
+    let mask = l .before .before .before .args .mask .now in
+    found pairs (nextCodes mask) (omega arith) (codes-small mask (λ k. omega (arith, l .before .before .shared-slice-known .given k))) (work (l .loop .seen) (l .loop .queue) (l .loop .tail)) (l .loop .head) (l .loop .inv)
     (c .loop-test .left)
 
 pub reach-spec : {M : Type 1} → statement M
