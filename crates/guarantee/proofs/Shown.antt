@@ -11,7 +11,7 @@ use lib.Seq.{take-at, drop-at, drop-drop}
 use borrow.Author.Tests.{eq-eqb}
 use Rattle.rom.specs.Fetching.{Bytes}
 use Rattle.machine.specs.Power.{blank}
-use Rattle.machine.specs.Report.{heading, reported}
+use Rattle.machine.specs.Report.{reported}
 use Rattle.machine.specs.Events.{Input}
 use Rattle.machine.specs.declared.Machine.{Machine}
 use Rattle.machine.proofs.Reports.{report-length}
@@ -27,7 +27,6 @@ use Rattle.guarantee.proofs.Property3.{input-kept}
 module _ (mask marks : List ℕ) (bytes : Bytes mask) (safe : Safe mask) (mark : Marked mask marks) where
   -- a machine that keeps it, in its report
   shows : (m : Machine) → Keeps mask (m .cpu) → Shows marks (reported m)
-  unfolding heading
   shows m k =
       record {
         no-fault = k .no-fault;
