@@ -43,6 +43,19 @@ packedBytes refusal count first second = refusal + 2 ^ 8 * count + 2 ^ 16 * firs
 abbrev pub writeNumber : Writing.Answer → ℕ
 writeNumber w = packedBytes (w .number) (length (w .bytes)) (getD (w .bytes) 0 0) (getD (w .bytes) 1 0)
 
+-- the refusal, the count and the bytes, as a host takes them out of an answer
+abbrev pub refusalOf : ℕ → ℕ
+refusalOf w = w % 2 ^ 8
+
+abbrev pub countOf : ℕ → ℕ
+countOf w = w / 2 ^ 8 % 2 ^ 8
+
+abbrev pub firstOf : ℕ → ℕ
+firstOf w = w / 2 ^ 16 % 2 ^ 8
+
+abbrev pub secondOf : ℕ → ℕ
+secondOf w = w / 2 ^ 24
+
 -- "3: .. in an instruction to be written: a field outside its pattern", also where the numbers name no instruction
 abbrev pub writingBy : Meant → Writing.Answer
 writingBy (one i) = writing i
