@@ -4,7 +4,7 @@ use Prim.Native.Nat.{ℕ, _+_, _*_, _/_, _%_, _^_}
 use mathlib.Core.List.{[]}
 use lib.ListN.{length, getD}
 use Rattle.rom.specs.Fetching as Fetching
-use Rattle.rom.specs.Fetching.{refused, unreadable, instruction}
+use Rattle.rom.specs.Fetching.{refused, faulted, instruction}
 use Rattle.rom.specs.Writing as Writing
 use Rattle.rom.specs.Writing.{writing}
 use Rattle.abi.specs.Forms.{Named, numbersOf, Meant, one, nothing, named}
@@ -17,10 +17,10 @@ packed refusal fault form a b size cycles =
 abbrev pub packedNamed : Named → ℕ → ℕ → ℕ
 packedNamed n size cycles = packed 0 0 (n .form) (n .a) (n .b) size cycles
 
--- "An instruction that cannot be read gives fault 1"; what is refused or cannot be read has 0 in all else
+-- what is refused or gives a fault has 0 in all else
 abbrev pub readNumber : Fetching.Answer → ℕ
 readNumber (refused n) = packed n 0 0 0 0 0 0
-readNumber unreadable = packed 0 1 0 0 0 0 0
+readNumber (faulted n) = packed 0 n 0 0 0 0 0
 readNumber (instruction i size cycles) = packedNamed (numbersOf i) size cycles
 
 -- the form, the operands and the length, as a host takes them out of an answer
