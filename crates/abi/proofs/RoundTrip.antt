@@ -72,10 +72,10 @@ module _ (x y : ℕ) (small : y < 256) where
     b-fits = ltb-true (n .b) 65536 (and-right (ltb (n .a) 256) (ltb (n .b) 65536) operands)
 
     counted : length (bytesOf i) ≡ lengthOf x
-    counted = by-form i (reads .fields) .sized ∙ sym (ap (λ (c : Columns). c .length) (timed x .read y i small reads))
+    counted = by-form i (reads .fields) .sized ∙ sym (ap (λ (c : Columns). c .bytes) (timed x .read y i small reads))
 
     size-fits : lengthOf x < 256
-    size-fits = rw (ap (λ (c : Columns). c .length) (timed x .read y i small reads)) (omega (arith, by-form i (reads .fields) .short))
+    size-fits = rw (ap (λ (c : Columns). c .bytes) (timed x .read y i small reads)) (omega (arith, by-form i (reads .fields) .short))
 
     written : writing i ≡ first (length (bytesOf i))
     written = rw (reads .fields) (ap (λ (s : List ℕ). record { number = 0; bytes = s }) (sym (reads .bytes)))

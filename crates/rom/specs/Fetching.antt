@@ -31,7 +31,7 @@ cyclesAt mask a = cyclesOf (byteAt mask a)
 
 -- "PC moves on by the length, modulo 4,096": the moved address
 abbrev pub movedBy : ℕ → ℕ → ℕ
-movedBy length a = (a + length) % 4096
+movedBy size a = (a + size) % 4096
 
 abbrev pub movedFrom : List ℕ → ℕ → ℕ
 movedFrom mask a = movedBy (lengthAt mask a) a
