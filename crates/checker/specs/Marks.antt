@@ -5,6 +5,7 @@ use mathlib.Core.Bool.{Bool, true, false}
 use mathlib.Core.List.{List, [], _∷_, _++_}
 use lib.Dec.{eqb}
 use Rattle.isa.specs.Choice.{pick}
+use Rattle.isa.specs.Reading.{faultNumber}
 use Rattle.rom.specs.Fetching.{readAt, movedFrom, branchTo}
 use Rattle.isa.specs.declared.ProgramAddress.{ProgramAddress}
 use Rattle.isa.specs.declared.decoder.Decoded.{Decoded}
@@ -55,7 +56,7 @@ nestingFault Back l = pick (eqb l 0) 3 0
 
 abbrev pub faultOf : Decoded → ℕ → ℕ
 faultOf (Read i) l = nestingFault (flowOf i) l
-faultOf Unreadable l = 1
+faultOf Unreadable l = faultNumber Unreadable
 
 -- "It is forbidden when the instruction at that address gives fault 1, 2 or 3 in that level": the fault, 0 where it is not forbidden
 unfoldable pub fault : List ℕ → Pair → ℕ
