@@ -5,8 +5,6 @@ ghost use lib.Dec.{eqb, ltb};
 ghost use lib.ListN.{length};
 ghost use Rattle.cpu.specs.Range.{controlOk, cpuOk, interruptsOk, nibbles, optionsOk, outputsOk, pinsOk, registersOk, stackOk, statusOk, timerOk, valid};
 ghost use Rattle.cpu.specs.State.{state};
-ghost use Rattle.machine.specs.Machine.{stateOf};
-use crate::Machine;
 use cpu::Control;
 use cpu::Cpu;
 use cpu::Interrupts;
@@ -154,19 +152,10 @@ fn cpu_ok(c: Cpu) -> bool
     )
 }
 
-// Whether a machine is in range, from its two parts: the memory is lent, not copied.
+// Whether a machine is in range, from its two parts: the memory is lent, not copied. Refusal 5 is the answer where this is false.
 pub(crate) fn sound(cpu: Cpu, memory: &[u8; 160]) -> bool
     requires { ⌜ length (now memory) ≡ 160 ⌝ }
     ensures { λ b. ⌜ b ≡ valid (state cpu (now (memory .entry))) ⌝ }
 {
     both(cpu_ok(cpu), all_nibbles(memory))
-}
-
-impl Machine {
-    // Refusal 5 is the answer to an event where this is false.
-    pub fn valid(self) -> bool
-        ensures { λ b. ⌜ b ≡ valid (stateOf self) ⌝ }
-    {
-        sound(self.cpu, &self.memory)
-    }
 }
