@@ -21,7 +21,8 @@ use Rattle.isa.specs.declared.decoder.Decoded.the-variants.{Read, Unreadable}
 use Rattle.isa.proofs.Exact.{and-left, and-right, back, exact, timed}
 use Rattle.abi.specs.Forms.{Named, numbersOf, Meant, one, nothing, named, kept}
 use Rattle.abi.specs.Answers.{packed, packedNamed, readNumber, formOf, aOf, bOf, sizeOf, packedBytes, refusalOf, countOf, firstOf, secondOf, writeNumber, writingBy, writingOf}
-use Rattle.abi.specs.RoundTrip.{Bytes, bytesAt, Gives, ReadThenWrite, WriteThenRead}
+use Rattle.abi.specs.RoundTrip.{bytesAt, Gives, ReadThenWrite, WriteThenRead}
+use Rattle.rom.specs.Fetching.{Bytes}
 use Rattle.abi.proofs.Inverse as Inverse
 use Rattle.abi.proofs.Inverse.{by-form, inverse}
 use Rattle.abi.proofs.Kept.{named-kept}

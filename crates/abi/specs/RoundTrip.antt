@@ -3,13 +3,10 @@
 use Prim.Native.Nat.{ℕ, _+_, _%_, _^_, _<_}
 use mathlib.Core.Path.{_≡_}
 use mathlib.Core.List.{List, [], _∷_}
-use lib.ListN.{length, take, getD}
-use Rattle.rom.specs.Fetching.{byteAt, fetching}
+use lib.ListN.{length, take}
+use Rattle.rom.specs.Fetching.{Bytes, byteAt, fetching}
 use Rattle.abi.specs.Forms.{Named, kept}
 use Rattle.abi.specs.Answers.{readNumber, writeNumber, writingOf, formOf, aOf, bOf, sizeOf, refusalOf, countOf, firstOf, secondOf}
-
-abbrev pub Bytes : List ℕ → Type 0
-Bytes mask = (k : ℕ) → getD mask k 0 < 256
 
 -- the first n of the bytes at an address
 abbrev pub bytesAt : List ℕ → ℕ → ℕ → List ℕ

@@ -51,9 +51,6 @@ withOutputs x c = record { registers = c .registers; control = c .control; timer
 abbrev pub withPins : Pins → Cpu → Cpu
 withPins x c = record { registers = c .registers; control = c .control; timer = c .timer; interrupts = c .interrupts; stack = c .stack; status = c .status; outputs = c .outputs; pins = x; options = c .options; cycles = c .cycles }
 
-abbrev pub withOptions : Options → Cpu → Cpu
-withOptions x c = record { registers = c .registers; control = c .control; timer = c .timer; interrupts = c .interrupts; stack = c .stack; status = c .status; outputs = c .outputs; pins = c .pins; options = x; cycles = c .cycles }
-
 abbrev pub withCycles : ℕ → Cpu → Cpu
 withCycles x c = record { registers = c .registers; control = c .control; timer = c .timer; interrupts = c .interrupts; stack = c .stack; status = c .status; outputs = c .outputs; pins = c .pins; options = c .options; cycles = x }
 

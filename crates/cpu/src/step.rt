@@ -1,6 +1,6 @@
 // One step: an interrupt taken, or one instruction, and the cycles that it spends.
 ghost use mathlib.Core.Path.{_≡_};
-ghost use Prim.Native.Nat.{_+_, _%_};
+ghost use Rattle.rom.specs.Fetching.{movedBy};
 ghost use Rattle.cpu.specs.State.{state};
 ghost use Rattle.cpu.specs.Step.{entered, executed, step, ticked, timed, vectorOf};
 ghost use Rattle.isa.specs.Timing.{entries};
@@ -16,7 +16,7 @@ use std::num::wrapping_add_u32;
 
 // The address `length` bytes on, modulo 4,096.
 fn address_after(pc: u16, length: u8) -> u16
-    ensures { λ r. ⌜ r ≡ (pc + length) % 4096 ⌝ }
+    ensures { λ r. ⌜ r ≡ movedBy length pc ⌝ }
 {
     (pc % 4096 + length as u16) % 4096
 }

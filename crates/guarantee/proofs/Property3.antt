@@ -12,7 +12,7 @@ use Rattle.cpu.specs.declared.Options.{Options}
 use Rattle.datapath.specs.Timer.{counted}
 use Rattle.machine.specs.Machine.{stateOf}
 use Rattle.machine.specs.Power.{reset, powered, powerRefusal, answered, powerOn}
-use Rattle.machine.specs.Events.{woken, wakes, withPorts, withInt, pinned, interrupted, clocked, counting, happened, rangeRefusal, refusalOf, applied, Input, power, named, answerTo, Call, after, Every, UnderMask, Session}
+use Rattle.machine.specs.Events.{woken, wakes, withPorts, withInt, pinned, interrupted, clocked, counting, happened, refusalOf, applied, Input, power, named, answerTo, Call, after, Every, UnderMask, Session}
 use Rattle.machine.specs.declared.Machine.{Machine}
 use Rattle.machine.specs.declared.Answer.{Answer}
 use Rattle.machine.specs.declared.events.Event.{Event}
@@ -59,7 +59,7 @@ module _ (mask : List ℕ) (safe : Safe mask) where
   input-kept given (power options image) u m k = answered-kept (powerRefusal options image) (powered options image) m (powered-kept options image) k
   input-kept given (named (Known e)) u m k =
       answered-kept (refusalOf given e m) (happened given e m) m (happened-kept given e (λ n p. u n (ap (λ (x : Event). named (Known x)) p)) m k) k
-  input-kept given (named Unknown) u m k = answered-kept (pick (valid (stateOf m)) 7 (rangeRefusal m)) m m k k
+  input-kept given (named Unknown) u m k = answered-kept (pick (valid (stateOf m)) 7 5) m m k k
 
   after-kept : (ks : List Call) → Every (UnderMask mask) ks → (m : Machine) → Keeps mask (m .cpu) → Keeps mask (after ks m .cpu)
   unfolding after

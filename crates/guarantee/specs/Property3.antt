@@ -1,5 +1,5 @@
 -- Property 3 of document 01, one claim about the whole list. It speaks of what the exported functions promise: `checker::check` promises
--- `Answers`, `Machine::power_on` promises `powerOn` and `Machine::apply` promises `applied`, and a `Session` is a list of such calls, each on
+-- `Answers`, `Machine::power_on` promises `powerOn` and `Machine::apply_named` `namedAnswer`, and a `Session` is a list of such calls, each on
 -- the machine that the one before answered. Assumes nothing.
 use Prim.Native.Nat.{ℕ}
 use mathlib.Core.Path.{_≡_}
@@ -16,10 +16,10 @@ use Rattle.checker.specs.declared.check.Verdict.the-variants.{Passed}
 
 -- what is assumed: the mask is bytes, the checker passed it and wrote these marks, and a power-on was accepted, whatever machine was there
 -- before
-pub record Given (mask old marks : List ℕ) (options : Options) (image : List ℕ) (first : Machine) (start : Answer) : Type 0 where
+pub record Given (mask old marks : List ℕ) (options : Options) (image : List ℕ) (before : Machine) (start : Answer) : Type 0 where
   pub bytes : Bytes mask
   pub passed : Answers mask old marks Passed
-  pub powering : start ≡ powerOn options image first
+  pub powering : start ≡ powerOn options image before
   pub accepted : start .refusal ≡ 0
 
 -- what holds of the machine after the list: it is "in every field, the machine that this document's rules give from that power-on, the mask
@@ -33,6 +33,6 @@ pub record Holds (mask marks : List ℕ) (options : Options) (image : List ℕ) 
 -- leaves it as it was, and a further power-on has options and an image of its own. Every Run in the list has the one passed mask"
 abbrev pub Property3 : Type 0
 Property3 =
-    (mask old marks : List ℕ) (options : Options) (image : List ℕ) (first : Machine) (start : Answer) → Given mask old marks options image first start
+    (mask old marks : List ℕ) (options : Options) (image : List ℕ) (before : Machine) (start : Answer) → Given mask old marks options image before start
     → (calls : List Call) (last : Machine) → Every (UnderMask mask) calls → Session (start .machine) calls last
     → Holds mask marks options image calls last

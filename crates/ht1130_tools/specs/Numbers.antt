@@ -3,7 +3,7 @@
 use Prim.Native.Nat.{ℕ, _+_, _*_, _^_}
 use mathlib.Core.Path.{_≡_}
 use mathlib.Core.List.{List}
-use Rattle.checker.specs.Verdicts.{Answers}
+use Rattle.checker.specs.Verdicts.{Answers, numberOf}
 use Rattle.checker.specs.declared.check.Verdict.{Verdict}
 use Rattle.checker.specs.declared.check.Verdict.the-variants.{Passed, Failed, BadMask, BadMarks}
 use Rattle.script.specs.Reports.{Applied}
@@ -14,14 +14,18 @@ use Rattle.script.specs.declared.Checked.{Checked}
 abbrev pub verdictNumber : Verdict → ℕ
 verdictNumber Passed = 0
 verdictNumber (Failed f a l) = f * 2 ^ 8 + l * 2 ^ 16 + a * 2 ^ 32
-verdictNumber BadMask = 1
-verdictNumber BadMarks = 2
+verdictNumber BadMask = numberOf BadMask
+verdictNumber BadMarks = numberOf BadMarks
 
 -- what `ht1130_check` leaves: a verdict that answers for the mask and the marks at entry and at exit, and its number
 pub record Checks (mask old new : List ℕ) (r : ℕ) : Type 0 where
   pub verdict : Verdict
   pub answers : Answers mask old new verdict
   pub number : r ≡ verdictNumber verdict
+
+-- the number and the marks depend on the mask and the marks at entry alone
+abbrev pub ChecksDetermine : Type 0
+ChecksDetermine = (mask old new other : List ℕ) (r q : ℕ) → Checks mask old new r → Checks mask old other q → (r ≡ q) × (new ≡ other)
 
 -- "one line `refused N at P`": N in byte 0, P in bytes 4 and 5
 abbrev pub scriptNumber : Checked → ℕ

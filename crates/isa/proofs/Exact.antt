@@ -12,7 +12,7 @@ use lib.ListN.{length, take, getD}
 use borrow.Author.Tests.{ltb-true, eqb-true, lt-ltb, le-ltb, ne-eqb}
 use Rattle.isa.specs.Choice.{pick}
 use Rattle.isa.specs.Code.{bytesOf, inRange, leading, bitInRange}
-use Rattle.isa.specs.Reading.{Reads, Reading, Entry, none, whole, fixed, nibble, byte, map, complete, decoded}
+use Rattle.isa.specs.Reading.{Reads, Reading, Entry, none, whole, fixed, nibble, byte, map, complete, decoded, ReadingDetermines}
 use Rattle.isa.specs.Timing.{Columns, columns, columnsOf, columnsAt, entryColumns, Timed}
 use Rattle.isa.specs.declared.decoder.Decoded.{Decoded}
 use Rattle.isa.specs.declared.decoder.Decoded.the-variants.{Read, Unreadable}
@@ -308,6 +308,9 @@ reading a b Unreadable h r = go (decoded a b) (exact a b h)
     go : (d : Decoded) → Reading a b d → Unreadable ≡ d
     go (Read i) s = absurd (r i s)
     go Unreadable s = refl
+
+pub reading-determines : ReadingDetermines
+reading-determines a b d e h r s = reading a b d h r ∙ sym (reading a b e h s)
 
 -- ---- the list's entries
 timed-read : (a b : ℕ) (i : Instruction) → b < 256 → Reads a b i → columnsAt a ≡ columnsOf i

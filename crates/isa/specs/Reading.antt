@@ -1,6 +1,6 @@
 -- What two bytes read as. The meaning is `Reads`, stated from `Code` alone. `decoded` computes it from a map by first byte: the
 -- laws of proofs/Exact.antt show that the two agree, so a reader believes `Reads` and not the map. Assumes nothing.
-use Prim.Native.Nat.{ℕ, zero, suc, _+_, _*_}
+use Prim.Native.Nat.{ℕ, zero, suc, _+_, _*_, _<_}
 use mathlib.Core.Path.{_≡_}
 use mathlib.Core.Bool.{Bool, true, false}
 use mathlib.Core.List.{List, [], _∷_, _++_}
@@ -44,6 +44,10 @@ Faulting a b d (suc (suc n)) = ⊥
 
 abbrev pub Reading : ℕ → ℕ → Decoded → Type 0
 Reading a b d = Faulting a b d (faultNumber d)
+
+-- two answers to the same bytes are one
+abbrev pub ReadingDetermines : Type 0
+ReadingDetermines = (a b : ℕ) (d e : Decoded) → b < 256 → Reading a b d → Reading a b e → d ≡ e
 
 -- what a first byte leaves to its second
 pub data Entry : Type 0 where

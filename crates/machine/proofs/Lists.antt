@@ -26,8 +26,8 @@ use Rattle.cpu.proofs.Kept.{step-valid}
 use Rattle.machine.specs.Machine.{stateOf, machineOf}
 use Rattle.machine.specs.Power.{afterRes, reset, powered, powerRefusal, answered, powerOn}
 use Rattle.cpu.specs.Run.{ran}
-use Rattle.machine.specs.Events.{woken, wakes, withPorts, withInt, pinned, interrupted, clocked, counting, happened, maskOk, valuesOk, rangeRefusal, refusalOf, applied, Input, power, named, answerTo, Call, after, Every, Session, ended, calling}
-use Rattle.machine.specs.Report.{Reporting, reporting, report, reported}
+use Rattle.machine.specs.Events.{woken, wakes, withPorts, withInt, pinned, interrupted, clocked, counting, happened, maskOk, valuesOk, refusalOf, applied, Input, power, named, answerTo, Call, after, Every, Session, ended, calling}
+use Rattle.machine.specs.Report.{reporting, report, reported}
 use Rattle.machine.specs.Property2.{Property2}
 use Rattle.machine.specs.declared.Machine.{Machine}
 use Rattle.machine.specs.declared.Answer.{Answer}
@@ -200,7 +200,7 @@ pub input-valid : (mask : List ℕ) → Bytes mask → (i : Input) (m : Machine)
 unfolding powerOn applied
 input-valid mask b (power o image) m v = answered-valid (powerRefusal o image) (powered o image) m (λ e. powered-valid o image e) v
 input-valid mask b (named (Known e)) m v = answered-valid (refusalOf mask e m) (happened mask e m) m (λ r. happened-valid mask b e m (unrefused mask e m r) v) v
-input-valid mask b (named Unknown) m v = answered-valid (pick (valid (stateOf m)) 7 (rangeRefusal m)) m m (λ e. v) v
+input-valid mask b (named Unknown) m v = answered-valid (pick (valid (stateOf m)) 7 5) m m (λ e. v) v
 
 -- no list of inputs takes the machine out of its ranges
 pub after-valid : (ks : List Call) → Every (λ (k : Call). Bytes (k .mask)) ks → (m : Machine) → valid (stateOf m) ≡ true → valid (stateOf (after ks m)) ≡ true
@@ -235,7 +235,5 @@ property2 options image before start e z calls last bytes s =
     record {
       state = q;
       in-range = v;
-      shows = λ number old new l r.
-          let w = r ∙ good-report last old l v in
-          (ap (λ (x : Reporting). x .refusal) w, ap (λ (x : Reporting). x .bytes) w ∙ ap reported q);
+      shows = λ out l. good-report last out l v ∙ ap (λ (m : Machine). reporting 0 (reported m)) q;
     }

@@ -9,7 +9,7 @@ use lib.ListN.{length}
 use Rattle.isa.specs.Choice.{pick}
 use Rattle.datapath.specs.Timer.{counted}
 use Rattle.cpu.specs.State.{withHeld, withHalted, withPins}
-use Rattle.cpu.specs.Step.{timed, step}
+use Rattle.cpu.specs.Step.{timed}
 use Rattle.cpu.specs.Range.{nibble, bit, valid}
 use Rattle.cpu.specs.declared.Cpu.{Cpu}
 use Rattle.cpu.specs.declared.Options.{Options}
@@ -100,12 +100,12 @@ unfoldable pub applied : List ℕ → Event → Machine → Answer
 applied mask e m = answered (refusalOf mask e m) (happened mask e m) m
 
 -- RES by itself answers as the event does
-unfoldable pub resetting : Machine → Answer
-resetting m = answered (rangeRefusal m) (reset m) m
+abbrev pub resetting : Machine → Answer
+resetting m = applied [] Res m
 
 -- one step by itself answers as a Run of one step does
-unfoldable pub stepping : List ℕ → Machine → Answer
-stepping mask m = answered (refusalOf mask (Run 1) m) (machineOf (step mask (stateOf m))) m
+abbrev pub stepping : List ℕ → Machine → Answer
+stepping mask m = applied mask (Run 1) m
 
 -- ---- an event as a kind and numbers
 -- "2 Run: two-byte step count", "3 pins: PM, PS, PP. 4 INT: 0 or 1. 6 RES: empty", "5 TMCLK: two-byte count of rising edges". What a kind does
@@ -133,7 +133,7 @@ pub data Input : Type 0 where
 -- an unknown kind is refused, but a machine out of range comes first: "the lowest number wins"
 abbrev pub namedAnswer : List ℕ → Named → Machine → Answer
 namedAnswer mask (Known e) m = applied mask e m
-namedAnswer mask Unknown m = answered (pick (valid (stateOf m)) (kindRefusal Unknown) (rangeRefusal m)) m m
+namedAnswer mask Unknown m = answered (pick (valid (stateOf m)) (kindRefusal Unknown) 5) m m
 
 abbrev pub answerTo : List ℕ → Input → Machine → Answer
 answerTo mask (power options image) m = powerOn options image m
@@ -158,8 +158,9 @@ abbrev pub Every : (Call → Type 0) → List Call → Type 0
 Every P [] = Unit {0}
 Every P (k ∷ ks) = P k × Every P ks
 
--- machines handed on: `Machine::power_on` promises `r ≡ powerOn ..` and `Machine::apply` promises `r ≡ applied ..`, so each call's answer is
--- `answerTo`'s, and each call gets the machine that the one before answered
+-- machines handed on: `Machine::power_on` promises `r ≡ powerOn ..`, `Machine::apply_named` `r ≡ namedAnswer ..`, and `apply`, `reset` and `step` what
+-- it says of their events. So each call's answer is `answerTo`'s, and each gets the machine that the one before answered; a call on a lent record is
+-- one too, whose answer is the number and the record that it left
 pub data Session : Machine → List Call → Machine → Type 0 where
   ended : {m : Machine} → Session m [] m
   calling : {m n : Machine} {ks : List Call} (k : Call) (r : Answer) → r ≡ answerTo (k .mask) (k .input) m → Session (r .machine) ks n → Session m (k ∷ ks) n

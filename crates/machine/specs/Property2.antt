@@ -1,5 +1,5 @@
--- Property 2 of document 01 over a whole list, from an accepted power-on: "After any list of events from power-on, every field and the display are
--- those of document 01". Each Run may have a mask of its own, and a refused input is one of the list. Assumes nothing.
+-- Demand 2 over a whole list, from an accepted power-on: after any list of inputs every field and the display are those of document 01's rules. Each
+-- Run may have a mask of its own, and a refused input is one of the list. Assumes nothing.
 use Prim.Native.Nat.{ℕ}
 use mathlib.Core.Path.{_≡_}
 use mathlib.Core.Bool.{true}
@@ -15,13 +15,12 @@ use Rattle.machine.specs.Report.{reporting, report, reported}
 use Rattle.machine.specs.declared.Machine.{Machine}
 use Rattle.machine.specs.declared.Answer.{Answer}
 
--- what holds of the machine after the list: it is in every field the one that the rules give, it is in range, and its report, whatever the lent
--- buffer held, is the definition's, the display with it
+-- what holds of the machine after the list: it is in every field the one that the rules give, it is in range, and a report of it is not refused and
+-- is the definition's, the display with it
 pub record Ruled (options : Options) (image : List ℕ) (calls : List Call) (last : Machine) : Type 0 where
   pub state : last ≡ after calls (powered options image)
   pub in-range : valid (stateOf last) ≡ true
-  pub shows : (number : ℕ) (old new : List ℕ) → length old ≡ 48 → reporting number new ≡ report last old
-      → (number ≡ 0) × (new ≡ reported (after calls (powered options image)))
+  pub shows : (out : List ℕ) → length out ≡ 48 → report last out ≡ reporting 0 (reported (after calls (powered options image)))
 
 -- a mask is bytes, as every lent slice is
 abbrev pub Property2 : Type 0

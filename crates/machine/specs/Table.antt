@@ -10,7 +10,7 @@ use Rattle.cpu.specs.declared.Cpu.{Cpu}
 use Rattle.cpu.specs.declared.Options.{Options}
 use Rattle.machine.specs.Power.{afterRes}
 
--- a mask of NOPs with some bytes in it
+-- a mask of NOPs
 unfoldable pub nops : List ℕ
 nops = replicate 4096 0x3e
 

@@ -7,7 +7,7 @@ ghost use Rattle.machine.specs.Machine.{machineOf};
 ghost use Rattle.machine.specs.Events.{applied, clocked, counting, eventOf, fallen, happened, interrupted, maskOk, namedAnswer, pinned, refusalOf, stepping, valuesOk, wakes, withInt, withPorts, woken};
 use crate::Answer;
 use crate::Machine;
-use crate::power::after_res;
+use crate::power::reset_cpu;
 use crate::ranges::both;
 use crate::ranges::sound;
 use cpu::Cpu;
@@ -194,7 +194,7 @@ fn happened(cpu: Cpu, event: Event, mask: &[u8], memory: &mut [u8; 160]) -> Cpu
         Event::Pins(pm, ps, pp) => pinned(cpu, pm, ps, pp),
         Event::Int(level) => interrupted(cpu, level),
         Event::Tmclk(n) => counting(cpu, n),
-        Event::Res => after_res(cpu.registers, cpu.pins, cpu.options, cpu.cycles),
+        Event::Res => reset_cpu(cpu),
     }
 }
 

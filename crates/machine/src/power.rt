@@ -52,7 +52,7 @@ fn image_memory(image: &[u8]) -> [u8; 160]
 }
 
 // The processor after RES, with what RES keeps.
-pub(crate) fn after_res(registers: Registers, pins: Pins, options: Options, cycles: u32) -> Cpu
+fn after_res(registers: Registers, pins: Pins, options: Options, cycles: u32) -> Cpu
     ensures { λ r. ⌜ r ≡ afterRes registers pins options cycles ⌝ }
 {
     Cpu {
@@ -88,6 +88,13 @@ pub(crate) fn after_res(registers: Registers, pins: Pins, options: Options, cycl
         options,
         cycles,
     }
+}
+
+// RES on a processor: what it keeps is its own.
+pub(crate) fn reset_cpu(cpu: Cpu) -> Cpu
+    ensures { λ r. ⌜ r ≡ afterRes (cpu .registers) (cpu .pins) (cpu .options) (cpu .cycles) ⌝ }
+{
+    after_res(cpu.registers, cpu.pins, cpu.options, cpu.cycles)
 }
 
 // The machine that a power-on makes of options and an image.
@@ -170,8 +177,7 @@ impl Machine {
         ensures { λ r. ⌜ r ≡ resetting self ⌝ }
     {
         if sound(self.cpu, &self.memory) {
-            let cpu = self.cpu;
-            let next = after_res(cpu.registers, cpu.pins, cpu.options, cpu.cycles);
+            let next = reset_cpu(self.cpu);
             self.cpu = next;
             return Answer {
                 refusal: 0,

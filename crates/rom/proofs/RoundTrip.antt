@@ -9,6 +9,7 @@ use native.Mathlib.Omega.{arith}
 use lib.ListN.{length, take}
 use Rattle.isa.specs.Code.{bytesOf, inRange}
 use Rattle.isa.specs.Reading.{Reads, Reading, decoded}
+use Rattle.rom.specs.RoundTrip.{RoundTrip}
 use Rattle.rom.specs.Writing.{Answer, answerOf, fitting, writing}
 use Rattle.isa.specs.declared.Instruction.{Instruction}
 use Rattle.isa.specs.declared.decoder.Decoded.{Decoded}
@@ -37,3 +38,6 @@ pub read-back-two : (i : Instruction) (a b : ℕ) (d : Decoded) → b < 256 → 
 read-back-two i a b d h e r =
     let w = done (inRange i) (bytesOf i) (a ∷ b ∷ []) e in
     reading a b d h r ∙ back a b i (two-byte (w .0) (w .1) refl refl)
+
+pub round-trip : RoundTrip
+round-trip = record { written-back = written-back; read-back-one = read-back-one; read-back-two = read-back-two }

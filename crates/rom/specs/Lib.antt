@@ -1,2 +1,3 @@
 pub mod Fetching
+pub mod RoundTrip
 pub mod Writing

@@ -11,6 +11,7 @@ use Rattle.machine.specs.Events.{eventOf}
 use Rattle.machine.specs.Report.{places}
 use Rattle.script.specs.Format.{wordAt, sizeAt, kindAt, payloadAt, sizeOf, offsetsFrom, offsets, inputAt, inputs, pair, written, writtenAll}
 use Rattle.script.specs.Check.{first, ruled, checked}
+use Rattle.script.specs.Whole.{ParsesBack}
 use Rattle.script.specs.declared.check.Rule.the-variants.{Format}
 use Rattle.script.proofs.Offsets.{each}
 use Rattle.script.proofs.Formats.{Whole, whole}
@@ -127,3 +128,6 @@ module _ (s : List ℕ) (b : Bytes s) where
   -- an accepted script is its inputs, written
   pub written-back : (mask : List ℕ) (room : ℕ) → checked mask s room .number ≡ 0 → writtenAll (inputs s) ≡ s
   written-back mask room e = exact (accepted mask s room e .format)
+
+pub parses-back : ParsesBack
+parses-back = written-back

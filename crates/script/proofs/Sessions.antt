@@ -1,6 +1,5 @@
--- One record at a time: `step_record` promises `p ≡ stepped ..`, and `Machine::report` promises `reporting r bytes ≡ report ..` of what a
--- lent buffer of 48 bytes then holds. Going so through all records of an accepted script, whatever room the check was given, gives the
--- reports of the whole script. Assumes nothing.
+-- One record at a time: each step of an accepted script is a record that is well formed, and leads to a machine in range, whose report is not
+-- refused. Assumes nothing.
 use Prim.Native.Nat.{ℕ, _<_, _≤_}
 use mathlib.Core.Path.{_≡_, sym, ap, ap₂, subst, _∙_}
 use mathlib.Core.Bool.{true}
@@ -18,20 +17,13 @@ use Rattle.script.specs.Check.{first, ruled, checked}
 use Rattle.script.specs.Reports.{next, reportsOf, stepped}
 use Rattle.script.specs.declared.Progress.{Progress}
 use Rattle.script.specs.declared.check.Rule.the-variants.{Format}
+use Rattle.script.specs.Whole.{Printing, ended, going, RecordByRecord}
 use Rattle.script.proofs.Checks.{accepted}
 use Rattle.script.proofs.Accepts.{first-valid, good-here, good-after}
 use Rattle.script.proofs.Rests.{rest, rest-all, rest-end, rest-next, stepped-in, report-good}
 
--- from an offset and a machine, what is printed
-pub data Session (mask s : List ℕ) : ℕ → Machine → List ℕ → Type 0 where
-  ended : {at : ℕ} {m : Machine} → length s ≤ at → Session mask s at m []
-  going : {at : ℕ} {m : Machine} {more : List ℕ} (p : Progress) (n : ℕ) (buffer bytes : List ℕ)
-      → at < length s → p ≡ stepped mask s at m
-      → length buffer ≡ 48 → reporting n bytes ≡ report (p .machine) buffer
-      → Session mask s (p .at) (p .machine) more → Session mask s at m (bytes ++ more)
-
 module _ (mask s : List ℕ) (b : Bytes mask) where
-  from-here : {at : ℕ} {m : Machine} {bytes : List ℕ} → Session mask s at m bytes → first (ruled Format s) (offsetsFrom s at) .number ≡ 0
+  from-here : {at : ℕ} {m : Machine} {bytes : List ℕ} → Printing mask s at m bytes → first (ruled Format s) (offsetsFrom s at) .number ≡ 0
       → valid (stateOf (next mask (inputAt s at) m)) ≡ true → bytes ≡ rest mask s at m
   from-here {at} {m} (ended h) f v = sym (rest-end mask s at m h)
   from-here {at} {m} (going {more = more} p n buffer bytes h e l r k) f v =
@@ -43,5 +35,8 @@ module _ (mask s : List ℕ) (b : Bytes mask) where
       ∙ ap (λ (p : Progress). reported (p .machine) ++ rest mask s (p .at) (p .machine)) q
       ∙ sym (rest-next mask s at m h)
 
-  pub same-reports : (room : ℕ) (bytes : List ℕ) → checked mask s room .number ≡ 0 → Session mask s 0 blank bytes → bytes ≡ reportsOf mask s
+  same-reports : (room : ℕ) (bytes : List ℕ) → checked mask s room .number ≡ 0 → Printing mask s 0 blank bytes → bytes ≡ reportsOf mask s
   same-reports room bytes e k = from-here k (accepted mask s room e .format) (first-valid mask s room e) ∙ rest-all mask s
+
+pub record-by-record : RecordByRecord
+record-by-record = same-reports

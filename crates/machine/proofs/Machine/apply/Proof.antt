@@ -1,6 +1,6 @@
 -- `machine::Machine::apply` meets its contract: RES is `reset`'s, every other event `happen`'s. Assumes nothing.
 use mathlib.Core.Path.{sym, ap, _∙_}
-use Rattle.machine.specs.Events.{applied, happened, refusalOf, resetting, maskOk, valuesOk}
+use Rattle.machine.specs.Events.{applied, happened, refusalOf, maskOk, valuesOk}
 use Rattle.machine.specs.declared.events.Event.{Event}
 use borrow.Author.Needs.{needs}
 use Rattle.machine.proofs.Machine.apply.Statement.{statement}
@@ -16,7 +16,7 @@ happen-requires : tie.Need-happen-requires
 happen-requires c κs = search needs
 
 returns : tie.Need-returns
-unfolding applied happened refusalOf resetting maskOk valuesOk
+unfolding applied happened refusalOf maskOk valuesOk
 returns c =
     let a = c .before .before .before .before .args in
     c .reset .ensures ∙ sym (ap (λ (e : Event). applied (a .mask .now) e (a .self)) (c .before .enum-told .given .1))

@@ -49,8 +49,8 @@ counting-requires c κs = search needs
 enum-told : tie.Need-enum-told
 enum-told c = search needs
 
-after-res-requires : tie.Need-after-res-requires
-after-res-requires c κs = search needs
+reset-cpu-requires : tie.Need-reset-cpu-requires
+reset-cpu-requires c κs = search needs
 
 returns : tie.Need-returns
 unfolding happened
@@ -80,7 +80,7 @@ returns-5 : tie.Need-returns-5
 unfolding happened
 returns-5 c =
     let a = c .before .before .before .before .args in
-    at (a .mask .now) (machineOf (state (a .cpu) (a .memory .now))) (on-cpu (a .memory .now) {k = afterRes (a .cpu .registers) (a .cpu .pins) (a .cpu .options) (a .cpu .cycles)} (c .after-res .ensures)) (c .before .enum-told .given .1)
+    at (a .mask .now) (machineOf (state (a .cpu) (a .memory .now))) (on-cpu (a .memory .now) {k = afterRes (a .cpu .registers) (a .cpu .pins) (a .cpu .options) (a .cpu .cycles)} (c .reset-cpu .ensures)) (c .before .enum-told .given .1)
 
 pub happened-spec : {M : Type 1} → statement M
 happened-spec =
@@ -95,7 +95,7 @@ happened-spec =
     enum-known-event-4
     counting-requires
     enum-told
-    after-res-requires
+    reset-cpu-requires
     returns
     returns-2
     returns-3
