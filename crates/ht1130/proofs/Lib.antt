@@ -1,1 +1,3 @@
 pub mod Property2
+pub mod Refused
+pub mod Wrapper

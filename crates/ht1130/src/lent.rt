@@ -1,5 +1,5 @@
 // The machine record that a host lends: document 01, "A host may also lend one machine record and have an event applied to it directly".
-// Each wrapper takes the record out, hands it on by value, and puts back what the answer has, which for a refused input is what was there.
+// Each wrapper takes the record out, hands it on by value, and puts back what the answer has; a refused call stores nothing.
 ghost use mathlib.Core.Path.{_≡_};
 ghost use Rattle.ht1130.specs.Lent.{left, optionsOf, hosted};
 ghost use Rattle.machine.specs.Power.{powerOn};
@@ -22,7 +22,9 @@ pub extern "C" fn ht1130_power_on(
     ensures { λ r. ⌜ left r (now (machine .exit)) ≡ powerOn (optionsOf rate commons pm ps pp) (now (image .entry)) (now (machine .entry)) ⌝ }
 {
     let answer = power(*machine, rate, commons, pm, ps, pp, image);
-    *machine = answer.machine;
+    if answer.refusal == 0 {
+        *machine = answer.machine;
+    }
     answer.refusal
 }
 
@@ -39,7 +41,9 @@ pub extern "C" fn ht1130_apply(
     ensures { λ r. ⌜ left r (now (machine .exit)) ≡ hosted (now (mask .entry)) kind count a b c (now (machine .entry)) ⌝ }
 {
     let answer = event(*machine, kind, count, a, b, c, mask);
-    *machine = answer.machine;
+    if answer.refusal == 0 {
+        *machine = answer.machine;
+    }
     answer.refusal
 }
 
