@@ -6,13 +6,11 @@ use mathlib.Core.List as List
 use native.Mathlib.Omega.{arith}
 use lib.ListN.{getD, List·getD-map}
 use Rattle.isa.specs.Reading.{Reading, decoded, map}
-use Rattle.rom.specs.Fetching.{byteAt}
+use Rattle.rom.specs.Fetching.{byteAt, readAt}
 use Rattle.isa.specs.Timing.{entries, lengthOf, columnsOf, columnsAt}
 use Rattle.isa.specs.declared.decoder.Decoded.{Decoded}
 use Rattle.isa.proofs.Exact.{reading}
 use Rattle.isa.proofs.List.{length-at}
-use Rattle.checker.specs.Marks.{}
-use Rattle.rom.specs.Fetching.{readAt}
 
 pub met : (mask : List.List ℕ) (a x y : ℕ) (d : Decoded) → x ≡ byteAt mask a → y ≡ byteAt mask (a + 1) → y < 256 → Reading x y d → d ≡ readAt mask a
 met mask a x y d p q f r = reading x y d f r ∙ ap₂ decoded p q

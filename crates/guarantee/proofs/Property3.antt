@@ -12,7 +12,7 @@ use Rattle.cpu.specs.declared.Options.{Options}
 use Rattle.datapath.specs.Timer.{counted}
 use Rattle.machine.specs.Machine.{stateOf}
 use Rattle.machine.specs.Power.{reset, powered, powerRefusal, answered, powerOn}
-use Rattle.machine.specs.Events.{woken, wakes, withPorts, withInt, pinned, interrupted, clocked, counting, happened, refusalOf, applied, Input, power, event, answerTo, after, Session}
+use Rattle.machine.specs.Events.{woken, wakes, pinned, interrupted, clocked, counting, happened, refusalOf, applied, Input, power, event, answerTo, after}
 use Rattle.machine.specs.declared.Machine.{Machine}
 use Rattle.machine.specs.declared.Answer.{Answer}
 use Rattle.machine.specs.declared.events.Event.{Event}
@@ -20,7 +20,7 @@ use Rattle.machine.specs.declared.events.Event.the-variants.{Run, Pins, Int, Tm
 use Rattle.machine.proofs.Lists.{session-after}
 use Rattle.checker.specs.Verdicts.{Safe}
 use Rattle.cpu.proofs.Leaves.{Standing, standing, same-pick, counting-same}
-use Rattle.guarantee.specs.Property3.{Given, Holds, Property3}
+use Rattle.guarantee.specs.Property3.{Property3}
 use Rattle.guarantee.proofs.Kept.{Kept, Keeps, start-kept, kept-marked, ran-kept}
 
 module _ (mask : List ℕ) (safe : Safe mask) where
