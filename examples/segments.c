@@ -8,7 +8,7 @@
 #include <stdlib.h>
 #include <string.h>
 
-#include "ht1130.h"
+#include "ht1130_tools.h"
 
 /* Waits for PM bit 0 to fall, with one picture before it and one after. */
 static const uint8_t program[] = {

@@ -10,6 +10,7 @@ import os
 import pathlib
 import sys
 
+import paths  # noqa: F401
 import checker_cases
 import isa_table
 import make_demo

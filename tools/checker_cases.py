@@ -9,6 +9,7 @@ and its marks: the first two, and each that is not the one two addresses before 
 import os
 import random
 
+import paths  # noqa: F401
 import isa_table
 import reference
 from reference import MASK

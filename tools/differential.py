@@ -15,6 +15,7 @@ import subprocess
 import sys
 import tempfile
 
+import paths  # noqa: F401
 import checker_cases
 import isa_table
 import make_panel_cases

@@ -1,15 +1,18 @@
 #!/usr/bin/env bash
-# Tests the host library from C and Rust: header, record layout, examples, and
-# a comparison with a plain engine. Needs libhost.a, in target/staticlib or in
-# HT1130_LIB_DIR (from the top of the repository, or absolute).
+# Tests both libraries from C and Rust: header, record layout, examples, and
+# a comparison with a plain engine. Needs libht1130.a and libht1130_tools.a, in
+# target/staticlib or in HT1130_LIB_DIR (from the top of the repository, or
+# absolute).
 set -euo pipefail
 cd "$(dirname "$0")/.."
 
 lib=${HT1130_LIB_DIR:-target/staticlib}
-if [ ! -f "$lib/libhost.a" ]; then
-    echo "no libhost.a in $lib: rt staticlib host" >&2
-    exit 1
-fi
+for name in ht1130 ht1130_tools; do
+    if [ ! -f "$lib/lib$name.a" ]; then
+        echo "no lib$name.a in $lib: rt staticlib $name" >&2
+        exit 1
+    fi
+done
 HT1130_LIB_DIR=$(realpath "$lib")
 CARGO_TARGET_DIR=$PWD/target/cargo
 export HT1130_LIB_DIR CARGO_TARGET_DIR
@@ -19,14 +22,21 @@ mkdir -p "$work"
 say() { printf '== %s\n' "$*"; }
 cargo_in() { (cd "$1" && shift && cargo "$@"); }
 
-say "header: C99, C11 and C++"
-for standard in c99 c11; do
-    gcc -std=$standard -pedantic -Wall -Wextra -Werror -fsyntax-only -x c include/ht1130.h
+say "headers: C99, C11 and C++"
+for header in include/ht1130.h include/ht1130_tools.h; do
+    for standard in c99 c11; do
+        gcc -std=$standard -pedantic -Wall -Wextra -Werror -fsyntax-only -x c "$header"
+    done
+    g++ -std=c++11 -pedantic -Wall -Wextra -Werror -fsyntax-only -x c++ "$header"
 done
-g++ -std=c++11 -pedantic -Wall -Wextra -Werror -fsyntax-only -x c++ include/ht1130.h
+
+say "archives: each exports its own functions and no others"
+exports() { nm -g --defined-only "$HT1130_LIB_DIR/lib$1.a" | awk '$2 == "T" || $2 == "W" { print $3 }' | sort; }
+diff <(printf 'ht1130_%s\n' apply power_on report) <(exports ht1130)
+diff <(printf 'ht1130_%s\n' check check_script read run_script write) <(exports ht1130_tools)
 
 say "examples/segments.c"
-gcc -std=c11 -O2 -Wall -Wextra -Werror -I include -o "$work/segments" examples/segments.c "$HT1130_LIB_DIR/libhost.a"
+gcc -std=c11 -O2 -Wall -Wextra -Werror -I include -o "$work/segments" examples/segments.c "$HT1130_LIB_DIR/libht1130.a" "$HT1130_LIB_DIR/libht1130_tools.a"
 "$work/segments" > "$work/segments.out"
 diff examples/segments.out "$work/segments.out"
 

@@ -7,6 +7,7 @@ sends it back to sleep. From 9 it goes to 0, with a sound.
 
 import pathlib
 
+import paths  # noqa: F401
 import reference
 from panel_input import assemble, int_pin, power_on, run
 

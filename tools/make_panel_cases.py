@@ -8,6 +8,7 @@ model; the answers below, where document 01 decides them alone, are typed by han
 
 import pathlib
 
+import paths  # noqa: F401
 import reference
 from panel_input import (assemble, int_pin, pins, power_on, record, res, run, tmclk)
 

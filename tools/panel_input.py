@@ -6,6 +6,7 @@ for an address. Where document 001 prints several codes for one line, the mnemon
 printed name: 'IN A,PM', 'JNZ R4,addr'.
 """
 
+import paths  # noqa: F401
 import isa_table
 import reference
 

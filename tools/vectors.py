@@ -15,6 +15,7 @@ from collections import Counter
 from dataclasses import replace
 from pathlib import Path
 
+import paths  # noqa: F401
 import isa_table as isa
 import reference as ref
 from isa_table import Refused

@@ -6,7 +6,6 @@ use mathlib.Core.Path.{_≡_, refl}
 use mathlib.Core.Bool.{Bool, true}
 use mathlib.Core.List.{List, []}
 use lib.Dec.{eqb}
-use lib.ListN.{getD}
 use borrow.Author.Tests.{ltb-true}
 use Rattle.isa.specs.Choice.{pick}
 use Rattle.isa.specs.Code.{inRange}
@@ -15,7 +14,7 @@ use Rattle.isa.proofs.Exact.{sound}
 use Rattle.isa.specs.declared.decoder.Decoded.{Decoded}
 use Rattle.isa.specs.declared.decoder.Decoded.the-variants.{Read, Unreadable}
 use Rattle.isa.specs.declared.Instruction.{Instruction}
-use Rattle.rom.specs.Fetching.{byteAt, readAt, movedFrom}
+use Rattle.rom.specs.Fetching.{Bytes, byteAt, readAt, movedFrom}
 use Rattle.checker.specs.declared.flow.Flow.{Flow}
 use Rattle.checker.specs.declared.flow.Flow.the-variants.{Unread, On, Enable, Jump, To, Sub, Back}
 use Rattle.checker.specs.Chains.{Member, Reaches}
@@ -107,7 +106,7 @@ module _ (mask : List ℕ) where
   reached-code = to-code (successors mask) (pair 0 0) rank pairOf InLevels (omega arith) next-level pair-rank
 
   -- ---- ranges
-  module _ (bytes : (k : ℕ) → getD mask k 0 < 256) where
+  module _ (bytes : Bytes mask) where
     pub flow-targets : (a : ℕ) → Targets (flowAt mask a)
     unfolding flowAt
     flow-targets a = go (readAt mask a) refl

@@ -1,13 +1,11 @@
 -- The fault and the successors of a code's pair, from the flow at its address, as the code has them: f, which an arm knows to be g. Assumes
 -- nothing.
-use Prim.Native.Nat.{ℕ, _/_, _%_, _<_}
+use Prim.Native.Nat.{ℕ, _/_, _%_}
 use mathlib.Core.Path.{_≡_, sym, ap, ap₂, subst, _∙_}
 use mathlib.Core.List.{List, [], map}
 use lib.Dec.{eqb}
-use lib.ListN.{getD}
 use Rattle.isa.specs.Choice.{pick}
-use Rattle.isa.specs.Timing.{lengthOf}
-use Rattle.rom.specs.Fetching.{byteAt, movedBy}
+use Rattle.rom.specs.Fetching.{Bytes, movedFrom}
 use Rattle.checker.specs.declared.flow.Flow.{Flow}
 use Rattle.checker.specs.Marks.{levels, flowAt, faultIn, handed, fault, successors}
 use Rattle.checker.specs.Verdicts.{rank}
@@ -23,9 +21,9 @@ module _ (mask : List ℕ) (c : ℕ) (f g : Flow) (p : f ≡ flowAt mask (c / le
   unfolding fault
   fault-flow = ap (λ (g : Flow). faultIn g (c % levels)) (sym q ∙ p)
 
-  pub next-flow : (b n : ℕ) → b ≡ byteAt mask (c / levels) → n ≡ lengthOf b → handed-on g (movedBy n (c / levels)) (c % levels) ≡ nextCodes mask c
+  pub next-flow : (m : ℕ) → m ≡ movedFrom mask (c / levels) → handed-on g m (c % levels) ≡ nextCodes mask c
   unfolding successors fault
-  next-flow b n s t = ap₂ (λ (g : Flow) (n : ℕ). handed-on g (movedBy n (c / levels)) (c % levels)) (sym q ∙ p) (t ∙ ap lengthOf s)
+  next-flow m s = ap₂ (λ (g : Flow) (m : ℕ). handed-on g m (c % levels)) (sym q ∙ p) s
 
-  pub next-targets : ((k : ℕ) → getD mask k 0 < 256) → Targets g
+  pub next-targets : Bytes mask → Targets g
   next-targets bytes = subst Targets (sym p ∙ q) (flow-targets mask bytes (c / levels))

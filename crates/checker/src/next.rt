@@ -3,6 +3,7 @@ ghost use mathlib.Core.Path.{_≡_};
 ghost use Rattle.checker.specs.Marks.{fault};
 ghost use Rattle.checker.specs.Walk.{codesOf, nextCodes, pairOf};
 ghost use Rattle.isa.specs.Timing.{entries};
+ghost use Rattle.rom.specs.Fetching.{movedBy};
 use crate::flow::Flow;
 use crate::flow::flow_at;
 use rom::reader::byte_at;
@@ -37,6 +38,13 @@ pub(crate) fn fault_of(mask: &[u8], code: u16) -> u8
     }
 }
 
+// The moved address.
+fn moved_by(address: u16, length: u8) -> u16
+    ensures { λ r. ⌜ r ≡ movedBy length address ⌝ }
+{
+    (address % 4096 + length as u16) % 4096
+}
+
 // The successors of a pair: none where it is forbidden. `list` is the list of lengths and cycles, which the walk holds: an indexed
 // constant is built at each use.
 pub(crate) fn next_codes(mask: &[u8], list: &[u8; 256], code: u16) -> Codes
@@ -45,8 +53,8 @@ pub(crate) fn next_codes(mask: &[u8], list: &[u8; 256], code: u16) -> Codes
 {
     let address = code / 3;
     let level = code % 3;
-    let length = list[byte_at(mask, address) as usize] / 16;
-    let moved = (address + length as u16) % 4096;
+    let first = byte_at(mask, address);
+    let moved = moved_by(address, list[first as usize] / 16);
     let flow = flow_at(mask, code);
     match flow {
         Flow::Unread => Codes::Nothing,

@@ -12,7 +12,7 @@ use lib.ListN.{getD}
 use lib.Bits.{and-lt, or-lt, xor-lt}
 use borrow.Author.Tests.{ltb-true, eqb-true, not-false}
 use Rattle.isa.specs.Choice.{pick}
-use Rattle.rom.specs.Fetching.{branchTo}
+use Rattle.rom.specs.Fetching.{Bytes, branchTo}
 use Rattle.isa.specs.Code.{inRange}
 use Rattle.isa.specs.Reading.{decoded}
 use Rattle.isa.specs.declared.ProgramAddress.{ProgramAddress}
@@ -39,10 +39,6 @@ use Rattle.cpu.specs.Range.{valid}
 use Rattle.cpu.specs.declared.Cpu.{Cpu}
 use Rattle.cpu.proofs.Ranges.{CpuIn, Valid, from, to, stack-in, cycles-in, acc-in, r0-in, r1-in, r2-in, r3-in, r4-in, pc-in, cf-in, tf-in, count-in, running-in, enabled-in, held-in}
 use Rattle.cpu.proofs.Ranges.{level-in, halted-in, fault-in, pa-in, channel-in, mode-in, loaded-in, stored-in}
-
--- every byte of the mask is below 256
-abbrev pub Bytes : List ℕ → Type 0
-Bytes mask = (k : ℕ) → getD mask k 0 < 256
 
 -- ---- numbers: a nibble, a flag, the high half of a byte
 low : (n : ℕ) → n % 16 < 16

@@ -1,21 +1,20 @@
 -- What every input keeps, where no reached pair is forbidden: the pair of PC and level is reached; above level 0 the stack address is reached
 -- in level 0; where interrupts are enabled both vectors are reached in level 2; and the fault is 0. An instruction at a reached pair that is
 -- not forbidden hands the program on to one of the pair's successors, which are reached too. Assumes nothing.
-use Prim.Native.Nat.{ℕ, zero, suc, _<_}
+use Prim.Native.Nat.{ℕ, zero, suc}
 use mathlib.Core.Path.{_≡_, refl, sym, ap, subst}
 use mathlib.Core.Bool.{Bool, true, false, _&&_}
 use mathlib.Core.List.{List}
 use mathlib.Core.Logic.{inl, inr}
 use native.Mathlib.Omega.{arith}
 use lib.Dec.{eqb}
-use lib.ListN.{getD}
 use borrow.Author.Tests.{eq-eqb, eqb-true, eqb-false}
 use Rattle.isa.specs.Choice.{pick}
 use Rattle.isa.specs.Views.{View, on, jmp, branch, call, ret, reti, ei, view}
 use Rattle.isa.specs.declared.Instruction.{Instruction}
 use Rattle.isa.specs.declared.decoder.Decoded.{Decoded}
 use Rattle.isa.specs.declared.decoder.Decoded.the-variants.{Read, Unreadable}
-use Rattle.rom.specs.Fetching.{readAt, lengthAt, cyclesAt, movedFrom, branchTo}
+use Rattle.rom.specs.Fetching.{Bytes, readAt, lengthAt, cyclesAt, movedFrom, branchTo}
 use Rattle.cpu.specs.declared.Cpu.{Cpu}
 use Rattle.cpu.specs.State.{State, onCpu, address, withPc, withTf, withHeld, withLevel, withStack}
 use Rattle.cpu.specs.Effect.{effect}
@@ -45,7 +44,7 @@ pub start-kept : (mask : List ℕ) → Kept mask (record { pc = 0; level = 0; st
 start-kept mask = record { here = reached-start; back = λ h. absurd (h refl); vectors = λ e. absurd (omega arith); no-fault = refl }
 
 -- the checker's marks are the reached pairs
-pub kept-marked : (mask marks : List ℕ) → ((k : ℕ) → getD mask k 0 < 256) → Marked mask marks → (s : Standing) → Kept mask s → isMarked marks (s .pc) (s .level) ≡ true
+pub kept-marked : (mask marks : List ℕ) → Bytes mask → Marked mask marks → (s : Standing) → Kept mask s → isMarked marks (s .pc) (s .level) ≡ true
 kept-marked mask marks bytes m s k =
     let p = pair (s .pc) (s .level) in
     m .full (s .pc) (s .level) (reached-address mask bytes p (k .here)) (reached-level mask p (k .here)) (k .here)

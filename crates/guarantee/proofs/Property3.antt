@@ -6,18 +6,18 @@ use mathlib.Core.Path.{_≡_, refl, sym, ap, subst, _∙_}
 use mathlib.Core.Bool.{Bool, true, false, _&&_}
 use mathlib.Core.List.{List, [], _∷_}
 use lib.Dec.{eqb}
-use borrow.Author.Tests.{eq-eqb}
 use Rattle.isa.specs.Choice.{pick}
+use Rattle.cpu.specs.Range.{valid}
 use Rattle.cpu.specs.declared.Options.{Options}
 use Rattle.datapath.specs.Timer.{counted}
 use Rattle.machine.specs.Machine.{stateOf}
 use Rattle.machine.specs.Power.{reset, powered, powerRefusal, answered, powerOn}
-use Rattle.machine.specs.Events.{woken, wakes, pinned, interrupted, clocked, counting, happened, refusalOf, applied, Input, power, event, answerTo, after}
+use Rattle.machine.specs.Events.{woken, wakes, pinned, interrupted, clocked, counting, happened, rangeRefusal, refusalOf, applied, Input, power, named, answerTo, Call, after, Every, UnderMask}
 use Rattle.machine.specs.declared.Machine.{Machine}
-use Rattle.machine.specs.declared.Answer.{Answer}
 use Rattle.machine.specs.declared.events.Event.{Event}
 use Rattle.machine.specs.declared.events.Event.the-variants.{Run, Pins, Int, Tmclk, Res}
-use Rattle.machine.proofs.Lists.{session-after}
+use Rattle.machine.specs.declared.events.Named.the-variants.{Known, Unknown}
+use Rattle.machine.proofs.Lists.{session-after, powered-on}
 use Rattle.checker.specs.Verdicts.{Safe}
 use Rattle.cpu.proofs.Leaves.{Standing, standing, same-pick, counting-same}
 use Rattle.guarantee.specs.Property3.{Property3}
@@ -36,13 +36,13 @@ module _ (mask : List ℕ) (safe : Safe mask) where
   same-kept : {s t : Standing} → t ≡ s → Kept mask s → Kept mask t
   same-kept e = subst (Kept mask) (sym e)
 
-  happened-kept : (e : Event) (m : Machine) → Keeps mask (m .cpu) → Keeps mask (happened mask e m .cpu)
+  happened-kept : (given : List ℕ) (e : Event) → ((n : ℕ) → e ≡ Run n → given ≡ mask) → (m : Machine) → Keeps mask (m .cpu) → Keeps mask (happened given e m .cpu)
   unfolding happened pinned interrupted counting
-  happened-kept (Run n) m = ran-kept mask safe n (stateOf m)
-  happened-kept (Pins pm ps pp) m = same-kept (same-pick (wakes pm ps pp (m .cpu)) (m .cpu) (woken (m .cpu)) (m .cpu) refl refl)
-  happened-kept (Int level) m = same-kept (same-pick (eqb (m .cpu .pins .int) 1 && eqb level 0) (m .cpu) (woken (m .cpu)) (m .cpu) refl refl)
-  happened-kept (Tmclk n) m = same-kept (counting-same (clocked (m .cpu)) (counted (m .cpu .timer .count) n) (m .cpu))
-  happened-kept Res m = λ k. reset-kept m
+  happened-kept given (Run n) u m = subst (λ (g : List ℕ). Keeps mask (m .cpu) → Keeps mask (happened g (Run n) m .cpu)) (sym (u n refl)) (ran-kept mask safe n (stateOf m))
+  happened-kept given (Pins pm ps pp) u m = same-kept (same-pick (wakes pm ps pp (m .cpu)) (m .cpu) (woken (m .cpu)) (m .cpu) refl refl)
+  happened-kept given (Int level) u m = same-kept (same-pick (eqb (m .cpu .pins .int) 1 && eqb level 0) (m .cpu) (woken (m .cpu)) (m .cpu) refl refl)
+  happened-kept given (Tmclk n) u m = same-kept (counting-same (clocked (m .cpu)) (counted (m .cpu .timer .count) n) (m .cpu))
+  happened-kept given Res u m = λ k. reset-kept m
 
   -- a refused input leaves the machine
   answered-kept : (n : ℕ) (new old : Machine) → Keeps mask (new .cpu) → Keeps mask (old .cpu) → Keeps mask (answered n new old .machine .cpu)
@@ -52,26 +52,23 @@ module _ (mask : List ℕ) (safe : Safe mask) where
       go true = p
       go false = q
 
-  pub input-kept : (i : Input) (m : Machine) → Keeps mask (m .cpu) → Keeps mask (answerTo mask i m .machine .cpu)
+  pub input-kept : (given : List ℕ) (i : Input) → ((n : ℕ) → i ≡ named (Known (Run n)) → given ≡ mask) → (m : Machine) → Keeps mask (m .cpu)
+      → Keeps mask (answerTo given i m .machine .cpu)
   unfolding powerOn applied
-  input-kept (power options image) m k = answered-kept (powerRefusal options image) (powered options image) m (powered-kept options image) k
-  input-kept (event e) m k = answered-kept (refusalOf mask e m) (happened mask e m) m (happened-kept e m k) k
+  input-kept given (power options image) u m k = answered-kept (powerRefusal options image) (powered options image) m (powered-kept options image) k
+  input-kept given (named (Known e)) u m k =
+      answered-kept (refusalOf given e m) (happened given e m) m (happened-kept given e (λ n p. u n (ap (λ (x : Event). named (Known x)) p)) m k) k
+  input-kept given (named Unknown) u m k = answered-kept (pick (valid (stateOf m)) 7 (rangeRefusal m)) m m k k
 
-  after-kept : (is : List Input) (m : Machine) → Keeps mask (m .cpu) → Keeps mask (after mask is m .cpu)
+  after-kept : (ks : List Call) → Every (UnderMask mask) ks → (m : Machine) → Keeps mask (m .cpu) → Keeps mask (after ks m .cpu)
   unfolding after
-  after-kept [] m k = k
-  after-kept (i ∷ is) m k = after-kept is (answerTo mask i m .machine) (input-kept i m k)
-
--- the machine of an accepted power-on
-started : (options : Options) (image : List ℕ) (first : Machine) (start : Answer) → start ≡ powerOn options image first → start .refusal ≡ 0 → start .machine ≡ powered options image
-unfolding powerOn
-started options image first start e r =
-    ap (λ (a : Answer). a .machine) e ∙ rw (eq-eqb (powerRefusal options image) 0 (sym (ap (λ (a : Answer). a .refusal) e) ∙ r)) refl
+  after-kept [] u m k = k
+  after-kept (c ∷ ks) u m k = after-kept ks (u .1) (answerTo (c .mask) (c .input) m .machine) (input-kept (c .mask) (c .input) (u .0) m k)
 
 pub property3 : Property3
-property3 mask old marks options image first start given inputs last session =
+property3 mask old marks options image first start given calls last under session =
     let safe = given .passed .1 in
-    let begun : start .machine ≡ powered options image = started options image first start (given .powering) (given .accepted) in
-    let ended : last ≡ after mask inputs (powered options image) = session-after mask (start .machine) last inputs session ∙ ap (after mask inputs) begun in
-    let kept : Keeps mask (last .cpu) = subst (λ (m : Machine). Keeps mask (m .cpu)) (sym ended) (after-kept mask safe inputs (powered options image) (powered-kept mask safe options image)) in
+    let begun = powered-on options image first start (given .powering) (given .accepted) .1 in
+    let ended : last ≡ after calls (powered options image) = session-after (start .machine) last calls session ∙ ap (after calls) begun in
+    let kept : Keeps mask (last .cpu) = subst (λ (m : Machine). Keeps mask (m .cpu)) (sym ended) (after-kept mask safe calls under (powered options image) (powered-kept mask safe options image)) in
     record { state = ended; no-fault = kept .no-fault; marked = kept-marked mask marks (given .bytes) (given .passed .0 .marked) (standing (last .cpu)) kept }

@@ -6,11 +6,12 @@ use native.Mathlib.Omega.{arith}
 use mathlib.Core.Path.{_≡_, refl, sym, ap, subst, _∙_}
 use mathlib.Core.Bool.{true}
 use mathlib.Core.List.{List, [], _∷_, _++_, append-assoc}
-use lib.ListN.{length, getD, take, drop, length-append}
+use lib.ListN.{length, take, drop, length-append}
 use lib.Seq.{take-at, drop-at, drop-drop}
 use borrow.Author.Tests.{eq-eqb}
+use Rattle.rom.specs.Fetching.{Bytes}
 use Rattle.machine.specs.Power.{blank}
-use Rattle.machine.specs.Report.{heading, reported}
+use Rattle.machine.specs.Report.{reported}
 use Rattle.machine.specs.Events.{Input}
 use Rattle.machine.specs.declared.Machine.{Machine}
 use Rattle.machine.proofs.Reports.{report-length}
@@ -23,10 +24,9 @@ use Rattle.guarantee.specs.Reports.{Shows, ReportsShow}
 use Rattle.guarantee.proofs.Kept.{Keeps, start-kept, kept-marked}
 use Rattle.guarantee.proofs.Property3.{input-kept}
 
-module _ (mask marks : List ℕ) (bytes : (k : ℕ) → getD mask k 0 < 256) (safe : Safe mask) (mark : Marked mask marks) where
+module _ (mask marks : List ℕ) (bytes : Bytes mask) (safe : Safe mask) (mark : Marked mask marks) where
   -- a machine that keeps it, in its report
   shows : (m : Machine) → Keeps mask (m .cpu) → Shows marks (reported m)
-  unfolding heading
   shows m k =
       record {
         no-fault = k .no-fault;
@@ -49,13 +49,13 @@ module _ (mask marks : List ℕ) (bytes : (k : ℕ) → getD mask k 0 < 256) (sa
   each rest (i ∷ is) m k zero h =
       let n = next mask i m in
       subst (λ (s : List ℕ). Shows marks (take 48 s)) (sym (append-assoc (reported n) (reports mask is n) rest))
-      (subst (Shows marks) (sym (take-at (reported n) (reports mask is n ++ rest) 48 (report-length (n .cpu) (n .memory)))) (shows n (input-kept mask safe i m k)))
+      (subst (Shows marks) (sym (take-at (reported n) (reports mask is n ++ rest) 48 (report-length (n .cpu) (n .memory)))) (shows n (input-kept mask safe mask i (λ v e. refl) m k)))
   each rest (i ∷ is) m k (suc j) h =
       let n = next mask i m in
       let l = report-length (n .cpu) (n .memory) in
       subst (λ (s : List ℕ). Shows marks (take 48 (drop (48 * suc j) s))) (sym (append-assoc (reported n) (reports mask is n) rest))
       (subst (λ (s : List ℕ). Shows marks (take 48 s)) (sym (past (reported n) (reports mask is n ++ rest) j l))
-      (each rest is n (input-kept mask safe i m k) j (left (length (reports mask is n)) j (omega (arith, length-append (reported n) (reports mask is n), l, h)))))
+      (each rest is n (input-kept mask safe mask i (λ v e. refl) m k) j (left (length (reports mask is n)) j (omega (arith, length-append (reported n) (reports mask is n), l, h)))))
     where
       left : (x j : ℕ) → 48 * suc j < 48 + x → 48 * j < x
       left x j h = omega arith

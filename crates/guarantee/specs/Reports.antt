@@ -5,6 +5,7 @@ use mathlib.Core.Path.{_≡_}
 use mathlib.Core.Bool.{true}
 use mathlib.Core.List.{List}
 use lib.ListN.{length, getD, take, drop}
+use Rattle.rom.specs.Fetching.{Bytes}
 use Rattle.checker.specs.Verdicts.{Answers, isMarked}
 use Rattle.checker.specs.declared.check.Verdict.the-variants.{Passed}
 use Rattle.script.specs.Reports.{applied, leaving, reportsOf}
@@ -18,6 +19,6 @@ pub record Shows (marks report : List ℕ) : Type 0 where
 -- under a mask that the checker passed, each report that a script leaves in the lent buffer, where the script is not refused
 abbrev pub ReportsShow : Type 0
 ReportsShow =
-    (mask old marks script before after : List ℕ) (answer : Checked) → ((k : ℕ) → getD mask k 0 < 256) → Answers mask old marks Passed
+    (mask old marks script before after : List ℕ) (answer : Checked) → Bytes mask → Answers mask old marks Passed
     → leaving answer after ≡ applied mask script before → answer .number ≡ 0
     → (j : ℕ) → 48 * j < length (reportsOf mask script) → Shows marks (take 48 (drop (48 * j) after))

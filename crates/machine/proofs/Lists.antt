@@ -21,15 +21,19 @@ use Rattle.cpu.specs.declared.Options.{Options}
 use Rattle.cpu.specs.declared.Pins.{Pins}
 use Rattle.cpu.specs.declared.Registers.{Registers}
 use Rattle.cpu.proofs.Ranges.{Valid, CpuIn, RegistersIn, PinsIn, StatusIn, from, to, held-in, tf-in, count-in}
-use Rattle.cpu.proofs.Kept.{Bytes, step-valid}
+use Rattle.rom.specs.Fetching.{Bytes}
+use Rattle.cpu.proofs.Kept.{step-valid}
 use Rattle.machine.specs.Machine.{stateOf, machineOf}
 use Rattle.machine.specs.Power.{afterRes, reset, powered, powerRefusal, answered, powerOn}
 use Rattle.cpu.specs.Run.{ran}
-use Rattle.machine.specs.Events.{woken, wakes, withPorts, withInt, pinned, interrupted, clocked, counting, happened, eventRefusal, refusalOf, applied, Input, power, event, answerTo, after, UnderMask, Session, ended, powering, applying}
+use Rattle.machine.specs.Events.{woken, wakes, withPorts, withInt, pinned, interrupted, clocked, counting, happened, maskOk, valuesOk, rangeRefusal, refusalOf, applied, Input, power, named, answerTo, Call, after, Every, Session, ended, calling}
+use Rattle.machine.specs.Report.{Reporting, reporting, report, reported}
+use Rattle.machine.specs.Property2.{Property2}
 use Rattle.machine.specs.declared.Machine.{Machine}
 use Rattle.machine.specs.declared.Answer.{Answer}
 use Rattle.machine.specs.declared.events.Event.{Event}
 use Rattle.machine.specs.declared.events.Event.the-variants.{Run, Pins as PinsEvent, Int, Tmclk, Res}
+use Rattle.machine.specs.declared.events.Named.the-variants.{Known, Unknown}
 
 -- ---- nibbles of an image
 nibbles-at : (s : List ℕ) → nibbles s ≡ true → (k : ℕ) → getD s k 0 < 16
@@ -134,26 +138,15 @@ unfolding ran
 ran-valid mask b zero s v = v
 ran-valid mask b (suc n) s v = ran-valid mask b n (step mask s) (step-valid mask s b v)
 
--- an event's value is in range where it is not refused
-three : (x y z : Bool) → _≡_ {A = ℕ} (pick (x && (y && z)) 0 3) 0 → (x ≡ true) × (y ≡ true) × (z ≡ true)
-three true true true e = (refl, refl, refl)
-three true true false e = absurd (omega arith)
-three true false z e = absurd (omega arith)
-three false y z e = absurd (omega arith)
-
-one : (x : Bool) → _≡_ {A = ℕ} (pick x 0 3) 0 → x ≡ true
-one true e = refl
-one false e = absurd (omega arith)
-
-happened-valid : (mask : List ℕ) → Bytes mask → (e : Event) (m : Machine) → eventRefusal mask e ≡ 0 → valid (stateOf m) ≡ true → valid (stateOf (happened mask e m)) ≡ true
-unfolding happened eventRefusal pinned interrupted counting
+happened-valid : (mask : List ℕ) → Bytes mask → (e : Event) (m : Machine) → valuesOk e ≡ true → valid (stateOf m) ≡ true → valid (stateOf (happened mask e m)) ≡ true
+unfolding happened valuesOk pinned interrupted counting
 happened-valid mask b (Run n) m r v = ran-valid mask b n (stateOf m) v
 happened-valid mask b (PinsEvent pm ps pp) m r v =
     let w = from (stateOf m) v in
-    let h = three (nibble pm) (nibble ps) (nibble pp) r in
+    let h = and-right (nibble pm) (nibble ps && nibble pp) r in
     to (stateOf (happened mask (PinsEvent pm ps pp) m)) (record {
       cpu = pins-in (pick-in (wakes pm ps pp (m .cpu)) (woken (m .cpu)) (m .cpu) (woken-in (w .cpu)) (w .cpu)) _
-          (record { pm = ltb-true pm 16 (h .0); ps = ltb-true ps 16 (h .1); pp = ltb-true pp 16 (h .2); int = pin (wakes pm ps pp (m .cpu)) (w .cpu .pins .int) });
+          (record { pm = ltb-true pm 16 (and-left (nibble pm) (nibble ps && nibble pp) r); ps = ltb-true ps 16 (and-left (nibble ps) (nibble pp) h); pp = ltb-true pp 16 (and-right (nibble ps) (nibble pp) h); int = pin (wakes pm ps pp (m .cpu)) (w .cpu .pins .int) });
       memory = w .memory;
     })
   where
@@ -164,7 +157,7 @@ happened-valid mask b (Int level) m r v =
     let w = from (stateOf m) v in
     to (stateOf (happened mask (Int level) m)) (record {
       cpu = pins-in (pick-in (eqb (m .cpu .pins .int) 1 && eqb level 0) (woken (m .cpu)) (m .cpu) (woken-in (w .cpu)) (w .cpu)) _
-          (ports (eqb (m .cpu .pins .int) 1 && eqb level 0) (w .cpu .pins) (ltb-true level 2 (one (ltb level 2) r)));
+          (ports (eqb (m .cpu .pins .int) 1 && eqb level 0) (w .cpu .pins) (ltb-true level 2 r));
       memory = w .memory;
     })
   where
@@ -193,40 +186,56 @@ answered-valid n new old f v = go (eqb n 0) (eqb-true n 0)
     go true g = f (g refl)
     go false g = v
 
--- what is not refused passed both tests
-unrefused : (mask : List ℕ) (e : Event) (m : Machine) → refusalOf mask e m ≡ 0 → eventRefusal mask e ≡ 0
+-- what is not refused has its values in range
+unrefused : (mask : List ℕ) (e : Event) (m : Machine) → refusalOf mask e m ≡ 0 → valuesOk e ≡ true
 unfolding refusalOf
-unrefused mask e m r = go (eqb (eventRefusal mask e) 0) (eqb-true (eventRefusal mask e) 0) r
+unrefused mask e m r = go (maskOk mask e) (valuesOk e) (valid (stateOf m)) refl r
   where
-    go : (t : Bool) → (t ≡ true → eventRefusal mask e ≡ 0) → pick t (pick (valid (stateOf m)) 0 5) (eventRefusal mask e) ≡ 0 → eventRefusal mask e ≡ 0
-    go true g r = g refl
-    go false g r = r
+    go : (x y z : Bool) → valuesOk e ≡ y → _≡_ {A = ℕ} (pick x (pick y (pick z 0 5) 3) 1) 0 → valuesOk e ≡ true
+    go true true z q r = q
+    go true false z q r = absurd (omega arith)
+    go false y z q r = absurd (omega arith)
 
 pub input-valid : (mask : List ℕ) → Bytes mask → (i : Input) (m : Machine) → valid (stateOf m) ≡ true → valid (stateOf (answerTo mask i m .machine)) ≡ true
 unfolding powerOn applied
 input-valid mask b (power o image) m v = answered-valid (powerRefusal o image) (powered o image) m (λ e. powered-valid o image e) v
-input-valid mask b (event e) m v = answered-valid (refusalOf mask e m) (happened mask e m) m (λ r. happened-valid mask b e m (unrefused mask e m r) v) v
+input-valid mask b (named (Known e)) m v = answered-valid (refusalOf mask e m) (happened mask e m) m (λ r. happened-valid mask b e m (unrefused mask e m r) v) v
+input-valid mask b (named Unknown) m v = answered-valid (pick (valid (stateOf m)) 7 (rangeRefusal m)) m m (λ e. v) v
 
 -- no list of inputs takes the machine out of its ranges
-pub after-valid : (mask : List ℕ) → Bytes mask → (is : List Input) (m : Machine) → valid (stateOf m) ≡ true → valid (stateOf (after mask is m)) ≡ true
+pub after-valid : (ks : List Call) → Every (λ (k : Call). Bytes (k .mask)) ks → (m : Machine) → valid (stateOf m) ≡ true → valid (stateOf (after ks m)) ≡ true
 unfolding after
-after-valid mask b [] m v = v
-after-valid mask b (i ∷ is) m v = after-valid mask b is (answerTo mask i m .machine) (input-valid mask b i m v)
+after-valid [] b m v = v
+after-valid (k ∷ ks) b m v = after-valid ks (b .1) (answerTo (k .mask) (k .input) m .machine) (input-valid (k .mask) (b .0) (k .input) m v)
 
 -- ---- a whole list of calls
--- an event other than Run does not look at its mask
-same-mask : (mask given : List ℕ) (e : Event) (m : Machine) → UnderMask mask given e → applied given e m ≡ applied mask e m
-unfolding applied happened refusalOf eventRefusal
-same-mask mask given (Run n) m u = ap (λ (k : List ℕ). applied k (Run n) m) u
-same-mask mask given (PinsEvent pm ps pp) m u = refl
-same-mask mask given (Int level) m u = refl
-same-mask mask given (Tmclk n) m u = refl
-same-mask mask given Res m u = refl
-
 -- the last machine is, in every field, the one that the rules give
-pub session-after : (mask : List ℕ) (m n : Machine) (is : List Input) → Session mask m is n → n ≡ after mask is m
+pub session-after : (m n : Machine) (ks : List Call) → Session m ks n → n ≡ after ks m
 unfolding after
-session-after mask m n is ended = refl
-session-after mask m n is (powering {is = js} o image r p s) = session-after mask (r .machine) n js s ∙ ap (λ (a : Answer). after mask js (a .machine)) p
-session-after mask m n is (applying {is = js} e given r u p s) =
-    session-after mask (r .machine) n js s ∙ ap (λ (a : Answer). after mask js (a .machine)) (p ∙ same-mask mask given e m u)
+session-after m n ks ended = refl
+session-after m n ks (calling {ks = js} k r p s) = session-after (r .machine) n js s ∙ ap (λ (a : Answer). after js (a .machine)) p
+
+-- an accepted power-on answers the machine that it makes
+pub powered-on : (o : Options) (image : List ℕ) (m : Machine) (r : Answer) → r ≡ powerOn o image m → r .refusal ≡ 0 → (powerRefusal o image ≡ 0) × (r .machine ≡ powered o image)
+unfolding powerOn
+powered-on o image m r e z =
+    let n = ap (λ (a : Answer). a .refusal) (sym e) ∙ z in
+    (n, ap (λ (a : Answer). a .machine) e ∙ rw (eq-eqb (powerRefusal o image) 0 n) refl)
+
+-- a machine in range is reported
+good-report : (m : Machine) (old : List ℕ) → length old ≡ 48 → valid (stateOf m) ≡ true → report m old ≡ reporting 0 (reported m)
+unfolding report
+good-report m old l v = rw (eq-eqb (length old) 48 l, v) refl
+
+pub property2 : Property2
+property2 options image before start e z calls last bytes s =
+    let p = powered-on options image before start e z in
+    let q : last ≡ after calls (powered options image) = session-after (start .machine) last calls s ∙ ap (after calls) (p .1) in
+    let v : valid (stateOf last) ≡ true = ap (λ (m : Machine). valid (stateOf m)) q ∙ after-valid calls bytes (powered options image) (powered-valid options image (p .0)) in
+    record {
+      state = q;
+      in-range = v;
+      shows = λ number old new l r.
+          let w = r ∙ good-report last old l v in
+          (ap (λ (x : Reporting). x .refusal) w, ap (λ (x : Reporting). x .bytes) w ∙ ap reported q);
+    }

@@ -1,16 +1,16 @@
 -- The events, document 01, "One step, and events" and "Refused inputs". Assumes nothing.
 use Prim.Native.Nat.{ℕ, _+_}
 use mathlib.Core.Path.{_≡_}
-use mathlib.Core.Bool.{Bool, not, _&&_}
+use mathlib.Core.Bool.{Bool, true, not, _&&_}
 use mathlib.Core.List.{List, [], _∷_}
-use lib.Dec.{ltb, eqb}
+use lib.Dec.{eqb}
 use lib.Bits.{bitAnd, bitXor}
 use lib.ListN.{length}
 use Rattle.isa.specs.Choice.{pick}
 use Rattle.datapath.specs.Timer.{counted}
 use Rattle.cpu.specs.State.{withHeld, withHalted, withPins}
-use Rattle.cpu.specs.Step.{timed}
-use Rattle.cpu.specs.Range.{nibble, valid}
+use Rattle.cpu.specs.Step.{timed, step}
+use Rattle.cpu.specs.Range.{nibble, bit, valid}
 use Rattle.cpu.specs.declared.Cpu.{Cpu}
 use Rattle.cpu.specs.declared.Options.{Options}
 use Rattle.machine.specs.Machine.{stateOf, machineOf}
@@ -20,6 +20,8 @@ use Rattle.machine.specs.declared.Machine.{Machine}
 use Rattle.machine.specs.declared.Answer.{Answer}
 use Rattle.machine.specs.declared.events.Event.{Event}
 use Rattle.machine.specs.declared.events.Event.the-variants.{Run, Pins, Int, Tmclk, Res}
+use Rattle.machine.specs.declared.events.Named.{Named}
+use Rattle.machine.specs.declared.events.Named.the-variants.{Known, Unknown}
 
 abbrev pub onCpuOf : (Cpu → Cpu) → Machine → Machine
 onCpuOf f m = record { cpu = f (m .cpu); memory = m .memory }
@@ -70,48 +72,94 @@ happened mask (Int level) m = onCpuOf (interrupted level) m
 happened mask (Tmclk n) m = onCpuOf (counting n) m
 happened mask Res m = reset m
 
--- "1: mask not 4,096 bytes" (Run alone has a mask); "3: in an .. event ..: nibble other than an option over 15, INT over 1"
-unfoldable pub eventRefusal : List ℕ → Event → ℕ
-eventRefusal mask (Run n) = pick (eqb (length mask) 4096) 0 1
-eventRefusal mask (Pins pm ps pp) = pick (nibble pm && (nibble ps && nibble pp)) 0 3
-eventRefusal mask (Int level) = pick (ltb level 2) 0 3
-eventRefusal mask (Tmclk n) = 0
-eventRefusal mask Res = 0
+-- "1: mask not 4,096 bytes": Run alone has a mask
+unfoldable pub maskOk : List ℕ → Event → Bool
+maskOk mask (Run n) = eqb (length mask) 4096
+maskOk mask (Pins pm ps pp) = true
+maskOk mask (Int level) = true
+maskOk mask (Tmclk n) = true
+maskOk mask Res = true
 
--- "Checked in this order; the lowest number wins": then "5: machine field outside its range .. or halted with a fault"
+-- "3: in an .. event or record: nibble other than an option over 15, INT over 1"
+unfoldable pub valuesOk : Event → Bool
+valuesOk (Run n) = true
+valuesOk (Pins pm ps pp) = nibble pm && (nibble ps && nibble pp)
+valuesOk (Int level) = bit level
+valuesOk (Tmclk n) = true
+valuesOk Res = true
+
+-- "5: machine field outside its range .. or halted with a fault"
+abbrev pub rangeRefusal : Machine → ℕ
+rangeRefusal m = pick (valid (stateOf m)) 0 5
+
+-- "Checked in this order; the lowest number wins"
 unfoldable pub refusalOf : List ℕ → Event → Machine → ℕ
-refusalOf mask e m = pick (eqb (eventRefusal mask e) 0) (pick (valid (stateOf m)) 0 5) (eventRefusal mask e)
+refusalOf mask e m = pick (maskOk mask e) (pick (valuesOk e) (rangeRefusal m) 3) 1
 
 unfoldable pub applied : List ℕ → Event → Machine → Answer
 applied mask e m = answered (refusalOf mask e m) (happened mask e m) m
 
+-- RES by itself answers as the event does
+unfoldable pub resetting : Machine → Answer
+resetting m = answered (rangeRefusal m) (reset m) m
+
+-- one step by itself answers as a Run of one step does
+unfoldable pub stepping : List ℕ → Machine → Answer
+stepping mask m = answered (refusalOf mask (Run 1) m) (machineOf (step mask (stateOf m))) m
+
+-- ---- an event as a kind and numbers
+-- "2 Run: two-byte step count", "3 pins: PM, PS, PP. 4 INT: 0 or 1. 6 RES: empty", "5 TMCLK: two-byte count of rising edges". What a kind does
+-- not name is not looked at; another kind names no event
+unfoldable pub eventOf : ℕ → ℕ → ℕ → ℕ → ℕ → Named
+eventOf kind count a b c =
+    pick (eqb kind 2) (Known (Run count))
+    (pick (eqb kind 3) (Known (Pins a b c))
+    (pick (eqb kind 4) (Known (Int a))
+    (pick (eqb kind 5) (Known (Tmclk count))
+    (pick (eqb kind 6) (Known Res)
+    Unknown))))
+
+-- the number of each case: "7: unknown kind"
+abbrev pub kindRefusal : Named → ℕ
+kindRefusal (Known e) = 0
+kindRefusal Unknown = 7
+
 -- ---- whole lists
--- what a host does: a power-on with options and an image of its own, or another event
+-- what a host does: a power-on with options and an image of its own, another event, or a kind that names none
 pub data Input : Type 0 where
   power : Options → List ℕ → Input
-  event : Event → Input
+  named : Named → Input
+
+-- an unknown kind is refused, but a machine out of range comes first: "the lowest number wins"
+abbrev pub namedAnswer : List ℕ → Named → Machine → Answer
+namedAnswer mask (Known e) m = applied mask e m
+namedAnswer mask Unknown m = answered (pick (valid (stateOf m)) (kindRefusal Unknown) (rangeRefusal m)) m m
 
 abbrev pub answerTo : List ℕ → Input → Machine → Answer
 answerTo mask (power options image) m = powerOn options image m
-answerTo mask (event e) m = applied mask e m
+answerTo mask (named e) m = namedAnswer mask e m
+
+-- an input with the mask that it came with: a Run may have a mask of its own
+pub record Call : Type 0 where
+  pub mask : List ℕ
+  pub input : Input
 
 -- the machine after a list of inputs: "Each gets the machine that the one before returned .. a refused one leaves it as it was"
-unfoldable pub after : List ℕ → List Input → Machine → Machine
-after mask [] m = m
-after mask (i ∷ is) m = after mask is (answerTo mask i m .machine)
+unfoldable pub after : List Call → Machine → Machine
+after [] m = m
+after (k ∷ ks) m = after ks (answerTo (k .mask) (k .input) m .machine)
 
--- ---- a whole list of calls of the exported functions
--- "Every Run in the list has the one passed mask"; another event may come with any
-abbrev pub UnderMask : List ℕ → List ℕ → Event → Type 0
-UnderMask mask given (Run n) = given ≡ mask
-UnderMask mask given (Pins pm ps pp) = Unit {0}
-UnderMask mask given (Int level) = Unit {0}
-UnderMask mask given (Tmclk n) = Unit {0}
-UnderMask mask given Res = Unit {0}
+-- "Every Run in the list has the one passed mask"; another input may come with any
+abbrev pub UnderMask : List ℕ → Call → Type 0
+UnderMask mask k = (n : ℕ) → k .input ≡ named (Known (Run n)) → k .mask ≡ mask
 
--- machines handed on: `Machine::power_on` promises `r ≡ powerOn ..` and `Machine::apply` promises `r ≡ applied ..`, and each call gets the
--- machine that the one before answered
-pub data Session (mask : List ℕ) : Machine → List Input → Machine → Type 0 where
-  ended : {m : Machine} → Session mask m [] m
-  powering : {m n : Machine} {is : List Input} (o : Options) (image : List ℕ) (r : Answer) → r ≡ powerOn o image m → Session mask (r .machine) is n → Session mask m (power o image ∷ is) n
-  applying : {m n : Machine} {is : List Input} (e : Event) (given : List ℕ) (r : Answer) → UnderMask mask given e → r ≡ applied given e m → Session mask (r .machine) is n → Session mask m (event e ∷ is) n
+-- every one of a list of calls
+abbrev pub Every : (Call → Type 0) → List Call → Type 0
+Every P [] = Unit {0}
+Every P (k ∷ ks) = P k × Every P ks
+
+-- machines handed on: `Machine::power_on` promises `r ≡ powerOn ..` and `Machine::apply` promises `r ≡ applied ..`, so each call's answer is
+-- `answerTo`'s, and each call gets the machine that the one before answered
+pub data Session : Machine → List Call → Machine → Type 0 where
+  ended : {m : Machine} → Session m [] m
+  calling : {m n : Machine} {ks : List Call} (k : Call) (r : Answer) → r ≡ answerTo (k .mask) (k .input) m → Session (r .machine) ks n → Session m (k ∷ ks) n

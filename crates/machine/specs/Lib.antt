@@ -1,5 +1,6 @@
 pub mod Events
 pub mod Machine
 pub mod Power
+pub mod Property2
 pub mod Report
 pub mod Table

@@ -27,7 +27,7 @@ abbrev pub display : Machine → List ℕ
 display m = places 32 (shown (m .cpu) (m .memory)) 0
 
 -- the first 16 bytes: length and kind, then the processor's part
-unfoldable pub heading : Cpu → List ℕ
+abbrev pub heading : Cpu → List ℕ
 heading c =
     44 ∷ 0
     ∷ 16 ∷ 0

@@ -1,12 +1,14 @@
 // The events other than power-on, applied to a machine by value.
 ghost use mathlib.Core.Path.{_≡_};
 ghost use lib.ListN.{length};
+ghost use mathlib.Core.List.{[]};
 ghost use Rattle.cpu.specs.State.{state};
 ghost use Rattle.machine.specs.Machine.{machineOf};
-ghost use Rattle.machine.specs.Events.{applied, clocked, counting, eventRefusal, fallen, happened, interrupted, pinned, refusalOf, wakes, withInt, withPorts, woken};
+ghost use Rattle.machine.specs.Events.{applied, clocked, counting, eventOf, fallen, happened, interrupted, maskOk, namedAnswer, pinned, refusalOf, stepping, valuesOk, wakes, withInt, withPorts, woken};
 use crate::Answer;
 use crate::Machine;
 use crate::power::after_res;
+use crate::ranges::both;
 use crate::ranges::sound;
 use cpu::Cpu;
 use datapath::timer::advance;
@@ -23,6 +25,26 @@ pub enum Event {
     Tmclk(u16),
     // RES.
     Res,
+}
+
+// What a kind and its numbers name: an event, or refusal 7.
+pub enum Named {
+    Known(Event),
+    Unknown,
+}
+
+// The event of a kind. What the kind does not name is not looked at.
+pub fn event_of(kind: u16, count: u16, a: u8, b: u8, c: u8) -> Named
+    ensures { λ r. ⌜ r ≡ eventOf kind count a b c ⌝ }
+{
+    match kind {
+        2 => Named::Known(Event::Run(count)),
+        3 => Named::Known(Event::Pins(a, b, c)),
+        4 => Named::Known(Event::Int(a)),
+        5 => Named::Known(Event::Tmclk(count)),
+        6 => Named::Known(Event::Res),
+        _ => Named::Unknown,
+    }
 }
 
 // The bits that fall and whose wake bit is 1.
@@ -120,37 +142,29 @@ fn counting(c: Cpu, n: u16) -> Cpu
     c
 }
 
-// Refusal 1 or 3 of an event, 0 for none.
-fn event_refusal(event: Event, mask: &[u8]) -> u8
-    ensures { λ r. ⌜ r ≡ eventRefusal (now (mask .entry)) event ⌝ }
+// Whether the mask has the length that an event wants of it: Run alone has a mask.
+fn mask_ok(event: Event, mask: &[u8]) -> bool
+    ensures { λ r. ⌜ r ≡ maskOk (now (mask .entry)) event ⌝ }
 {
     match event {
-        Event::Run(_) => {
-            if mask.len() != 4096 {
-                return 1;
-            }
-            0
-        }
-        Event::Pins(pm, ps, pp) => {
-            if 15 < pm {
-                return 3;
-            }
-            if 15 < ps {
-                return 3;
-            }
-            if 15 < pp {
-                return 3;
-            }
-            0
-        }
-        Event::Int(level) => {
-            if 1 < level {
-                return 3;
-            }
-            0
-        }
-        Event::Tmclk(_) => 0,
-        Event::Res => 0,
+        Event::Run(_) => mask.len() == 4096,
+        Event::Pins(_, _, _) => true,
+        Event::Int(_) => true,
+        Event::Tmclk(_) => true,
+        Event::Res => true,
+    }
+}
+
+// Refusal 3 is the answer to an event where this is false.
+pub fn values_ok(event: Event) -> bool
+    ensures { λ r. ⌜ r ≡ valuesOk event ⌝ }
+{
+    match event {
+        Event::Run(_) => true,
+        Event::Pins(pm, ps, pp) => both(pm < 16, both(ps < 16, pp < 16)),
+        Event::Int(level) => level < 2,
+        Event::Tmclk(_) => true,
+        Event::Res => true,
     }
 }
 
@@ -159,14 +173,16 @@ fn refusal(cpu: Cpu, memory: &[u8; 160], event: Event, mask: &[u8]) -> u8
     requires { ⌜ length (now memory) ≡ 160 ⌝ }
     ensures { λ r. ⌜ r ≡ refusalOf (now (mask .entry)) event (machineOf (state cpu (now (memory .entry)))) ⌝ }
 {
-    let first = event_refusal(event, mask);
-    if first != 0 {
-        return first;
+    if mask_ok(event, mask) {
+        if values_ok(event) {
+            if sound(cpu, memory) {
+                return 0;
+            }
+            return 5;
+        }
+        return 3;
     }
-    if sound(cpu, memory) {
-        return 0;
-    }
-    5
+    1
 }
 
 // What an event makes of the processor, and of the data memory where it is lent.
@@ -183,8 +199,8 @@ fn happened(cpu: Cpu, event: Event, mask: &[u8], memory: &mut [u8; 160]) -> Cpu
 }
 
 impl Machine {
-    // An event. A refused one leaves the machine as it was.
-    pub fn apply(mut self, event: Event, mask: &[u8]) -> Answer
+    // An event other than RES, which has its own method. A refused one leaves the machine as it was.
+    fn happen(mut self, event: Event, mask: &[u8]) -> Answer
         ensures { λ r. ⌜ r ≡ applied (now (mask .entry)) event self ⌝ }
     {
         let refusal = refusal(self.cpu, &self.memory, event, mask);
@@ -196,6 +212,61 @@ impl Machine {
         }
         let cpu = happened(self.cpu, event, mask, &mut self.memory);
         self.cpu = cpu;
+        Answer {
+            refusal: 0,
+            machine: self,
+        }
+    }
+
+    // An event. A refused one leaves the machine as it was.
+    pub fn apply(self, event: Event, mask: &[u8]) -> Answer
+        ensures { λ r. ⌜ r ≡ applied (now (mask .entry)) event self ⌝ }
+    {
+        match event {
+            Event::Res => self.reset(),
+            _ => self.happen(event, mask),
+        }
+    }
+
+    // A kind that names no event is refused with 7, but a machine out of range comes first.
+    fn unknown(self) -> Answer
+        ensures { λ r. ⌜ r ≡ namedAnswer [] Named.Unknown self ⌝ }
+    {
+        if sound(self.cpu, &self.memory) {
+            return Answer {
+                refusal: 7,
+                machine: self,
+            };
+        }
+        Answer {
+            refusal: 5,
+            machine: self,
+        }
+    }
+
+    // What a kind names: its event, or the refusal of an unknown kind.
+    pub fn apply_named(self, named: Named, mask: &[u8]) -> Answer
+        ensures { λ r. ⌜ r ≡ namedAnswer (now (mask .entry)) named self ⌝ }
+    {
+        match named {
+            Named::Known(event) => self.apply(event, mask),
+            Named::Unknown => self.unknown(),
+        }
+    }
+
+    // One step alone, which answers as a Run of one step does.
+    pub fn step(mut self, mask: &[u8]) -> Answer
+        ensures { λ r. ⌜ r ≡ stepping (now (mask .entry)) self ⌝ }
+    {
+        let refusal = refusal(self.cpu, &self.memory, Event::Run(1), mask);
+        if refusal != 0 {
+            return Answer {
+                refusal,
+                machine: self,
+            };
+        }
+        let next = self.cpu.step(mask, &mut self.memory);
+        self.cpu = next;
         Answer {
             refusal: 0,
             machine: self,

@@ -3,7 +3,6 @@ pub mod events;
 pub mod power;
 pub mod ranges;
 pub mod report;
-pub mod run;
 
 use cpu::Cpu;
 

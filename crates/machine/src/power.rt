@@ -2,11 +2,13 @@
 ghost use mathlib.Core.Path.{_≡_};
 ghost use lib.ListN.{drop, length};
 ghost use Prim.Native.Nat.{_≤_};
-ghost use Rattle.machine.specs.Power.{afterRes, blank, powerOn, powerRefusal, powered, reset};
+ghost use Rattle.machine.specs.Power.{afterRes, blank, powerOn, powerRefusal, powered};
+ghost use Rattle.machine.specs.Events.{resetting};
 use crate::Answer;
 use crate::Machine;
 use crate::ranges::all_nibbles;
 use crate::ranges::options_ok;
+use crate::ranges::sound;
 use cpu::Control;
 use cpu::Cpu;
 use cpu::Interrupts;
@@ -163,13 +165,22 @@ impl Machine {
         }
     }
 
-    // RES alone, as the event does it.
-    pub fn reset(mut self) -> Machine
-        ensures { λ r. ⌜ r ≡ reset self ⌝ }
+    // RES. A refused one leaves the machine as it was.
+    pub fn reset(mut self) -> Answer
+        ensures { λ r. ⌜ r ≡ resetting self ⌝ }
     {
-        let cpu = self.cpu;
-        let next = after_res(cpu.registers, cpu.pins, cpu.options, cpu.cycles);
-        self.cpu = next;
-        self
+        if sound(self.cpu, &self.memory) {
+            let cpu = self.cpu;
+            let next = after_res(cpu.registers, cpu.pins, cpu.options, cpu.cycles);
+            self.cpu = next;
+            return Answer {
+                refusal: 0,
+                machine: self,
+            };
+        }
+        Answer {
+            refusal: 5,
+            machine: self,
+        }
     }
 }

@@ -41,7 +41,7 @@ pub fn all_nibbles(s: &[u8]) -> bool
     top < 16
 }
 
-fn both(a: bool, b: bool) -> bool
+pub(crate) fn both(a: bool, b: bool) -> bool
     ensures { λ r. ⌜ r ≡ a && b ⌝ }
 {
     if a {

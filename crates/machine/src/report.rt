@@ -26,37 +26,39 @@ fn shown(cpu: Cpu, memory: &[u8; 160], s: u8) -> u8
     x
 }
 
-// Byte `k` of the first 16.
-fn heading_byte(cpu: Cpu, k: u8) -> u8
-    requires { ⌜ k < 16 ⌝ }
-    ensures { λ r. ⌜ r ≡ getD (heading cpu) k 0 ⌝ }
+// The first 16 bytes.
+fn heading(cpu: Cpu) -> [u8; 16]
+    ensures { λ r. ⌜ r ≡ heading cpu ⌝ }
 {
-    match k {
-        0 => 44,
-        1 | 3 => 0,
-        2 => 16,
-        4 => (cpu.control.pc.0 % 256) as u8,
-        5 => (cpu.control.pc.0 / 256) as u8,
-        6 => (cpu.cycles % 256) as u8,
-        7 => (cpu.cycles / 256 % 256) as u8,
-        8 => (cpu.cycles / 65536 % 256) as u8,
-        9 => (cpu.cycles / 16777216 % 256) as u8,
-        10 => cpu.interrupts.level,
-        11 => cpu.status.halted,
-        12 => cpu.status.fault,
-        13 => cpu.outputs.pa,
-        14 => cpu.outputs.channel,
-        15 => cpu.outputs.mode,
-        _ => 0,
-    }
+    let pc = cpu.control.pc.0;
+    let cycles = cpu.cycles;
+    [
+        44,
+        0,
+        16,
+        0,
+        (pc % 256) as u8,
+        (pc / 256) as u8,
+        (cycles % 256) as u8,
+        (cycles / 256 % 256) as u8,
+        (cycles / 65536 % 256) as u8,
+        (cycles / 16777216 % 256) as u8,
+        cpu.interrupts.level,
+        cpu.status.halted,
+        cpu.status.fault,
+        cpu.outputs.pa,
+        cpu.outputs.channel,
+        cpu.outputs.mode,
+    ]
 }
 
-fn report_byte(cpu: Cpu, memory: &[u8; 160], k: u8) -> u8
-    requires { ⌜ k < 48 ⌝ }
+// Byte `k` of a report whose first bytes are lent.
+fn report_byte(first: &[u8; 16], cpu: Cpu, memory: &[u8; 160], k: u8) -> u8
+    requires { ⌜ (now first ≡ heading cpu) × (k < 48) ⌝ }
     ensures { λ r. ⌜ r ≡ getD (reported (machineOf (state cpu (now (memory .entry))))) k 0 ⌝ }
 {
     if k < 16 {
-        return heading_byte(cpu, k);
+        return first[k as usize];
     }
     shown(cpu, memory, k - 16)
 }
@@ -66,9 +68,10 @@ fn write_report(cpu: Cpu, memory: &[u8; 160], out: &mut [u8])
     requires { ⌜ length (now out) ≡ 48 ⌝ }
     ensures { λ _. ⌜ now (out .exit) ≡ reported (machineOf (state cpu (now (memory .entry)))) ⌝ }
 {
+    let first = heading(cpu);
     let mut k = 0;
     while k < 48u8 {
-        out[k as usize] = report_byte(cpu, memory, k);
+        out[k as usize] = report_byte(&first, cpu, memory, k);
         k += 1;
     }
 }

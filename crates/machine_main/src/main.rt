@@ -47,13 +47,6 @@ fn pins(fd: i32, machine: Machine, mask: &[u8]) -> Answer {
     machine.apply(Event::Pins(pm, ps, pp), mask)
 }
 
-fn step(machine: Machine, mask: &[u8]) -> Answer {
-    Answer {
-        refusal: 0,
-        machine: machine.step(mask),
-    }
-}
-
 fn set_cpu(fd: i32, mut machine: Machine) -> Machine {
     let cpu = input::cpu(fd);
     machine.cpu = cpu;
@@ -77,7 +70,7 @@ fn answer(kind: u8, fd: i32, machine: Machine, mask: &[u8]) -> Answer {
         4 => machine.apply(Event::Int(byte(fd)), mask),
         5 => machine.apply(Event::Tmclk(word(fd)), mask),
         6 => machine.apply(Event::Res, mask),
-        _ => step(machine, mask),
+        _ => machine.step(mask),
     }
 }
 

@@ -39,12 +39,15 @@ fn put_report(machine: Machine) {
     io::write_all(STDOUT_FILENO, &line);
 }
 
-// The reports, record by record.
+// The reports, record by record. A script that was checked has no record that is refused.
 fn put_reports(mask: &[u8], script: &[u8]) {
     let mut at = 0;
     let mut machine = Machine::blank();
     while at < script.len() {
         let step = step_record(mask, script, at, machine);
+        if step.refusal != 0 {
+            return;
+        }
         machine = step.machine;
         at = step.at;
         put_report(machine);

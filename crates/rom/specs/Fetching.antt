@@ -1,5 +1,5 @@
 -- Reading at an address of a mask: document 01's numbers for what is refused, and what is read. Assumes nothing.
-use Prim.Native.Nat.{ℕ, _+_, _*_, _/_, _%_}
+use Prim.Native.Nat.{ℕ, _+_, _*_, _/_, _%_, _<_}
 use mathlib.Core.Bool.{Bool, true, false}
 use mathlib.Core.List.{List}
 use lib.Dec.{ltb, eqb}
@@ -17,6 +17,10 @@ use Rattle.rom.specs.declared.reader.Fetched.the-variants.{BadMask, BadA
 -- "The byte after FFFh is the one at 0"
 abbrev pub byteAt : List ℕ → ℕ → ℕ
 byteAt mask a = getD mask (a % 4096) 0
+
+-- a list of bytes, as every lent slice is
+abbrev pub Bytes : List ℕ → Type 0
+Bytes mask = (k : ℕ) → getD mask k 0 < 256
 
 -- what stands at an address, for the engine, the checker and the reader alike
 abbrev pub readAt : List ℕ → ℕ → Decoded

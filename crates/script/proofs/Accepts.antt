@@ -1,6 +1,6 @@
 -- In an accepted script every record is accepted by the machine: the first is a power-on that is not refused, and from a machine in
 -- range every record leads to one in range. Assumes nothing.
-use Prim.Native.Nat.{ℕ, _+_, _<_}
+use Prim.Native.Nat.{ℕ, zero, suc, _+_, _<_}
 use native.Mathlib.Omega.{arith}
 use mathlib.Core.Path.{_≡_, refl, sym, ap, subst, _∙_}
 use mathlib.Core.Bool.{Bool, true, false}
@@ -10,20 +10,22 @@ use lib.ListN.{length}
 use borrow.Author.Tests.{eq-eqb, eqb-true, eqb-false}
 use Rattle.isa.specs.Choice.{pick}
 use Rattle.cpu.specs.Range.{nibbles, optionsOk, valid}
-use Rattle.cpu.proofs.Kept.{Bytes}
+use Rattle.rom.specs.Fetching.{Bytes}
 use Rattle.machine.specs.Machine.{stateOf}
 use Rattle.machine.specs.Power.{blank, powered, powerRefusal, powerOn}
-use Rattle.machine.specs.Events.{Input, power, event, eventRefusal, refusalOf, applied, answerTo}
+use Rattle.machine.specs.Events.{Input, power, named, eventOf, maskOk, valuesOk, refusalOf, applied, answerTo}
 use Rattle.machine.specs.declared.events.Event.{Event}
 use Rattle.machine.specs.declared.events.Event.the-variants.{Run, Pins, Int, Tmclk, Res}
+use Rattle.machine.specs.declared.events.Named.the-variants.{Known, Unknown}
 use Rattle.machine.proofs.Lists.{powered-valid, input-valid}
 use Rattle.cpu.specs.declared.Options.{Options}
 use Rattle.machine.specs.declared.Machine.{Machine}
-use Rattle.script.specs.Format.{wordAt, sizeAt, kindAt, optionsAt, payloadAt, filled, offsetsFrom, inputAt, inputs}
-use Rattle.script.specs.Check.{first, ruled, valueOf, choiceOf, checked}
+use Rattle.script.specs.Format.{sizeAt, kindAt, optionsAt, payloadAt, filled, offsetsFrom, inputAt, inputs}
+use Rattle.script.specs.Check.{formatAt, first, ruled, valueOf, choiceOf, checked}
 use Rattle.script.specs.Reports.{next}
-use Rattle.script.specs.declared.check.Rule.the-variants.{Values, Choices}
+use Rattle.script.specs.declared.check.Rule.the-variants.{Format, Values, Choices}
 use Rattle.script.proofs.Offsets.{from-next, each}
+use Rattle.script.proofs.Formats.{whole}
 use Rattle.script.proofs.Checks.{accepted, first-bad, first-good}
 
 -- where the first bad record is none, the record at the front is good, and so are those after it
@@ -89,63 +91,67 @@ pub data Taken (mask : List ℕ) : List Input → Machine → Type 0 where
   none : {m : Machine} → Taken mask [] m
   more : {m : Machine} (i : Input) {is : List Input} → answerTo mask i m .refusal ≡ 0 → Taken mask is (next mask i m) → Taken mask (i ∷ is) m
 
--- an event whose values pass the check is refused by neither its mask nor its values
-event-accepted : (mask : List ℕ) → length mask ≡ 4096 → (e : Event) → valueOf (event e) ≡ 0 → eventRefusal mask e ≡ 0
-unfolding valueOf eventRefusal
-event-accepted mask l (Run n) v = rw (eq-eqb (length mask) 4096 l) refl
-event-accepted mask l (Pins pm ps pp) v = v
-event-accepted mask l (Int level) v = v
-event-accepted mask l (Tmclk n) v = refl
-event-accepted mask l Res v = refl
+-- with a mask of its length every event has the mask that it wants
+masked : (mask : List ℕ) → length mask ≡ 4096 → (e : Event) → maskOk mask e ≡ true
+unfolding maskOk
+masked mask l (Run n) = eq-eqb (length mask) 4096 l
+masked mask l (Pins pm ps pp) = refl
+masked mask l (Int level) = refl
+masked mask l (Tmclk n) = refl
+masked mask l Res = refl
 
-applied-accepted : (mask : List ℕ) (e : Event) (m : Machine) → eventRefusal mask e ≡ 0 → valid (stateOf m) ≡ true → applied mask e m .refusal ≡ 0
-unfolding applied refusalOf
-applied-accepted mask e m r v = rw (r, v) refl
+fine : (t : Bool) → _≡_ {A = ℕ} (pick t 0 3) 0 → t ≡ true
+fine true e = refl
+fine false e = absurd (omega arith)
 
--- the image of a power-on has its 166 nibbles
+-- an event whose values pass the check is refused by nothing
+event-accepted : (mask : List ℕ) → length mask ≡ 4096 → (e : Event) (m : Machine) → valueOf (named (Known e)) ≡ 0 → valid (stateOf m) ≡ true → applied mask e m .refusal ≡ 0
+unfolding valueOf applied refusalOf
+event-accepted mask l e m v w = rw (masked mask l e, fine (valuesOk e) v, w) refl
+
+-- what a record's check has shown of its input: the image of a power-on has its 166 nibbles, and another kind is known
 abbrev Sized : Input → Type 0
 Sized (power o image) = length image ≡ 166
-Sized (event e) = Unit {0}
+Sized (named (Known e)) = Unit {0}
+Sized (named Unknown) = ⊥
 
-sized-at : (s : List ℕ) (at : ℕ) → Sized (inputAt s at)
-unfolding inputAt
-sized-at s at = go (eqb (kindAt s at) 1) (eqb (kindAt s at) 2) (eqb (kindAt s at) 3) (eqb (kindAt s at) 4) (eqb (kindAt s at) 5)
+sized-at : (s : List ℕ) (at : ℕ) → formatAt s at ≡ 0 → Sized (inputAt s at)
+unfolding inputAt eventOf
+sized-at s at f = go (kindAt s at) refl (whole s at f .above) (whole s at f .below)
   where
-    go : (a b c d e : Bool)
-        → Sized (pick a (power (optionsAt s at) (filled (payloadAt s at 5)))
-        (pick b (event (Run (wordAt s (at + 4))))
-        (pick c (event (Pins (payloadAt s at 0) (payloadAt s at 1) (payloadAt s at 2)))
-        (pick d (event (Int (payloadAt s at 0)))
-        (pick e (event (Tmclk (wordAt s (at + 4)))) (event Res))))))
-    go true b c d e = refl
-    go false true c d e = tt
-    go false false true d e = tt
-    go false false false true e = tt
-    go false false false false true = tt
-    go false false false false false = tt
+    go : (kind : ℕ) → kindAt s at ≡ kind → 0 < kind → kind < 7 → Sized (inputAt s at)
+    go zero k p q = absurd (omega arith)
+    go (suc zero) k p q = rw k refl
+    go (suc (suc zero)) k p q = rw k tt
+    go (suc (suc (suc zero))) k p q = rw k tt
+    go (suc (suc (suc (suc zero)))) k p q = rw k tt
+    go (suc (suc (suc (suc (suc zero))))) k p q = rw k tt
+    go (suc (suc (suc (suc (suc (suc zero)))))) k p q = rw k tt
+    go (suc (suc (suc (suc (suc (suc (suc kind))))))) k p q = absurd (omega arith)
 
 input-accepted : (mask : List ℕ) → length mask ≡ 4096 → (i : Input) (m : Machine) → Sized i → valueOf i ≡ 0 → choiceOf i ≡ 0
     → valid (stateOf m) ≡ true → answerTo mask i m .refusal ≡ 0
 unfolding powerOn
 input-accepted mask l (power o image) m z v k w = power-accepted o image z v k
-input-accepted mask l (event e) m z v k w = applied-accepted mask e m (event-accepted mask l e v) w
+input-accepted mask l (named (Known e)) m z v k w = event-accepted mask l e m v w
+input-accepted mask l (named Unknown) m z v k w = absurd z
 
 module _ (mask s : List ℕ) (b : Bytes mask) where
   -- from an offset on, where neither values nor options are refused
   abbrev Rest : ℕ → List ℕ → Type 0
   Rest at l =
-      (m : Machine) → valid (stateOf m) ≡ true
+      (m : Machine) → valid (stateOf m) ≡ true → first (ruled Format s) (offsetsFrom s at) .number ≡ 0
       → first (ruled Values s) (offsetsFrom s at) .number ≡ 0 → first (ruled Choices s) (offsetsFrom s at) .number ≡ 0
       → Taken mask (map (inputAt s) l) m
 
   rest-taken : length mask ≡ 4096 → (at : ℕ) → Rest at (offsetsFrom s at)
   rest-taken l =
       each s Rest
-      (λ at h m v p q. none)
-      (λ at h back m v p q.
+      (λ at h m v f p q. none)
+      (λ at h back m v f p q.
       more (inputAt s at)
-      (input-accepted mask l (inputAt s at) m (sized-at s at) (good-here (ruled Values s) s at h p) (good-here (ruled Choices s) s at h q) v)
-      (back (next mask (inputAt s at) m) (input-valid mask b (inputAt s at) m v) (good-after (ruled Values s) s at h p) (good-after (ruled Choices s) s at h q)))
+      (input-accepted mask l (inputAt s at) m (sized-at s at (good-here (ruled Format s) s at h f)) (good-here (ruled Values s) s at h p) (good-here (ruled Choices s) s at h q) v)
+      (back (next mask (inputAt s at) m) (input-valid mask b (inputAt s at) m v) (good-after (ruled Format s) s at h f) (good-after (ruled Values s) s at h p) (good-after (ruled Choices s) s at h q)))
 
   -- no record of an accepted script is refused
   pub all-taken : (room : ℕ) → checked mask s room .number ≡ 0 → Taken mask (inputs s) blank
@@ -156,4 +162,4 @@ module _ (mask s : List ℕ) (b : Bytes mask) where
       subst (λ (k : List ℕ). Taken mask (map (inputAt s) k) blank) (sym (from-next s 0 h))
       (more (inputAt s 0) (first-taken mask s room e)
       (rest-taken (a .mask-size) (0 + 4 + sizeAt s 0) (next mask (inputAt s 0) blank) (first-valid mask s room e)
-      (good-after (ruled Values s) s 0 h (a .values)) (good-after (ruled Choices s) s 0 h (a .choices))))
+      (good-after (ruled Format s) s 0 h (a .format)) (good-after (ruled Values s) s 0 h (a .values)) (good-after (ruled Choices s) s 0 h (a .choices))))

@@ -6,7 +6,8 @@ use mathlib.Core.Path.{_≡_, refl, sym, ap, ap₂, _∙_}
 use mathlib.Core.List.{List, [], _∷_, _++_, map}
 use lib.ListN.{length, getD, drop, drop-of-length-le}
 use lib.Seq.{drop-cons}
-use Rattle.cpu.proofs.Kept.{Bytes}
+use Rattle.rom.specs.Fetching.{Bytes}
+use Rattle.machine.specs.Events.{eventOf}
 use Rattle.machine.specs.Report.{places}
 use Rattle.script.specs.Format.{wordAt, sizeAt, kindAt, payloadAt, sizeOf, offsetsFrom, offsets, inputAt, inputs, pair, written, writtenAll}
 use Rattle.script.specs.Check.{first, ruled, checked}
@@ -75,7 +76,7 @@ module _ (s : List ℕ) (at : ℕ) where
     two = pair-back (byte 4) (getD s (at + 4 + 1) 0) (b (at + 4)) ∙ ap (λ (x : ℕ). byte 4 ∷ x ∷ []) at-5
 
     back : (kind : ℕ) → kindAt s at ≡ kind → 0 < kind → kind < 7 → sizeAt s at ≡ sizeOf kind → written (inputAt s at) ≡ places (4 + sizeOf kind) byte 0
-    unfolding inputAt written sizeOf
+    unfolding inputAt eventOf written sizeOf
     back zero k p q z = absurd (omega arith)
     back (suc zero) k p q z =
         rw k (head _ z k ∙ six (load 0 4 refl) (load 1 5 refl) (load 2 6 refl) (load 3 7 refl) (load 4 8 refl) (load 5 9 refl))

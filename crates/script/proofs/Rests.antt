@@ -4,11 +4,12 @@ use Prim.Native.Nat.{ℕ, _+_, _*_, _<_, _≤_}
 use native.Mathlib.Nat.{zero-add}
 use native.Mathlib.Omega.{arith}
 use mathlib.Core.Path.{_≡_, refl, sym, ap, ap₂, _∙_}
-use mathlib.Core.Bool.{true}
+use mathlib.Core.Bool.{Bool, true, false}
 use mathlib.Core.List.{List, [], _∷_, _++_, map, append-assoc}
 use lib.ListN.{length, take, drop, length-append, length-map, length-drop, take-append-drop}
 use lib.Seq.{take-at, drop-at, drop-drop, length-take-le}
-use borrow.Author.Tests.{eq-eqb, lt-ltb, le-ltb}
+use lib.Dec.{eqb}
+use borrow.Author.Tests.{eq-eqb, ne-eqb, eqb-true, eqb-false, lt-ltb, le-ltb}
 use Rattle.cpu.specs.Range.{valid}
 use Rattle.machine.specs.Machine.{stateOf}
 use Rattle.machine.specs.Power.{blank}
@@ -17,7 +18,8 @@ use Rattle.machine.specs.Report.{reported, reporting, report}
 use Rattle.machine.specs.declared.Machine.{Machine}
 use Rattle.machine.proofs.Reports.{report-length}
 use Rattle.script.specs.Format.{sizeAt, offsetsFrom, inputAt, inputs}
-use Rattle.script.specs.Reports.{next, reports, reportsOf, stepped}
+use Rattle.script.specs.Check.{formatAt}
+use Rattle.script.specs.Reports.{next, reports, reportsOf, progress, passed, stepped}
 use Rattle.script.specs.declared.Progress.{Progress}
 use Rattle.script.proofs.Offsets.{from-end, from-next}
 
@@ -29,9 +31,6 @@ pub rest-all : (mask s : List ℕ) → rest mask s 0 blank ≡ reportsOf mask s
 unfolding inputs
 rest-all mask s = refl
 
-abbrev pub progress : ℕ → Machine → Progress
-progress at m = record { at = at; machine = m }
-
 module _ (mask s : List ℕ) (at : ℕ) (m : Machine) where
   pub rest-end : length s ≤ at → rest mask s at m ≡ []
   unfolding reports
@@ -41,14 +40,26 @@ module _ (mask s : List ℕ) (at : ℕ) (m : Machine) where
   unfolding reports
   rest-next h = rw (from-next s at h) refl
 
-  -- a step at an offset within the script, and past its end
-  pub stepped-in : at < length s → stepped mask s at m ≡ progress (at + 4 + sizeAt s at) (next mask (inputAt s at) m)
+  -- a step at a record that is well formed, at another one, and past the script's end
+  pub stepped-in : at < length s → formatAt s at ≡ 0 → stepped mask s at m ≡ passed mask s at m
   unfolding stepped
-  stepped-in h = rw (lt-ltb at (length s) h) refl
+  stepped-in h e = rw (lt-ltb at (length s) h, e) refl
 
-  pub stepped-end : length s ≤ at → stepped mask s at m ≡ progress at m
+  pub stepped-bad : at < length s → (formatAt s at ≡ 0 → ⊥) → stepped mask s at m ≡ progress (formatAt s at) at m
+  unfolding stepped
+  stepped-bad h n = rw (lt-ltb at (length s) h, ne-eqb (formatAt s at) 0 n) refl
+
+  pub stepped-end : length s ≤ at → stepped mask s at m ≡ progress 0 at m
   unfolding stepped
   stepped-end h = rw (le-ltb at (length s) h) refl
+
+  -- a record that is not refused is passed
+  pub stepped-on : at < length s → stepped mask s at m .refusal ≡ 0 → stepped mask s at m .at ≡ at + 4 + sizeAt s at
+  stepped-on h z = go (eqb (formatAt s at) 0) (eqb-true (formatAt s at) 0) (eqb-false (formatAt s at) 0)
+    where
+      go : (t : Bool) → (t ≡ true → formatAt s at ≡ 0) → (t ≡ false → formatAt s at ≡ 0 → ⊥) → stepped mask s at m .at ≡ at + 4 + sizeAt s at
+      go true f g = ap (λ (p : Progress). p .at) (stepped-in h (f refl))
+      go false f g = absurd (g refl (ap (λ (p : Progress). p .refusal) (sym (stepped-bad h (g refl))) ∙ z))
 
 -- 48 bytes for each record
 pub reports-length : (mask : List ℕ) (is : List Input) (m : Machine) → length (reports mask is m) ≡ 48 * length is

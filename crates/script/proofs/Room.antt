@@ -10,8 +10,8 @@ use lib.ListN.{length}
 use borrow.Author.Tests.{leb-true}
 use Rattle.isa.specs.Choice.{pick}
 use Rattle.cpu.specs.Range.{nibble, nibbles, optionsOk}
-use Rattle.machine.specs.Events.{Input, power, event}
-use Rattle.machine.specs.declared.events.Event.the-variants.{Run, Pins, Int, Tmclk, Res}
+use Rattle.machine.specs.Events.{Input, power, named, valuesOk}
+use Rattle.machine.specs.declared.events.Named.the-variants.{Known, Unknown}
 use Rattle.script.specs.Format.{sizeAt, kindAt, known, sizeOf, offsets, inputAt}
 use Rattle.script.specs.Check.{refused, unless, orElse, first, formatAt, valueOf, choiceOf, ruled, checked}
 use Rattle.script.specs.declared.Checked.{Checked}
@@ -58,16 +58,13 @@ format-other s at =
 value-other : (i : Input) → Other (valueOf i)
 unfolding valueOf
 value-other (power o image) = either (nibbles image) 0 3 (λ e. omega arith) (λ e. omega arith)
-value-other (event (Run n)) = λ e. omega arith
-value-other (event (Pins pm ps pp)) = either (nibble pm && (nibble ps && nibble pp)) 0 3 (λ e. omega arith) (λ e. omega arith)
-value-other (event (Int level)) = either (ltb level 2) 0 3 (λ e. omega arith) (λ e. omega arith)
-value-other (event (Tmclk n)) = λ e. omega arith
-value-other (event Res) = λ e. omega arith
+value-other (named (Known e)) = either (valuesOk e) 0 3 (λ e. omega arith) (λ e. omega arith)
+value-other (named Unknown) = λ e. omega arith
 
 choice-other : (i : Input) → Other (choiceOf i)
 unfolding choiceOf
 choice-other (power o image) = either (optionsOk o) 0 4 (λ e. omega arith) (λ e. omega arith)
-choice-other (event e) = λ e. omega arith
+choice-other (named n) = λ e. omega arith
 
 pub never-nine : (mask s : List ℕ) (room : ℕ) → 48 * 65535 ≤ room → checked mask s room .number ≡ 9 → ⊥
 unfolding checked

@@ -8,7 +8,7 @@ use mathlib.Core.Bool.{true}
 use mathlib.Core.List.{List, _++_}
 use lib.ListN.{length, take, drop}
 use Rattle.cpu.specs.Range.{valid}
-use Rattle.cpu.proofs.Kept.{Bytes}
+use Rattle.rom.specs.Fetching.{Bytes}
 use Rattle.machine.specs.Machine.{stateOf}
 use Rattle.machine.specs.Power.{blank}
 use Rattle.machine.specs.Report.{reported}
@@ -16,12 +16,13 @@ use Rattle.machine.specs.declared.Machine.{Machine}
 use Rattle.machine.proofs.Lists.{input-valid}
 use Rattle.machine.proofs.Reports.{report-length}
 use Rattle.script.specs.Format.{sizeAt, offsetsFrom, inputAt}
-use Rattle.script.specs.Check.{checked}
+use Rattle.script.specs.Check.{formatAt, first, ruled, checked}
 use Rattle.script.specs.Reports.{next, reportsOf, fronted, stepped}
 use Rattle.script.specs.declared.Progress.{Progress}
+use Rattle.script.specs.declared.check.Rule.the-variants.{Format}
 use Rattle.script.proofs.Offsets.{from-next}
 use Rattle.script.proofs.Checks.{accepted}
-use Rattle.script.proofs.Accepts.{first-valid}
+use Rattle.script.proofs.Accepts.{first-valid, good-here, good-after}
 use Rattle.script.proofs.Rests.{rest, rest-all, rest-end, rest-next, stepped-in, whole, whole-more, whole-none, whole-first, put-length}
 
 -- the buffer that is to be left
@@ -32,6 +33,7 @@ pub record Held (mask s out₀ out : List ℕ) (at done : ℕ) (m : Machine) : T
   pub buffer : whole out done (rest mask s at m) ≡ left mask s out₀
   pub room : done + 48 * length (offsetsFrom s at) ≤ length out
   pub size : length out ≡ length out₀
+  pub formed : first (ruled Format s) (offsetsFrom s at) .number ≡ 0
   pub ready : valid (stateOf (next mask (inputAt s at) m)) ≡ true
 
 module _ (mask s out₀ : List ℕ) where
@@ -40,6 +42,7 @@ module _ (mask s out₀ : List ℕ) where
     buffer = ap (whole out₀ 0) (rest-all mask s) ∙ whole-first out₀ (reportsOf mask s);
     room = omega (arith, accepted mask s (length out₀) e .fits);
     size = refl;
+    formed = accepted mask s (length out₀) e .format;
     ready = first-valid mask s (length out₀) e;
   }
 
@@ -51,13 +54,17 @@ module _ (mask s out₀ : List ℕ) where
       pub fits : done + 48 ≤ length out
       fits = omega (arith, v .room, ap length (from-next s at h))
 
+      -- the record is well formed
+      pub well : formatAt s at ≡ 0
+      well = good-here (ruled Format s) s at h (v .formed)
+
       -- one record more
       pub turns : (p : Progress) (out' : List ℕ) → Bytes mask → p ≡ stepped mask s at m
           → out' ≡ take done out ++ (reported (p .machine) ++ drop (done + 48) out) → Held mask s out₀ out' (p .at) (done + 48) (p .machine)
       turns p out' b e =
           subst (λ (p : Progress).
           out' ≡ take done out ++ (reported (p .machine) ++ drop (done + 48) out) → Held mask s out₀ out' (p .at) (done + 48) (p .machine))
-          (sym (e ∙ stepped-in mask s at m h)) go
+          (sym (e ∙ stepped-in mask s at m h well)) go
         where
           at' : ℕ
           at' = at + 4 + sizeAt s at
@@ -77,5 +84,6 @@ module _ (mask s out₀ : List ℕ) where
                     ∙ v .buffer;
                 room = omega (arith, v .room, ap length (from-next s at h), n);
                 size = n ∙ v .size;
+                formed = good-after (ruled Format s) s at h (v .formed);
                 ready = input-valid mask b (inputAt s at') m' (v .ready);
               }

@@ -2,14 +2,14 @@
 -- off; an unknown kind gives 7; the first bad record decides. Then comes 8; then 3 over all records, then 4, each at the first such
 -- record's offset; then 9". Assumes nothing.
 use Prim.Native.Nat.{ℕ, _+_, _*_}
-use mathlib.Core.Bool.{Bool, _&&_}
+use mathlib.Core.Bool.{Bool}
 use mathlib.Core.List.{List, [], _∷_}
 use lib.Dec.{ltb, leb, eqb}
 use lib.ListN.{length}
 use Rattle.isa.specs.Choice.{pick}
-use Rattle.cpu.specs.Range.{nibble, nibbles, optionsOk}
-use Rattle.machine.specs.Events.{Input, power, event}
-use Rattle.machine.specs.declared.events.Event.the-variants.{Run, Pins, Int, Tmclk, Res}
+use Rattle.cpu.specs.Range.{nibbles, optionsOk}
+use Rattle.machine.specs.Events.{Input, power, named, valuesOk}
+use Rattle.machine.specs.declared.events.Named.the-variants.{Known, Unknown}
 use Rattle.script.specs.Format.{sizeAt, kindAt, known, sizeOf, offsets, inputAt}
 use Rattle.script.specs.declared.Checked.{Checked}
 use Rattle.script.specs.declared.check.Rule.{Rule}
@@ -46,16 +46,13 @@ formatAt s at =
 -- "3: in an image, event or record: nibble other than an option over 15, INT over 1"
 unfoldable pub valueOf : Input → ℕ
 valueOf (power o image) = pick (nibbles image) 0 3
-valueOf (event (Run n)) = 0
-valueOf (event (Pins pm ps pp)) = pick (nibble pm && (nibble ps && nibble pp)) 0 3
-valueOf (event (Int level)) = pick (ltb level 2) 0 3
-valueOf (event (Tmclk n)) = 0
-valueOf (event Res) = 0
+valueOf (named (Known e)) = pick (valuesOk e) 0 3
+valueOf (named Unknown) = 0
 
 -- "4: option handed in at power-on, wake nibbles too, outside its list"
 unfoldable pub choiceOf : Input → ℕ
 choiceOf (power o image) = pick (optionsOk o) 0 4
-choiceOf (event e) = 0
+choiceOf (named n) = 0
 
 -- the three rules that are judged record by record
 abbrev pub ruled : Rule → List ℕ → ℕ → ℕ

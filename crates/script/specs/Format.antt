@@ -7,8 +7,9 @@ use lib.Dec.{ltb, eqb}
 use lib.ListN.{length, getD, replicate}
 use Rattle.isa.specs.Choice.{pick}
 use Rattle.cpu.specs.declared.Options.{Options}
-use Rattle.machine.specs.Events.{Input, power, event}
+use Rattle.machine.specs.Events.{Input, power, named, eventOf}
 use Rattle.machine.specs.declared.events.Event.the-variants.{Run, Pins, Int, Tmclk, Res}
+use Rattle.machine.specs.declared.events.Named.the-variants.{Known, Unknown}
 use Rattle.script.specs.declared.Record.{Record}
 use Rattle.script.specs.declared.Record.the-variants.{Power, Other}
 
@@ -54,14 +55,11 @@ optionsAt s at = record { rate = payloadAt s at 0; commons = payloadAt s at 1; p
 abbrev pub filled : ℕ → List ℕ
 filled x = replicate 166 x
 
+-- a power-on, or what the kind names with a payload of a word or of up to three bytes
 unfoldable pub inputAt : List ℕ → ℕ → Input
 inputAt s at =
     pick (eqb (kindAt s at) 1) (power (optionsAt s at) (filled (payloadAt s at 5)))
-    (pick (eqb (kindAt s at) 2) (event (Run (wordAt s (at + 4))))
-    (pick (eqb (kindAt s at) 3) (event (Pins (payloadAt s at 0) (payloadAt s at 1) (payloadAt s at 2)))
-    (pick (eqb (kindAt s at) 4) (event (Int (payloadAt s at 0)))
-    (pick (eqb (kindAt s at) 5) (event (Tmclk (wordAt s (at + 4))))
-    (event Res)))))
+    (named (eventOf (kindAt s at) (wordAt s (at + 4)) (payloadAt s at 0) (payloadAt s at 1) (payloadAt s at 2)))
 
 unfoldable pub inputs : List ℕ → List Input
 inputs s = map (inputAt s) (offsets s)
@@ -69,21 +67,22 @@ inputs s = map (inputAt s) (offsets s)
 -- the code's record, as an input
 abbrev pub inputOf : Record → Input
 inputOf (Power o x) = power o (filled x)
-inputOf (Other e) = event e
+inputOf (Other n) = named n
 
 -- ---- records written
 -- a number in two bytes
 abbrev pub pair : ℕ → List ℕ
 pair n = n % 256 ∷ n / 256 ∷ []
 
--- an input as a record's bytes
+-- an input as a record's bytes; an unknown kind has no record
 unfoldable pub written : Input → List ℕ
 written (power o image) = pair 6 ++ (pair 1 ++ (o .rate ∷ o .commons ∷ o .pm ∷ o .ps ∷ o .pp ∷ getD image 0 0 ∷ []))
-written (event (Run n)) = pair 2 ++ (pair 2 ++ pair n)
-written (event (Pins pm ps pp)) = pair 3 ++ (pair 3 ++ (pm ∷ ps ∷ pp ∷ []))
-written (event (Int level)) = pair 1 ++ (pair 4 ++ (level ∷ []))
-written (event (Tmclk n)) = pair 2 ++ (pair 5 ++ pair n)
-written (event Res) = pair 0 ++ pair 6
+written (named (Known (Run n))) = pair 2 ++ (pair 2 ++ pair n)
+written (named (Known (Pins pm ps pp))) = pair 3 ++ (pair 3 ++ (pm ∷ ps ∷ pp ∷ []))
+written (named (Known (Int level))) = pair 1 ++ (pair 4 ++ (level ∷ []))
+written (named (Known (Tmclk n))) = pair 2 ++ (pair 5 ++ pair n)
+written (named (Known Res)) = pair 0 ++ pair 6
+written (named Unknown) = []
 
 unfoldable pub writtenAll : List Input → List ℕ
 writtenAll [] = []

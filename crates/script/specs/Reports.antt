@@ -8,8 +8,9 @@ use Rattle.machine.specs.Power.{blank}
 use Rattle.machine.specs.Events.{Input, answerTo}
 use Rattle.machine.specs.Report.{reported}
 use Rattle.machine.specs.declared.Machine.{Machine}
+use Rattle.machine.specs.declared.Answer.{Answer}
 use Rattle.script.specs.Format.{sizeAt, inputAt, inputs}
-use Rattle.script.specs.Check.{checked}
+use Rattle.script.specs.Check.{formatAt, checked}
 use Rattle.script.specs.declared.Checked.{Checked}
 use Rattle.script.specs.declared.Progress.{Progress}
 
@@ -42,7 +43,18 @@ applied mask s out =
     leaving (checked mask s (length out))
     (pick (eqb (checked mask s (length out) .number) 0) (fronted (reportsOf mask s) out) out)
 
--- one record alone: the machine after it and the offset of the record that follows. At the end nothing moves
+abbrev pub progress : ℕ → ℕ → Machine → Progress
+progress refusal at m = record { refusal = refusal; at = at; machine = m }
+
+-- one record alone: the machine's answer to it, and the offset of the record that follows
+abbrev pub passed : List ℕ → List ℕ → ℕ → Machine → Progress
+passed mask s at m =
+    let a : Answer = answerTo mask (inputAt s at) m in
+    progress (a .refusal) (at + 4 + sizeAt s at) (a .machine)
+
+-- a record that is cut off, has a wrong length or is of no known kind has its number, 6 or 7, and nothing moves; at the end nothing moves
 unfoldable pub stepped : List ℕ → List ℕ → ℕ → Machine → Progress
 stepped mask s at m =
-    pick (ltb at (length s)) (record { at = at + 4 + sizeAt s at; machine = next mask (inputAt s at) m }) (record { at = at; machine = m })
+    pick (ltb at (length s))
+    (pick (eqb (formatAt s at) 0) (passed mask s at m) (progress (formatAt s at) at m))
+    (progress 0 at m)

@@ -6,48 +6,60 @@ ghost use Prim.Native.Nat.{_+_, _≤_};
 ghost use lib.ListN.{drop, length, take};
 ghost use Rattle.cpu.specs.Range.{valid};
 ghost use Rattle.machine.specs.Machine.{stateOf};
+ghost use Rattle.machine.specs.Events.{answerTo};
 ghost use Rattle.machine.specs.Report.{reported};
 ghost use Rattle.script.specs.Check.{checked};
 ghost use Rattle.script.specs.Format.{inputOf};
-ghost use Rattle.script.specs.Reports.{applied, fronted, leaving, next, reportsOf, stepped};
+ghost use Rattle.script.specs.Reports.{applied, fronted, leaving, reportsOf, stepped};
 use crate::Checked;
 use crate::Progress;
 use crate::Record;
 use crate::check::check_script;
+use crate::check::format_at;
 use crate::format::record_at;
 use crate::format::size_at;
+use machine::Answer;
 use machine::Machine;
 
-// The machine after a record.
-fn next(input: Record, mask: &[u8], machine: Machine) -> Machine
-    ensures { λ r. ⌜ r ≡ next (now (mask .entry)) (inputOf input) machine ⌝ }
+// What a machine answers to a record.
+fn answer_to(input: Record, mask: &[u8], machine: Machine) -> Answer
+    ensures { λ r. ⌜ r ≡ answerTo (now (mask .entry)) (inputOf input) machine ⌝ }
 {
     match input {
         Record::Power(options, fill) => {
             let image = [fill; 166];
-            let answer = machine.power_on(options, &image);
-            let after = answer.machine;
-            after
+            machine.power_on(options, &image)
         }
-        Record::Other(event) => {
-            let answer = machine.apply(event, mask);
-            let after = answer.machine;
-            after
-        }
+        Record::Other(named) => machine.apply_named(named, mask),
     }
 }
 
-// One record: the machine after it, and where the next one starts. At the end of the script nothing moves.
+// One record: the machine after it, and where the next one starts. A record that is cut off, has a wrong length or is of no known kind has
+// its number, and nothing moves; nor does it at the end of the script.
 pub fn step_record(mask: &[u8], script: &[u8], at: usize, machine: Machine) -> Progress
     ensures { λ r. ⌜ r ≡ stepped (now (mask .entry)) (now (script .entry)) at machine ⌝ }
 {
     if script.len() <= at {
-        return Progress { at, machine };
+        return Progress {
+            refusal: 0,
+            at,
+            machine,
+        };
+    }
+    let refusal = format_at(script, at);
+    if refusal != 0 {
+        return Progress {
+            refusal,
+            at,
+            machine,
+        };
     }
     let input = record_at(script, at);
-    let after = next(input, mask, machine);
+    let answer = answer_to(input, mask, machine);
+    let after = answer.machine;
     let size = size_at(script, at);
     Progress {
+        refusal: answer.refusal,
         at: at + 4 + size,
         machine: after,
     }

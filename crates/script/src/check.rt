@@ -10,7 +10,8 @@ use crate::format::kind_at;
 use crate::format::record_at;
 use crate::format::size_at;
 use crate::format::size_of;
-use machine::events::Event;
+use machine::events::Named;
+use machine::events::values_ok;
 use machine::ranges::options_ok;
 
 // What is judged record by record: 6 and 7, then 3, then 4.
@@ -21,7 +22,7 @@ pub enum Rule {
 }
 
 // Refusal 6 or 7 of the record at an offset, 0 for none.
-fn format_at(s: &[u8], at: usize) -> u8
+pub(crate) fn format_at(s: &[u8], at: usize) -> u8
     requires { ⌜ at ≤ length (now s) ⌝ }
     ensures { λ r. ⌜ r ≡ formatAt (now (s .entry)) at ⌝ }
 {
@@ -46,32 +47,18 @@ fn format_at(s: &[u8], at: usize) -> u8
     0
 }
 
-// Refusal 3 of an event, 0 for none.
-fn event_value(event: Event) -> u8
-    ensures { λ r. ⌜ r ≡ valueOf (inputOf (Record.Other event)) ⌝ }
+// Refusal 3 of what a kind names, 0 for none.
+fn named_value(named: Named) -> u8
+    ensures { λ r. ⌜ r ≡ valueOf (inputOf (Record.Other named)) ⌝ }
 {
-    match event {
-        Event::Pins(pm, ps, pp) => {
-            if 15 < pm {
-                return 3;
+    match named {
+        Named::Known(event) => {
+            if values_ok(event) {
+                return 0;
             }
-            if 15 < ps {
-                return 3;
-            }
-            if 15 < pp {
-                return 3;
-            }
-            0
+            3
         }
-        Event::Int(level) => {
-            if 1 < level {
-                return 3;
-            }
-            0
-        }
-        Event::Run(_) => 0,
-        Event::Tmclk(_) => 0,
-        Event::Res => 0,
+        Named::Unknown => 0,
     }
 }
 
@@ -86,7 +73,7 @@ fn value(input: Record) -> u8
             }
             0
         }
-        Record::Other(event) => event_value(event),
+        Record::Other(named) => named_value(named),
     }
 }
 

@@ -5,7 +5,7 @@ ghost use lib.ListN.{getD, length};
 ghost use Rattle.script.specs.Format.{inputAt, inputOf, kindAt, optionsAt, payloadAt, sizeAt, sizeOf, wordAt};
 use crate::Record;
 use cpu::Options;
-use machine::events::Event;
+use machine::events::event_of;
 
 fn byte(s: &[u8], i: usize) -> u8
     ensures { λ r. ⌜ r ≡ getD (now (s .entry)) i 0 ⌝ }
@@ -86,21 +86,15 @@ pub(crate) fn record_at(s: &[u8], at: usize) -> Record
     requires { ⌜ at ≤ length (now s) ⌝ }
     ensures { λ r. ⌜ inputOf r ≡ inputAt (now (s .entry)) at ⌝ }
 {
-    match kind_at(s, at) {
-        1 => {
-            let options = options_at(s, at);
-            let fill = payload_at(s, at, 5);
-            Record::Power(options, fill)
-        }
-        2 => Record::Other(Event::Run(word(s, at + 4))),
-        3 => {
-            let pm = payload_at(s, at, 0);
-            let ps = payload_at(s, at, 1);
-            let pp = payload_at(s, at, 2);
-            Record::Other(Event::Pins(pm, ps, pp))
-        }
-        4 => Record::Other(Event::Int(payload_at(s, at, 0))),
-        5 => Record::Other(Event::Tmclk(word(s, at + 4))),
-        _ => Record::Other(Event::Res),
+    let kind = kind_at(s, at);
+    if kind == 1 {
+        let options = options_at(s, at);
+        let fill = payload_at(s, at, 5);
+        return Record::Power(options, fill);
     }
+    let count = word(s, at + 4);
+    let a = payload_at(s, at, 0);
+    let b = payload_at(s, at, 1);
+    let c = payload_at(s, at, 2);
+    Record::Other(event_of(kind, count, a, b, c))
 }

@@ -6,12 +6,12 @@ pub mod hex;
 
 use cpu::Options;
 use machine::Machine;
-use machine::events::Event;
+use machine::events::Named;
 
-// A script's record: a power-on with its options and the nibble that fills the image, or another event.
+// A script's record: a power-on with its options and the nibble that fills the image, or what another kind names.
 pub enum Record {
     Power(Options, u8),
-    Other(Event),
+    Other(Named),
 }
 
 // The check's answer: document 01's refusal number, 0 for none, and the offset that goes with it.
@@ -20,8 +20,9 @@ pub struct Checked {
     pub offset: usize,
 }
 
-// Where the next record starts, and the machine that it gets.
+// The refusal of a record, 0 for none; where the next one starts, and the machine that it gets.
 pub struct Progress {
+    pub refusal: u8,
     pub at: usize,
     pub machine: Machine,
 }

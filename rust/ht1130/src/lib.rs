@@ -1,7 +1,7 @@
 //! The Holtek HT1130, a 4-bit microcontroller with an LCD driver: a proved
 //! engine and mask checker.
 //!
-//! This crate is the Rust side of `ht1130.h`. It keeps no state and, but for
+//! This crate is the Rust side of `ht1130.h` and `ht1130_tools.h`. It keeps no state and, but for
 //! [`reports`], allocates nothing: a call works on what it is lent. Bad input is
 //! refused before anything happens, so after an `Err` every lent machine and
 //! buffer is as it was.
@@ -466,7 +466,7 @@ impl std::ops::Deref for Code {
     }
 }
 
-/// The functions of `ht1130.h` as they are. The rest of this crate is safe.
+/// The functions of `ht1130.h` and `ht1130_tools.h` as they are. The rest of this crate is safe.
 #[allow(missing_docs)]
 pub mod ffi {
     use super::Machine;

@@ -63,7 +63,7 @@ fn run_c(name: &str, body: &str) -> String {
 #[test]
 fn c_and_rust_agree() {
     let mut body = String::from(
-        "#include <stdalign.h>\n#include <stdio.h>\n#include \"ht1130.h\"\n\
+        "#include <stdalign.h>\n#include <stdio.h>\n#include \"ht1130_tools.h\"\n\
          #define M ht1130_machine\n\
          int main(void) {\n    printf(\"size %zu\\nalign %zu\\n\", sizeof(M), alignof(M));\n",
     );
@@ -85,7 +85,7 @@ fn c_and_rust_agree() {
 
 #[test]
 fn c_and_rust_number_alike() {
-    let mut body = String::from("#include <stdio.h>\n#include \"ht1130.h\"\nint main(void) {\n");
+    let mut body = String::from("#include <stdio.h>\n#include \"ht1130_tools.h\"\nint main(void) {\n");
     let mut expected = String::new();
     let kinds = [
         ("RUN", ht1130::RUN),

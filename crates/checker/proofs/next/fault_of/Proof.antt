@@ -52,30 +52,39 @@ enum-told-6 c = search needs
 enum-told-7 : tie.Need-enum-told-7
 enum-told-7 c = search needs
 
+-- no instruction
 returns : tie.Need-returns
 returns c = at-flow (c .before .before) Unread (c .enum-told .given .1)
 
+-- goes on
 returns-2 : tie.Need-returns-2
 returns-2 c = at-flow (c .before .before) On (c .enum-told2 .given .1)
 
+-- EI
 returns-3 : tie.Need-returns-3
 returns-3 c = at-flow (c .before .before) Enable (c .enum-told3 .given .1)
 
+-- JMP
 returns-4 : tie.Need-returns-4
 returns-4 c = at-flow (c .before .before) (Jump (c .enum-told4 .given .0 .0)) (c .enum-told4 .given .1)
 
+-- a branch
 returns-5 : tie.Need-returns-5
 returns-5 c = at-flow (c .before .before) (To (c .enum-told5 .given .0 .0)) (c .enum-told5 .given .1)
 
+-- CALL in level 0
 returns-6 : tie.Need-returns-6
 returns-6 c = let t = c .before .enum-told6 .given in sub-main (t .0 .0) _ (c .if1 .taken) ∙ at-flow (c .before .before .before) (Sub (t .0 .0)) (t .1)
 
+-- CALL above it
 returns-7 : tie.Need-returns-7
 returns-7 c = let t = c .before .enum-told6 .given in sub-other (t .0 .0) _ (c .if1 .left) ∙ at-flow (c .before .before .before) (Sub (t .0 .0)) (t .1)
 
+-- RET and RETI in level 0
 returns-8 : tie.Need-returns-8
 returns-8 c = back-main _ (c .if2 .taken) ∙ at-flow (c .before .before .before) Back (c .before .enum-told7 .given .1)
 
+-- RET and RETI above it
 returns-9 : tie.Need-returns-9
 returns-9 c = back-other _ (c .if2 .left) ∙ at-flow (c .before .before .before) Back (c .before .enum-told7 .given .1)
 

@@ -1,28 +1,28 @@
--- `machine::Machine::apply` meets its contract: the refusal and the machine are the definitions'. Assumes nothing.
-use Rattle.machine.proofs.Answers.{refused, done}
-use Rattle.machine.specs.Events.{applied, happened, refusalOf}
+-- `machine::Machine::apply` meets its contract: RES is `reset`'s, every other event `happen`'s. Assumes nothing.
+use mathlib.Core.Path.{sym, ap, _∙_}
+use Rattle.machine.specs.Events.{applied, happened, refusalOf, resetting, maskOk, valuesOk}
+use Rattle.machine.specs.declared.events.Event.{Event}
 use borrow.Author.Needs.{needs}
 use Rattle.machine.proofs.Machine.apply.Statement.{statement}
 use Rattle.machine.proofs.Machine.apply.Tie as tie
 
-refusal-requires : tie.Need-refusal-requires
-refusal-requires c κs = search needs
+enum-told : tie.Need-enum-told
+enum-told c = search needs
+
+reset-requires : tie.Need-reset-requires
+reset-requires c κs = search needs
+
+happen-requires : tie.Need-happen-requires
+happen-requires c κs = search needs
 
 returns : tie.Need-returns
-unfolding applied
+unfolding applied happened refusalOf resetting maskOk valuesOk
 returns c =
-    let a = c .before .before .before .before .before .before .args in
-    refused (c .before .refusal .result) {k = refusalOf (a .mask .now) (a .event) (a .t1)} (happened (a .mask .now) (a .event) (a .t1)) (a .t1) (c .if1 .taken) (c .before .refusal .ensures)
-
-happened-requires : tie.Need-happened-requires
-happened-requires c κs = search needs
+    let a = c .before .before .before .before .args in
+    c .reset .ensures ∙ sym (ap (λ (e : Event). applied (a .mask .now) e (a .self)) (c .before .enum-told .given .1))
 
 returns-2 : tie.Need-returns-2
-unfolding applied
-returns-2 c =
-    let r = c .before .before .before .before in
-    let a = r .before .before .before .before .before .args in
-    done (r .refusal .result) {k = refusalOf (a .mask .now) (a .event) (a .t1)} (happened (a .mask .now) (a .event) (a .t1)) (a .t1) (c .before .before .before .if1 .left) (r .refusal .ensures) (c .happened .ensures)
+returns-2 c = search needs
 
 pub apply-spec : {M : Type 1} → statement M
-apply-spec = tie.close (tie.spec refusal-requires returns happened-requires returns-2)
+apply-spec = tie.close (tie.spec enum-told reset-requires happen-requires returns returns-2)

@@ -1,17 +1,30 @@
--- `machine::Machine::reset` meets its contract: RES on the machine's own parts. Assumes nothing.
-use mathlib.Core.Path.{ap}
+-- `machine::Machine::reset` meets its contract: RES on the machine's own parts, where they are in range. Assumes nothing.
+use mathlib.Core.Path.{refl, sym, ap, _∙_}
 use Rattle.cpu.specs.declared.Cpu.{Cpu}
-use Rattle.machine.specs.Machine.{machineOf}
 use Rattle.cpu.specs.State.{state}
+use Rattle.machine.specs.Machine.{machineOf}
+use Rattle.machine.specs.Events.{resetting}
+use Rattle.machine.specs.declared.Answer.{Answer}
 use borrow.Author.Needs.{needs}
 use Rattle.machine.proofs.Machine.reset.Statement.{statement}
 use Rattle.machine.proofs.Machine.reset.Tie as tie
+
+sound-requires : tie.Need-sound-requires
+sound-requires c κs = search needs
 
 after-res-requires : tie.Need-after-res-requires
 after-res-requires c κs = search needs
 
 returns : tie.Need-returns
-returns c = ap (λ (k : Cpu). machineOf (state k (c .before .before .args .self .memory))) (c .after-res .ensures)
+unfolding resetting
+returns c =
+    let m = c .before .before .before .before .before .before .before .args .t1 in
+    ap (λ (k : Cpu). record { machine = machineOf (state k (m .memory)); refusal = 0 }) (c .after-res .ensures)
+    ∙ rw (sym (c .before .before .before .sound .ensures) ∙ c .before .before .if1 .taken) refl
+
+returns-2 : tie.Need-returns-2
+unfolding resetting
+returns-2 c = rw (sym (c .before .sound .ensures) ∙ c .if1 .left) refl
 
 pub reset-spec : {M : Type 1} → statement M
-reset-spec = tie.close (tie.spec after-res-requires returns)
+reset-spec = tie.close (tie.spec sound-requires after-res-requires returns returns-2)

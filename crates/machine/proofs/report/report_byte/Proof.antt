@@ -1,21 +1,29 @@
 -- `machine::report::report_byte` meets its contract: the heading, then the display. Assumes nothing.
-use mathlib.Core.Path.{_∙_}
+use Prim.Native.Nat.{ℕ}
+use mathlib.Core.Path.{ap, _∙_}
+use mathlib.Core.List.{List}
+use native.Mathlib.Omega.{arith}
+use lib.ListN.{getD}
 use Rattle.machine.proofs.Reports.{in-heading, in-display}
 use borrow.Author.Needs.{needs}
 use Rattle.machine.proofs.report.report_byte.Statement.{statement}
 use Rattle.machine.proofs.report.report_byte.Tie as tie
 
-heading-byte-requires : tie.Need-heading-byte-requires
-heading-byte-requires c κs = search needs
+element-copy-out-result : tie.Need-element-copy-out-result
+element-copy-out-result c = omega arith
 
 returns : tie.Need-returns
-returns c = c .heading-byte .ensures ∙ in-heading (c .before .before .args .cpu) (c .before .before .args .memory .now) (c .before .before .args .k) (c .before .if1 .taken)
+returns c =
+    let a = c .before .before .args in
+    ap (λ (l : List ℕ). getD l (a .k) 0) (c .before .before .pre .0) ∙ in-heading (a .cpu) (a .memory .now) (a .k) (c .before .if1 .taken)
 
 shown-requires : tie.Need-shown-requires
-shown-requires c κs = search needs
+shown-requires c κs = omega arith
 
 returns-2 : tie.Need-returns-2
-returns-2 c = c .shown .ensures ∙ in-display (c .before .before .args .cpu) (c .before .before .args .memory .now) (c .before .before .args .k) (c .before .if1 .left) (c .before .before .pre)
+returns-2 c =
+    let a = c .before .before .args in
+    c .shown .ensures ∙ in-display (a .cpu) (a .memory .now) (a .k) (c .before .if1 .left) (c .before .before .pre .1)
 
 pub report-byte-spec : {M : Type 1} → statement M
-report-byte-spec = tie.close (tie.spec heading-byte-requires returns shown-requires returns-2)
+report-byte-spec = tie.close (tie.spec element-copy-out-result returns shown-requires returns-2)

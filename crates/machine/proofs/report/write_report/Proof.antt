@@ -8,20 +8,24 @@ use Rattle.machine.specs.Machine.{machineOf}
 use Rattle.machine.specs.Report.{reported}
 use Rattle.machine.proofs.Fill.{fill-more, fill-all}
 use Rattle.machine.proofs.Reports.{report-length}
+use borrow.Author.Needs.{needs}
 use Rattle.machine.proofs.report.write_report.Statement.{statement}
 use Rattle.machine.proofs.report.write_report.Tie as tie
 
 abbrev Inv-loop : tie.InvT-loop
-Inv-loop cpu memory out₀ k₀ out k = (k ≤ 48) × (length out ≡ length out₀) × (take k out ≡ take k (reported (machineOf (state cpu memory))))
+Inv-loop cpu memory out₀ first k₀ out k = (k ≤ 48) × (length out ≡ length out₀) × (take k out ≡ take k (reported (machineOf (state cpu memory))))
 
 abbrev μ-loop : tie.MeasureT-loop
-μ-loop cpu memory out₀ k₀ out k = 48 - k
+μ-loop cpu memory out₀ first k₀ out k = 48 - k
+
+heading-requires : tie.Need-heading-requires Inv-loop μ-loop
+heading-requires c κs = search needs
 
 loop-holds : tie.Need-loop-holds Inv-loop μ-loop
 loop-holds c = (omega arith, refl, refl)
 
 report-byte-requires : tie.Need-report-byte-requires Inv-loop μ-loop
-report-byte-requires c κs = omega arith
+report-byte-requires c κs = (c .before .before .before .heading .ensures, omega arith)
 
 cast-out : tie.Need-cast-out Inv-loop μ-loop
 cast-out c = omega arith
@@ -37,8 +41,8 @@ loop-less c = omega arith
 
 loop-again : tie.Need-loop-again Inv-loop μ-loop
 loop-again c =
-    let l = c .before .before in
-    let a = l .before .before .args in
+    let l = c .before .before .before in
+    let a = l .before .before .before .args in
     let target = reported (machineOf (state (a .cpu) (a .memory .now))) in (
       omega arith,
       length-set (l .loop .out) (l .loop .k) (c .report-byte .result) ∙ l .loop .inv .1,
@@ -52,9 +56,9 @@ same-length c = c .before .loop .inv .1
 returns : tie.Need-returns Inv-loop μ-loop
 returns c =
     let l = c .before in
-    let a = l .before .before .args in
+    let a = l .before .before .before .args in
     fill-all (reported (machineOf (state (a .cpu) (a .memory .now)))) (l .loop .out) (l .loop .k) (omega arith) (omega (arith, report-length (a .cpu) (a .memory .now))) (l .loop .inv .2)
 
 pub write-report-spec : {M : Type 1} → statement M
 write-report-spec =
-    tie.close (tie.spec Inv-loop μ-loop loop-holds report-byte-requires cast-out slice-write-out add-k loop-less loop-again same-length returns)
+    tie.close (tie.spec Inv-loop μ-loop heading-requires loop-holds report-byte-requires cast-out slice-write-out add-k loop-less loop-again same-length returns)

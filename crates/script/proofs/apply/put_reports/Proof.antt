@@ -9,7 +9,7 @@ use Rattle.machine.specs.Power.{blank}
 use Rattle.machine.specs.declared.Machine.{Machine}
 use Rattle.script.specs.declared.Progress.{Progress}
 use Rattle.script.proofs.Rests.{stepped-in}
-use Rattle.script.proofs.Turn.{Held, begins, ends, fits, turns}
+use Rattle.script.proofs.Turn.{Held, begins, ends, fits, well, turns}
 use Rattle.script.proofs.apply.put_reports.Statement.{statement}
 use Rattle.script.proofs.apply.put_reports.Tie as tie
 
@@ -40,7 +40,7 @@ put-report-requires c κs =
     let s = a .script .now in
     let out = a .out .now in
     let h = c .before .before .before .loop-test .taken in (
-      ap (λ (p : Progress). valid (stateOf (p .machine))) (c .before .before .step-record .ensures ∙ stepped-in mask s (x .at) (x .machine) h) ∙ x .inv .ready,
+      ap (λ (p : Progress). valid (stateOf (p .machine))) (c .before .before .step-record .ensures ∙ stepped-in mask s (x .at) (x .machine) h (well mask s out (x .out) (x .at) (x .done) (x .machine) (x .inv) h)) ∙ x .inv .ready,
       fits mask s out (x .out) (x .at) (x .done) (x .machine) (x .inv) h,
     )
 
@@ -65,7 +65,7 @@ loop-less c =
     let s = a .script .now in
     let out = a .out .now in
     let h = c .before .before .before .before .before .before .loop-test .taken in
-    let e = ap (λ (p : Progress). p .at) (c .before .before .before .before .before .step-record .ensures ∙ stepped-in mask s (x .at) (x .machine) h) in
+    let e = ap (λ (p : Progress). p .at) (c .before .before .before .before .before .step-record .ensures ∙ stepped-in mask s (x .at) (x .machine) h (well mask s out (x .out) (x .at) (x .done) (x .machine) (x .inv) h)) in
     omega arith
 
 loop-again : tie.Need-loop-again Inv-loop μ-loop

@@ -21,8 +21,8 @@ returns c =
 enum-known-input-2 : tie.Need-enum-known-input-2
 enum-known-input-2 c = search needs
 
-event-value-requires : tie.Need-event-value-requires
-event-value-requires c κs = search needs
+named-value-requires : tie.Need-named-value-requires
+named-value-requires c κs = search needs
 
 returns-2 : tie.Need-returns-2
 unfolding valueOf
@@ -30,9 +30,9 @@ returns-2 c =
     ap (λ (b : Bool). pick b 0 3) (sym (filled-good 166 _ (c .if1 .left))) ∙ sym (ap (λ (r : Record). valueOf (inputOf r)) (c .before .before .input .given .1))
 
 returns-3 : tie.Need-returns-3
-returns-3 c = c .event-value .ensures ∙ sym (ap (λ (r : Record). valueOf (inputOf r)) (c .before .before .input2 .given .1))
+returns-3 c = c .named-value .ensures ∙ sym (ap (λ (r : Record). valueOf (inputOf r)) (c .before .before .input2 .given .1))
 
 pub value-spec : {M : Type 1} → statement M
 value-spec =
     tie.close
-    (tie.spec enum-known-input returns enum-known-input-2 event-value-requires returns-2 returns-3)
+    (tie.spec enum-known-input returns enum-known-input-2 named-value-requires returns-2 returns-3)

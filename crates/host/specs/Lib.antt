@@ -1,3 +1,0 @@
-pub mod Lent
-pub mod Numbers
-pub mod Property3

@@ -1,0 +1,51 @@
+// Power-on, the other events and the report on a machine by value, from numbers.
+ghost use mathlib.Core.Path.{_≡_};
+ghost use Rattle.ht1130.specs.Lent.{optionsOf, hosted};
+ghost use Rattle.machine.specs.Power.{powerOn};
+ghost use Rattle.machine.specs.Report.{report, reporting};
+use cpu::Options;
+use machine::Answer;
+use machine::Machine;
+use machine::events::event_of;
+
+pub(crate) fn power(
+    machine: Machine,
+    rate: u8,
+    commons: u8,
+    pm: u8,
+    ps: u8,
+    pp: u8,
+    image: &[u8],
+) -> Answer
+    ensures { λ r. ⌜ r ≡ powerOn (optionsOf rate commons pm ps pp) (now (image .entry)) machine ⌝ }
+{
+    let options = Options {
+        rate,
+        commons,
+        pm,
+        ps,
+        pp,
+    };
+    machine.power_on(options, image)
+}
+
+// The event of a kind. What the kind does not name is not looked at, and an unknown one is refused.
+pub(crate) fn event(
+    machine: Machine,
+    kind: u16,
+    count: u16,
+    a: u8,
+    b: u8,
+    c: u8,
+    mask: &[u8],
+) -> Answer
+    ensures { λ r. ⌜ r ≡ hosted (now (mask .entry)) kind count a b c machine ⌝ }
+{
+    machine.apply_named(event_of(kind, count, a, b, c), mask)
+}
+
+pub(crate) fn shown(machine: Machine, out: &mut [u8]) -> u8
+    ensures { λ r. ⌜ reporting r (now (out .exit)) ≡ report machine (now (out .entry)) ⌝ }
+{
+    machine.report(out)
+}

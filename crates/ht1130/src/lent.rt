@@ -1,0 +1,51 @@
+// The machine record that a host lends: document 01, "A host may also lend one machine record and have an event applied to it directly".
+// Each wrapper takes the record out, hands it on by value, and puts back what the answer has, which for a refused input is what was there.
+ghost use mathlib.Core.Path.{_≡_};
+ghost use Rattle.ht1130.specs.Lent.{left, optionsOf, hosted};
+ghost use Rattle.machine.specs.Power.{powerOn};
+ghost use Rattle.machine.specs.Report.{report, reporting};
+use crate::events::event;
+use crate::events::power;
+use crate::events::shown;
+use machine::Machine;
+
+#[no_mangle]
+pub extern "C" fn ht1130_power_on(
+    machine: &mut Machine,
+    rate: u8,
+    commons: u8,
+    pm: u8,
+    ps: u8,
+    pp: u8,
+    image: &[u8],
+) -> u8
+    ensures { λ r. ⌜ left r (now (machine .exit)) ≡ powerOn (optionsOf rate commons pm ps pp) (now (image .entry)) (now (machine .entry)) ⌝ }
+{
+    let answer = power(*machine, rate, commons, pm, ps, pp, image);
+    *machine = answer.machine;
+    answer.refusal
+}
+
+#[no_mangle]
+pub extern "C" fn ht1130_apply(
+    machine: &mut Machine,
+    kind: u16,
+    count: u16,
+    a: u8,
+    b: u8,
+    c: u8,
+    mask: &[u8],
+) -> u8
+    ensures { λ r. ⌜ left r (now (machine .exit)) ≡ hosted (now (mask .entry)) kind count a b c (now (machine .entry)) ⌝ }
+{
+    let answer = event(*machine, kind, count, a, b, c, mask);
+    *machine = answer.machine;
+    answer.refusal
+}
+
+#[no_mangle]
+pub extern "C" fn ht1130_report(machine: &Machine, out: &mut [u8]) -> u8
+    ensures { λ r. ⌜ reporting r (now (out .exit)) ≡ report (now (machine .entry)) (now (out .entry)) ⌝ }
+{
+    shown(*machine, out)
+}

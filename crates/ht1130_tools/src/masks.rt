@@ -1,0 +1,31 @@
+// The checker's verdict as a number.
+ghost use mathlib.Core.Path.{_≡_};
+ghost use Prim.Native.Nat.{_+_, _*_, _^_};
+ghost use Rattle.ht1130_tools.specs.Numbers.{Checks, verdictNumber};
+use checker::check::Verdict;
+use checker::check::check;
+
+// Bytes 1, 2, and 4 with 5.
+fn failed(fault: u8, address: u16, level: u8) -> u64
+    ensures { λ r. ⌜ r ≡ fault * 2 ^ 8 + level * 2 ^ 16 + address * 2 ^ 32 ⌝ }
+{
+    fault as u64 * 0x100 + level as u64 * 0x10000 + address as u64 * 0x100000000
+}
+
+fn packed(verdict: Verdict) -> u64
+    ensures { λ r. ⌜ r ≡ verdictNumber verdict ⌝ }
+{
+    match verdict {
+        Verdict::Passed => 0,
+        Verdict::Failed(fault, address, level) => failed(fault, address, level),
+        Verdict::BadMask => 1,
+        Verdict::BadMarks => 2,
+    }
+}
+
+#[no_mangle]
+pub extern "C" fn ht1130_check(mask: &[u8], marks: &mut [u8]) -> u64
+    ensures { λ r. ⌜ Checks (now (mask .entry)) (now (marks .entry)) (now (marks .exit)) r ⌝ }
+{
+    packed(check(mask, marks))
+}

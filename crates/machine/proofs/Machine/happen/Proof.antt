@@ -1,0 +1,28 @@
+-- `machine::Machine::happen` meets its contract: the refusal and the machine are the definitions'. Assumes nothing.
+use Rattle.machine.proofs.Answers.{refused, done}
+use Rattle.machine.specs.Events.{applied, happened, refusalOf}
+use borrow.Author.Needs.{needs}
+use Rattle.machine.proofs.Machine.happen.Statement.{statement}
+use Rattle.machine.proofs.Machine.happen.Tie as tie
+
+refusal-requires : tie.Need-refusal-requires
+refusal-requires c κs = search needs
+
+returns : tie.Need-returns
+unfolding applied
+returns c =
+    let a = c .before .before .before .before .before .before .args in
+    refused (c .before .refusal .result) {k = refusalOf (a .mask .now) (a .event) (a .t1)} (happened (a .mask .now) (a .event) (a .t1)) (a .t1) (c .if1 .taken) (c .before .refusal .ensures)
+
+happened-requires : tie.Need-happened-requires
+happened-requires c κs = search needs
+
+returns-2 : tie.Need-returns-2
+unfolding applied
+returns-2 c =
+    let r = c .before .before .before .before in
+    let a = r .before .before .before .before .before .args in
+    done (r .refusal .result) {k = refusalOf (a .mask .now) (a .event) (a .t1)} (happened (a .mask .now) (a .event) (a .t1)) (a .t1) (c .before .before .before .if1 .left) (r .refusal .ensures) (c .happened .ensures)
+
+pub happen-spec : {M : Type 1} → statement M
+happen-spec = tie.close (tie.spec refusal-requires returns happened-requires returns-2)
