@@ -12,7 +12,7 @@ use lib.ListN.{length, getD}
 use lib.Seq.{ext-getD}
 use borrow.Author.Tests.{eq-eqb, eqb-true, eqb-false}
 use Rattle.checker.specs.Marks.{addresses, levels, Pair, pair, fault, Reached}
-use Rattle.checker.specs.Verdicts.{isMarked, Marked, rank, Lowest, Safe, Written, Answers, AnswersDetermine}
+use Rattle.checker.specs.Verdicts.{Marked, rank, Lowest, Safe, Written, Answers, AnswersDetermine}
 use Rattle.checker.specs.Walk.{pairs, pairOf, nextCodes, Found, markOf, Packed, First, Judged}
 use Rattle.checker.specs.declared.check.Verdict.{Verdict}
 use Rattle.checker.specs.declared.check.Verdict.the-variants.{Passed, Failed, BadMask, BadMarks}

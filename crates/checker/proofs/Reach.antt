@@ -4,22 +4,21 @@ use Prim.Native.Nat.{ℕ, _+_, _*_, _/_, _%_, _<_}
 use native.Mathlib.Omega.{arith}
 use mathlib.Core.Path.{_≡_, refl}
 use mathlib.Core.Bool.{Bool, true}
-use mathlib.Core.List.{List, [], _∷_}
+use mathlib.Core.List.{List, []}
 use lib.Dec.{eqb}
-use lib.ListN.{getD}
 use borrow.Author.Tests.{ltb-true}
 use Rattle.isa.specs.Choice.{pick}
 use Rattle.isa.specs.Code.{inRange}
 use Rattle.isa.specs.Views.{View, on, jmp, branch, call, ret, reti, ei, view}
 use Rattle.isa.proofs.Exact.{sound}
 use Rattle.isa.specs.declared.decoder.Decoded.{Decoded}
-use Rattle.isa.specs.declared.decoder.Decoded.the-variants.{Read}
+use Rattle.isa.specs.declared.decoder.Decoded.the-variants.{Read, Unreadable}
 use Rattle.isa.specs.declared.Instruction.{Instruction}
 use Rattle.rom.specs.Fetching.{Bytes, byteAt, readAt, movedFrom}
 use Rattle.checker.specs.declared.flow.Flow.{Flow}
-use Rattle.checker.specs.declared.flow.Flow.the-variants.{On, Enable, Jump, To, Sub, Back}
-use Rattle.checker.specs.Chains.{Member, here, there, Reaches}
-use Rattle.checker.specs.Marks.{addresses, levels, Pair, pair, flowBy, flowOf, handed, handedBy, fault, successors, Reached}
+use Rattle.checker.specs.declared.flow.Flow.the-variants.{Unread, On, Enable, Jump, To, Sub, Back}
+use Rattle.checker.specs.Chains.{Member, Reaches}
+use Rattle.checker.specs.Marks.{addresses, levels, Pair, pair, flowBy, flowOf, flowRead, flowAt, handed, fault, successors, Reached}
 use Rattle.checker.specs.Verdicts.{rank}
 use Rattle.checker.specs.Walk.{All, Small, pairs, pairOf, nextCodes}
 use Rattle.checker.proofs.Chains.{all-member, all-of, all-map, reached-all, of-code, to-code}
@@ -27,6 +26,7 @@ use Rattle.checker.proofs.Chains.{all-member, all-of, all-map, reached-
 -- ---- what a flow hands on
 -- the target of a jump or a call is an address
 abbrev pub Targets : Flow → Type 0
+Targets Unread = Unit {0}
 Targets On = Unit {0}
 Targets Enable = Unit {0}
 Targets (Jump t) = t .0 < addresses
@@ -34,7 +34,7 @@ Targets (To t) = Unit {0}
 Targets (Sub t) = t .0 < addresses
 Targets Back = Unit {0}
 
-pub targets : (i : Instruction) → inRange i ≡ true → Targets (flowOf i)
+targets : (i : Instruction) → inRange i ≡ true → Targets (flowOf i)
 unfolding flowOf inRange
 targets i = go (view i)
   where
@@ -54,6 +54,7 @@ abbrev pub InLevels : Pair → Type 0
 InLevels p = p .level < levels
 
 handed-addresses : (f : Flow) (moved l : ℕ) → Targets f → moved < addresses → All InAddresses (handed f moved l)
+handed-addresses Unread moved l t h = tt
 handed-addresses On moved l t h = (h, tt)
 handed-addresses Enable moved l t h = (h, (omega arith, (omega arith, tt)))
 handed-addresses (Jump a) moved l t h = (t, tt)
@@ -62,6 +63,7 @@ handed-addresses (Sub a) moved l t h = (t, (h, tt))
 handed-addresses Back moved l t h = tt
 
 handed-levels : (f : Flow) (moved l : ℕ) → l < levels → All InLevels (handed f moved l)
+handed-levels Unread moved l k = tt
 handed-levels On moved l k = (k, tt)
 handed-levels Enable moved l k = (k, (omega arith, (omega arith, tt)))
 handed-levels (Jump a) moved l k = (k, tt)
@@ -84,18 +86,14 @@ picked : (b : Bool) (ps : List Pair) (q : Pair) → Member q (pick b ps []) → 
 picked true ps q m = m
 
 module _ (mask : List ℕ) where
-  -- what holds of all that the instruction at a pair hands on holds of the pair's successors
-  each-next : (P : Pair → Type 0) (p q : Pair) → ((i : Instruction) → readAt mask (p .address) ≡ Read i → All P (handed (flowOf i) (movedFrom mask (p .address)) (p .level)))
-      → Member q (successors mask p) → P q
+  -- what holds of all that a pair's flow hands on holds of its successors
+  each-next : (P : Pair → Type 0) (p q : Pair) → All P (handed (flowAt mask (p .address)) (movedFrom mask (p .address)) (p .level)) → Member q (successors mask p) → P q
   unfolding successors
-  each-next P p q f m =
-      go (readAt mask (p .address)) refl (picked (eqb (fault mask p) 0) (handedBy (readAt mask (p .address)) (movedFrom mask (p .address)) (p .level)) q m)
-    where
-      go : (d : Decoded) → readAt mask (p .address) ≡ d → Member q (handedBy d (movedFrom mask (p .address)) (p .level)) → P q
-      go (Read i) e n = all-member P n (f i e)
+  each-next P p q h m =
+      all-member P (picked (eqb (fault mask p) 0) (handed (flowAt mask (p .address)) (movedFrom mask (p .address)) (p .level)) q m) h
 
   next-level : (p q : Pair) → InLevels p → Member q (successors mask p) → InLevels q
-  next-level p q k = each-next InLevels p q (λ i e. handed-levels (flowOf i) (movedFrom mask (p .address)) (p .level) k)
+  next-level p q k = each-next InLevels p q (handed-levels (flowAt mask (p .address)) (movedFrom mask (p .address)) (p .level) k)
 
   pub reached-level : (p : Pair) → Reached mask p → InLevels p
   reached-level = reached-all InLevels (omega arith) next-level
@@ -109,13 +107,17 @@ module _ (mask : List ℕ) where
 
   -- ---- ranges
   module _ (bytes : Bytes mask) where
-    pub read-targets : (a : ℕ) (i : Instruction) → readAt mask a ≡ Read i → Targets (flowOf i)
-    read-targets a i e = targets i (sound (byteAt mask a) (byteAt mask (a + 1)) i (bytes ((a + 1) % 4096)) e .fields)
+    pub flow-targets : (a : ℕ) → Targets (flowAt mask a)
+    unfolding flowAt
+    flow-targets a = go (readAt mask a) refl
+      where
+        go : (d : Decoded) → readAt mask a ≡ d → Targets (flowRead d)
+        go (Read i) e = targets i (sound (byteAt mask a) (byteAt mask (a + 1)) i (bytes ((a + 1) % 4096)) e .fields)
+        go Unreadable e = tt
 
     next-address : (p q : Pair) → Member q (successors mask p) → InAddresses q
     next-address p q =
-        each-next InAddresses p q
-        (λ i e. handed-addresses (flowOf i) (movedFrom mask (p .address)) (p .level) (read-targets (p .address) i e) (omega arith))
+        each-next InAddresses p q (handed-addresses (flowAt mask (p .address)) (movedFrom mask (p .address)) (p .level) (flow-targets (p .address)) (omega arith))
 
     pub reached-address : (p : Pair) → Reached mask p → InAddresses p
     reached-address = reached-all InAddresses (omega arith) (λ p q h. next-address p q)

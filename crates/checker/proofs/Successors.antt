@@ -1,45 +1,29 @@
--- The fault and the successors of a pair, from what is read at its address: both go by the instruction's flow. Assumes nothing.
-use Prim.Native.Nat.{ℕ, _+_, _/_, _%_, _<_}
+-- The fault and the successors of a code's pair, from the flow at its address, as the code has them: f, which an arm knows to be g. Assumes
+-- nothing.
+use Prim.Native.Nat.{ℕ, _/_, _%_}
 use mathlib.Core.Path.{_≡_, sym, ap, ap₂, subst, _∙_}
-use mathlib.Core.List.{List, []}
+use mathlib.Core.List.{List, [], map}
 use lib.Dec.{eqb}
-use lib.ListN.{getD}
 use Rattle.isa.specs.Choice.{pick}
-use Rattle.rom.specs.Fetching.{Bytes, byteAt}
-use Rattle.isa.specs.Timing.{lengthOf}
-use Rattle.isa.specs.declared.decoder.Decoded.{Decoded}
-use Rattle.isa.specs.declared.decoder.Decoded.the-variants.{Read, Unreadable}
-use Rattle.isa.specs.declared.Instruction.{Instruction}
+use Rattle.rom.specs.Fetching.{Bytes, movedFrom}
 use Rattle.checker.specs.declared.flow.Flow.{Flow}
-use Rattle.checker.specs.Marks.{Pair, flowOf, nestingFault, faultOf, handed, handedBy, fault, successors}
-use Rattle.rom.specs.Fetching.{readAt}
-use Rattle.checker.specs.Walk.{pairOf}
-use Rattle.checker.proofs.Reach.{Targets, read-targets}
+use Rattle.checker.specs.Marks.{levels, flowAt, faultIn, handed, fault, successors}
+use Rattle.checker.specs.Verdicts.{rank}
+use Rattle.checker.specs.Walk.{pairOf, nextCodes}
+use Rattle.checker.proofs.Reach.{Targets, flow-targets}
 
--- the successors, from what is read
-abbrev left : Decoded → ℕ → ℕ → List Pair
-left d moved l = pick (eqb (faultOf d l) 0) (handedBy d moved l) []
+-- the codes that a flow hands on
+abbrev pub handed-on : Flow → ℕ → ℕ → List ℕ
+handed-on g moved l = map rank (pick (eqb (faultIn g l) 0) (handed g moved l) [])
 
-module _ (mask : List ℕ) (c : ℕ) (d : Decoded) (at : d ≡ readAt mask (c / 3)) where
-  pub fault-unread : d ≡ Unreadable → 1 ≡ fault mask (pairOf c)
+module _ (mask : List ℕ) (c : ℕ) (f g : Flow) (p : f ≡ flowAt mask (c / levels)) (q : f ≡ g) where
+  pub fault-flow : faultIn g (c % levels) ≡ fault mask (pairOf c)
   unfolding fault
-  fault-unread e = ap (λ (d : Decoded). faultOf d (c % 3)) (sym e ∙ at)
+  fault-flow = ap (λ (g : Flow). faultIn g (c % levels)) (sym q ∙ p)
 
-  pub next-unread : d ≡ Unreadable → [] ≡ successors mask (pairOf c)
+  pub next-flow : (m : ℕ) → m ≡ movedFrom mask (c / levels) → handed-on g m (c % levels) ≡ nextCodes mask c
   unfolding successors fault
-  next-unread e = ap (λ (d : Decoded). left d ((c / 3 + lengthOf (byteAt mask (c / 3))) % 4096) (c % 3)) (sym e ∙ at)
+  next-flow m s = ap₂ (λ (g : Flow) (m : ℕ). handed-on g m (c % levels)) (sym q ∙ p) s
 
-  module _ (i : Instruction) (f g : Flow) (r : d ≡ Read i) (p : f ≡ flowOf i) (q : f ≡ g) where
-    pub fault-flow : nestingFault g (c % 3) ≡ fault mask (pairOf c)
-    unfolding fault
-    fault-flow = ap (λ (g : Flow). nestingFault g (c % 3)) (sym q ∙ p) ∙ ap (λ (d : Decoded). faultOf d (c % 3)) (sym r ∙ at)
-
-    pub next-flow : (b n : ℕ) → b ≡ byteAt mask (c / 3) → n ≡ lengthOf b
-        → pick (eqb (nestingFault g (c % 3)) 0) (handed g ((c / 3 + n) % 4096) (c % 3)) [] ≡ successors mask (pairOf c)
-    unfolding successors fault
-    next-flow b n s t =
-        ap₂ (λ (g : Flow) (n : ℕ). pick (eqb (nestingFault g (c % 3)) 0) (handed g ((c / 3 + n) % 4096) (c % 3)) []) (sym q ∙ p) (t ∙ ap lengthOf s)
-        ∙ ap (λ (d : Decoded). left d ((c / 3 + lengthOf (byteAt mask (c / 3))) % 4096) (c % 3)) (sym r ∙ at)
-
-    pub next-targets : Bytes mask → Targets g
-    next-targets bytes = subst Targets (sym p ∙ q) (read-targets mask bytes (c / 3) i (sym at ∙ r))
+  pub next-targets : Bytes mask → Targets g
+  next-targets bytes = subst Targets (sym p ∙ q) (flow-targets mask bytes (c / levels))

@@ -1,20 +1,17 @@
 -- Document 01, "Marks": pairs, which of them are forbidden, their successors, and chains. Assumes nothing.
-use Prim.Native.Nat.{ℕ, _+_, _*_, _/_, _%_}
-use mathlib.Core.Path.{_≡_}
-use mathlib.Core.Bool.{Bool, true, false}
+use Prim.Native.Nat.{ℕ}
 use mathlib.Core.List.{List, [], _∷_, _++_}
 use lib.Dec.{eqb}
 use Rattle.isa.specs.Choice.{pick}
 use Rattle.isa.specs.Reading.{faultNumber}
 use Rattle.rom.specs.Fetching.{readAt, movedFrom, branchTo}
-use Rattle.isa.specs.declared.ProgramAddress.{ProgramAddress}
 use Rattle.isa.specs.declared.decoder.Decoded.{Decoded}
 use Rattle.isa.specs.declared.decoder.Decoded.the-variants.{Read, Unreadable}
 use Rattle.isa.specs.declared.Instruction.{Instruction}
 use Rattle.isa.specs.Views.{View, on, jmp, branch, call, ret, reti, ei, view}
 use Rattle.checker.specs.Chains.{Reaches}
 use Rattle.checker.specs.declared.flow.Flow.{Flow}
-use Rattle.checker.specs.declared.flow.Flow.the-variants.{On, Enable, Jump, To, Sub, Back}
+use Rattle.checker.specs.declared.flow.Flow.the-variants.{Unread, On, Enable, Jump, To, Sub, Back}
 
 -- "A program address counts to 4,095"; "level (0 main, 1 subroutine, 2 interrupt)"
 abbrev pub addresses : ℕ
@@ -45,26 +42,32 @@ flowBy ei = Enable
 unfoldable pub flowOf : Instruction → Flow
 flowOf i = flowBy (view i)
 
--- "is CALL in level 1 or 2, or is RET or RETI in level 0"
-abbrev pub nestingFault : Flow → ℕ → ℕ
-nestingFault On l = 0
-nestingFault Enable l = 0
-nestingFault (Jump t) l = 0
-nestingFault (To t) l = 0
-nestingFault (Sub t) l = pick (eqb l 0) 0 2
-nestingFault Back l = pick (eqb l 0) 3 0
+-- where what stands at an address hands the program on: nowhere, if it cannot be read
+abbrev pub flowRead : Decoded → Flow
+flowRead (Read i) = flowOf i
+flowRead Unreadable = Unread
 
-abbrev pub faultOf : Decoded → ℕ → ℕ
-faultOf (Read i) l = nestingFault (flowOf i) l
-faultOf Unreadable l = faultNumber Unreadable
+unfoldable pub flowAt : List ℕ → ℕ → Flow
+flowAt mask a = flowRead (readAt mask a)
 
--- "It is forbidden when the instruction at that address gives fault 1, 2 or 3 in that level": the fault, 0 where it is not forbidden
+-- "it cannot be read, is CALL in level 1 or 2, or is RET or RETI in level 0": fault 1, 2 or 3, and 0 where there is none
+abbrev pub faultIn : Flow → ℕ → ℕ
+faultIn Unread l = faultNumber Unreadable
+faultIn On l = 0
+faultIn Enable l = 0
+faultIn (Jump t) l = 0
+faultIn (To t) l = 0
+faultIn (Sub t) l = pick (eqb l 0) 0 2
+faultIn Back l = pick (eqb l 0) 3 0
+
+-- "It is forbidden when the instruction at that address gives fault 1, 2 or 3 in that level"
 unfoldable pub fault : List ℕ → Pair → ℕ
-fault mask p = faultOf (readAt mask (p .address)) (p .level)
+fault mask p = faultIn (flowAt mask (p .address)) (p .level)
 
 -- "Successors of any other pair: the moved address in the same level; a branch also its target; JMP only its target; CALL in level 0 its
 -- target in level 1 and the moved address in level 0; .. RET and RETI none"
 abbrev pub onward : Flow → ℕ → ℕ → List Pair
+onward Unread moved l = []
 onward On moved l = pair moved l ∷ []
 onward Enable moved l = pair moved l ∷ []
 onward (Jump t) moved l = pair (t .0) l ∷ []
@@ -74,6 +77,7 @@ onward Back moved l = []
 
 -- "EI also 4 and 8 in level 2"
 abbrev pub vectors : Flow → List Pair
+vectors Unread = []
 vectors On = []
 vectors Enable = pair 4 2 ∷ pair 8 2 ∷ []
 vectors (Jump t) = []
@@ -84,14 +88,10 @@ vectors Back = []
 abbrev pub handed : Flow → ℕ → ℕ → List Pair
 handed f moved l = onward f moved l ++ vectors f
 
-abbrev pub handedBy : Decoded → ℕ → ℕ → List Pair
-handedBy (Read i) moved l = handed (flowOf i) moved l
-handedBy Unreadable moved l = []
-
 -- "A forbidden pair has no successors"
 unfoldable pub successors : List ℕ → Pair → List Pair
 successors mask p =
-    pick (eqb (fault mask p) 0) (handedBy (readAt mask (p .address)) (movedFrom mask (p .address)) (p .level)) []
+    pick (eqb (fault mask p) 0) (handed (flowAt mask (p .address)) (movedFrom mask (p .address)) (p .level)) []
 
 -- "the pairs that chains from address 0, level 0 reach"
 abbrev pub Reached : List ℕ → Pair → Type 0

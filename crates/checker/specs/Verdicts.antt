@@ -6,7 +6,7 @@ use mathlib.Core.List.{List}
 use lib.ListN.{length, getD}
 use lib.Dec.{eqb}
 use Rattle.isa.specs.Choice.{pick}
-use Rattle.checker.specs.Marks.{levels, Pair, pair, fault, Reached}
+use Rattle.checker.specs.Marks.{addresses, levels, Pair, pair, fault, Reached}
 use Rattle.checker.specs.declared.check.Verdict.{Verdict}
 use Rattle.checker.specs.declared.check.Verdict.the-variants.{Passed, Failed, BadMask, BadMarks}
 
@@ -17,9 +17,9 @@ isMarked marks a l = eqb (getD marks a 0 / 2 ^ l % 2) 1
 -- "The checker writes 4,096 mark bytes .. for exactly the pairs that chains from address 0, level 0 reach"
 pub record Marked (mask marks : List ℕ) : Type 0 where
   pub size : length marks ≡ 4096
-  pub rest : (a : ℕ) → a < 4096 → getD marks a 0 < 8
-  pub sound : (a l : ℕ) → a < 4096 → l < 3 → isMarked marks a l ≡ true → Reached mask (pair a l)
-  pub full : (a l : ℕ) → a < 4096 → l < 3 → Reached mask (pair a l) → isMarked marks a l ≡ true
+  pub rest : (a : ℕ) → a < addresses → getD marks a 0 < 8
+  pub sound : (a l : ℕ) → a < addresses → l < levels → isMarked marks a l ≡ true → Reached mask (pair a l)
+  pub full : (a l : ℕ) → a < addresses → l < levels → Reached mask (pair a l) → isMarked marks a l ≡ true
 
 -- the order "address first, then level"
 abbrev pub rank : Pair → ℕ

@@ -1,13 +1,11 @@
-// What the instruction at a pair says of it. A pair's code is three times its address, and its level added: 0 to 12,287. No function hands
-// the decoder's answer on: a copy of it, right after it was written byte by byte, stalls the processor.
+// What the instruction at a pair says of it. A pair's code is three times its address, and its level added: 0 to 12,287.
 ghost use mathlib.Core.Path.{_≡_};
 ghost use Rattle.checker.specs.Marks.{fault};
 ghost use Rattle.checker.specs.Walk.{codesOf, nextCodes, pairOf};
 ghost use Rattle.isa.specs.Timing.{entries};
+ghost use Rattle.rom.specs.Fetching.{movedBy};
 use crate::flow::Flow;
-use crate::flow::flow_of;
-use isa::decoder::Decoded;
-use isa::decoder::decode;
+use crate::flow::flow_at;
 use rom::reader::byte_at;
 
 // The vectors 4 and 8 in level 2, where EI lets an interrupt go.
@@ -27,14 +25,10 @@ pub enum Codes {
 pub(crate) fn fault_of(mask: &[u8], code: u16) -> u8
     ensures { λ r. ⌜ r ≡ fault (now (mask .entry)) (pairOf code) ⌝ }
 {
-    let address = code / 3;
     let level = code % 3;
-    let first = byte_at(mask, address);
-    let Decoded::Read(instruction) = decode(first, byte_at(mask, address + 1)) else {
-        return 1;
-    };
-    let flow = flow_of(instruction);
+    let flow = flow_at(mask, code);
     match flow {
+        Flow::Unread => 1,
         Flow::On => 0,
         Flow::Enable => 0,
         Flow::Jump(_) => 0,
@@ -42,6 +36,13 @@ pub(crate) fn fault_of(mask: &[u8], code: u16) -> u8
         Flow::Sub(_) => { if level == 0 { 0 } else { 2 } }
         Flow::Back => { if level == 0 { 3 } else { 0 } }
     }
+}
+
+// The moved address.
+fn moved_by(address: u16, length: u8) -> u16
+    ensures { λ r. ⌜ r ≡ movedBy length address ⌝ }
+{
+    (address % 4096 + length as u16) % 4096
 }
 
 // The successors of a pair: none where it is forbidden. `list` is the list of lengths and cycles, which the walk holds: an indexed
@@ -53,13 +54,10 @@ pub(crate) fn next_codes(mask: &[u8], list: &[u8; 256], code: u16) -> Codes
     let address = code / 3;
     let level = code % 3;
     let first = byte_at(mask, address);
-    let Decoded::Read(instruction) = decode(first, byte_at(mask, address + 1)) else {
-        return Codes::Nothing;
-    };
-    let length = list[first as usize] / 16;
-    let moved = (address + length as u16) % 4096;
-    let flow = flow_of(instruction);
+    let moved = moved_by(address, list[first as usize] / 16);
+    let flow = flow_at(mask, code);
     match flow {
+        Flow::Unread => Codes::Nothing,
         Flow::On => Codes::One(moved * 3 + level),
         Flow::Enable => Codes::Three(moved * 3 + level, TIMER, EDGE),
         Flow::Jump(t) => Codes::One(t.0 * 3 + level),

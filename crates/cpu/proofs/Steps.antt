@@ -1,7 +1,7 @@
 -- What the proofs of one step share, on definitions alone: a faulting instruction sets the fault alone, and what the bytes at the
 -- PC, read and timed, make of a step. Assumes nothing.
 use Prim.Native.Nat.{ℕ, _+_, _/_, _%_, _<_, _^_}
-use mathlib.Core.Path.{_≡_, refl, sym, ap, ap₂, subst, _∙_}
+use mathlib.Core.Path.{_≡_, refl, sym, ap, ap₂, _∙_}
 use mathlib.Core.Bool.{Bool, true, false}
 use mathlib.Core.List.{List}
 use mathlib.Core.Logic.{inl, inr}
@@ -25,7 +25,7 @@ use Rattle.cpu.specs.State.{State, state, onCpu, address, withPc, withCf
 use Rattle.cpu.specs.Effect.{called, returned, returnedWithCarry, effect}
 use Rattle.cpu.specs.Step.{timed, ticked, entered, moved, settled, instructed, executed, vectorOf, stepped, step}
 use Rattle.cpu.specs.declared.Cpu.{Cpu}
-use Rattle.cpu.proofs.Leaves.{Standing, standing, Leaves, leaves}
+use Rattle.cpu.proofs.Leaves.{standing, Leaves, leaves}
 
 -- a choice of which one part keeps the fault at 0: where there is a fault, the other part was chosen
 module _ (c : Cpu) (z : c .status .fault ≡ 0) where

@@ -1,14 +1,13 @@
 -- What every input keeps, where no reached pair is forbidden: the pair of PC and level is reached; above level 0 the stack address is reached
 -- in level 0; where interrupts are enabled both vectors are reached in level 2; and the fault is 0. An instruction at a reached pair that is
 -- not forbidden hands the program on to one of the pair's successors, which are reached too. Assumes nothing.
-use Prim.Native.Nat.{ℕ, zero, suc, _<_}
-use mathlib.Core.Path.{_≡_, refl, sym, subst}
+use Prim.Native.Nat.{ℕ, zero, suc}
+use mathlib.Core.Path.{_≡_, refl, sym, ap, subst}
 use mathlib.Core.Bool.{Bool, true, false, _&&_}
 use mathlib.Core.List.{List}
 use mathlib.Core.Logic.{inl, inr}
 use native.Mathlib.Omega.{arith}
 use lib.Dec.{eqb}
-use lib.ListN.{getD}
 use borrow.Author.Tests.{eq-eqb, eqb-true, eqb-false}
 use Rattle.isa.specs.Choice.{pick}
 use Rattle.isa.specs.Views.{View, on, jmp, branch, call, ret, reti, ei, view}
@@ -23,7 +22,9 @@ use Rattle.cpu.specs.Step.{ticked, entered, moved, settled, instructed, execute
 use Rattle.cpu.specs.Run.{ran}
 use Rattle.cpu.proofs.Leaves.{Standing, standing, ticked-same, GoesTo, Returns, Leaves, leaves}
 use Rattle.checker.specs.Chains.{Member, here, there}
-use Rattle.checker.specs.Marks.{Pair, pair, flowBy, flowOf, nestingFault, faultOf, handed, handedBy, fault, successors, Reached}
+use Rattle.checker.specs.Marks.{Pair, pair, flowBy, flowOf, flowRead, flowAt, faultIn, handed, fault, successors, Reached}
+use Rattle.checker.specs.declared.flow.Flow.{Flow}
+use Rattle.checker.specs.declared.flow.Flow.the-variants.{Unread}
 use Rattle.checker.specs.Verdicts.{isMarked, Marked, Safe}
 use Rattle.checker.proofs.Chains.{reached-start, reached-next}
 use Rattle.checker.proofs.Reach.{reached-level, reached-address}
@@ -83,7 +84,7 @@ module _ (mask : List ℕ) (s t : Standing) (to : ℕ) (k : Kept mask s) where
       subst (Kept mask) (sym (l z)) (record { here = k .back z; back = λ h. absurd (h refl); vectors = k .vectors; no-fault = k .no-fault })
 
   -- an instruction hands the program on to reached pairs: what it leaves keeps
-  handing : {i : Instruction} (v : View i) → Leaves v (movedTo to s) t → nestingFault (flowBy v) (s .level) ≡ 0
+  handing : {i : Instruction} (v : View i) → Leaves v (movedTo to s) t → faultIn (flowBy v) (s .level) ≡ 0
       → ((q : Pair) → Member q (handed (flowBy v) to (s .level)) → Reached mask q) → Kept mask t
   handing on l n r = goes-kept to l (r (pair to (s .level)) here)
   handing (jmp a) l n r = goes-kept (a .0) l (r (pair (a .0) (s .level)) here)
@@ -104,16 +105,16 @@ module _ (mask : List ℕ) (s t : Standing) (to : ℕ) (k : Kept mask s) where
       })
 
 module _ (mask : List ℕ) (safe : Safe mask) where
-  -- the successors of a reached pair are reached
-  next : (a l : ℕ) (d : Decoded) → Reached mask (pair a l) → readAt mask a ≡ d → (q : Pair) → Member q (handedBy d (movedFrom mask a) l) → Reached mask q
+  -- what a reached pair hands on is reached
+  next : (a l : ℕ) (f : Flow) → Reached mask (pair a l) → flowAt mask a ≡ f → (q : Pair) → Member q (handed f (movedFrom mask a) l) → Reached mask q
   unfolding successors
-  next a l d r e q m =
-      reached-next r (rw (eq-eqb (fault mask (pair a l)) 0 (safe (pair a l) r)) (subst (λ (x : Decoded). Member q (handedBy x (movedFrom mask a) l)) (sym e) m))
+  next a l f r e q m =
+      reached-next r (rw (eq-eqb (fault mask (pair a l)) 0 (safe (pair a l) r)) (subst (λ (x : Flow). Member q (handed x (movedFrom mask a) l)) (sym e) m))
 
-  -- what stands at a reached pair gives no fault there
-  allowed : (a l : ℕ) (d : Decoded) → Reached mask (pair a l) → readAt mask a ≡ d → faultOf d l ≡ 0
+  -- and gives no fault
+  allowed : (a l : ℕ) (f : Flow) → Reached mask (pair a l) → flowAt mask a ≡ f → faultIn f l ≡ 0
   unfolding fault
-  allowed a l d r e = subst (λ (x : Decoded). faultOf x l ≡ 0) e (safe (pair a l) r)
+  allowed a l f r e = subst (λ (x : Flow). faultIn x l ≡ 0) e (safe (pair a l) r)
 
   -- the cycles go by
   ticked-kept : (n : ℕ) (c : Cpu) → Keeps mask c → Keeps mask (ticked n c)
@@ -124,15 +125,15 @@ module _ (mask : List ℕ) (safe : Safe mask) where
 
   instructed-kept : (s : State) (d : Decoded) → Keeps mask (s .cpu) → readAt mask (s .cpu .control .pc .0) ≡ d
       → Keeps mask (instructed mask d (lengthAt mask (s .cpu .control .pc .0)) (cyclesAt mask (s .cpu .control .pc .0)) s .cpu)
-  unfolding flowOf
-  instructed-kept s Unreadable k e = absurd (omega (arith, allowed (s .cpu .control .pc .0) (s .cpu .interrupts .level) Unreadable (k .here) e))
+  unfolding flowOf flowAt
+  instructed-kept s Unreadable k e = absurd (omega (arith, allowed (s .cpu .control .pc .0) (s .cpu .interrupts .level) Unread (k .here) (ap flowRead e)))
   instructed-kept s (Read i) k e =
       let pc = s .cpu .control .pc .0 in
       let l = s .cpu .interrupts .level in
       let m = onCpu (moved (lengthAt mask pc)) s in
       settled-kept (cyclesAt mask pc) s (effect mask i m)
       (handing mask (standing (s .cpu)) (standing (effect mask i m .cpu)) (movedFrom mask pc) k (view i) (leaves mask i m)
-      (allowed pc l (Read i) (k .here) e) (next pc l (Read i) (k .here) e))
+      (allowed pc l (flowOf i) (k .here) (ap flowRead e)) (next pc l (flowOf i) (k .here) (ap flowRead e)))
 
   executed-kept : (s : State) → Keeps mask (s .cpu) → Keeps mask (executed mask s .cpu)
   unfolding executed

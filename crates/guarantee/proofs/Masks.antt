@@ -1,8 +1,8 @@
 -- Document 01's proved table holds. Of its three masks: what is reached, and which of it is the lowest forbidden pair, leave one answer. Assumes
 -- nothing.
-use Prim.Native.Nat.{ℕ, zero, suc, _+_, _*_, _/_, _%_, _<_, _≤_, _^_}
-use mathlib.Core.Path.{_≡_, refl, sym, ap, subst, _∙_}
-use mathlib.Core.Bool.{Bool, true, false}
+use Prim.Native.Nat.{ℕ, zero, suc, _+_, _/_, _%_, _<_, _≤_, _^_}
+use mathlib.Core.Path.{_≡_, refl, ap, subst, _∙_}
+use mathlib.Core.Bool.{true}
 use mathlib.Core.List.{List, [], _∷_}
 use native.Mathlib.Omega.{arith}
 use native.Mathlib.Decide.{decLe}
@@ -16,7 +16,7 @@ use Rattle.isa.specs.Views.{view}
 use Rattle.machine.specs.Table.{nops}
 use Rattle.machine.proofs.Table.{table}
 use Rattle.checker.specs.Chains.{Member, here}
-use Rattle.checker.specs.Marks.{Pair, pair, flowOf, fault, successors, Reached}
+use Rattle.checker.specs.Marks.{Pair, pair, flowOf, flowAt, fault, successors, Reached}
 use Rattle.checker.specs.Verdicts.{Answers, Marked, rank}
 use Rattle.checker.specs.declared.check.Verdict.{Verdict}
 use Rattle.checker.specs.declared.check.Verdict.the-variants.{Passed, Failed}
@@ -34,11 +34,11 @@ nop-at a = getD-replicate 4096 (a % 4096) 0x3e 0 (below a)
 
 -- a NOP hands on to the next address in its level, and gives no fault
 nop-next : (mask : List ℕ) (a l : ℕ) → byteAt mask a ≡ 0x3e → successors mask (pair a l) ≡ pair ((a + 1) % 4096) l ∷ []
-unfolding successors fault flowOf view decoded map columnsOf columnsAt
+unfolding successors fault flowAt flowOf view decoded map columnsOf columnsAt
 nop-next mask a l e = rw e refl
 
 nop-fault : (mask : List ℕ) (a l : ℕ) → byteAt mask a ≡ 0x3e → fault mask (pair a l) ≡ 0
-unfolding fault flowOf view decoded map
+unfolding fault flowAt flowOf view decoded map
 nop-fault mask a l e = rw e refl
 
 only : {q p : Pair} → Member q (p ∷ []) → q ≡ p
@@ -89,7 +89,7 @@ every-3e old new v l w =
 
 -- ---- a mask that fails is answered with its lowest forbidden pair
 first-fault : (mask : List ℕ) → byteAt mask 0 ≡ 0x40 → byteAt mask 1 ≡ 0x15 → fault mask (pair 0 0) ≡ 1
-unfolding fault decoded map
+unfolding fault flowAt decoded map
 first-fault mask e f = rw (e, f) refl
 
 pub mask-40-15 : (mask old new : List ℕ) (v : Verdict) → length mask ≡ 4096 → length old ≡ 4096 → byteAt mask 0 ≡ 0x40 → byteAt mask 1 ≡ 0x15 → Answers mask old new v → v ≡ Failed 1 0 0
@@ -100,15 +100,15 @@ mask-40-15 mask old new v m l e f =
 -- "F0 10 then 3E: fault 2 at 0, level 1": the subroutine at 010h runs on past FFFh to the CALL at 0
 module _ (mask : List ℕ) (call : byteAt mask 0 ≡ 0xf0) (to : byteAt mask 1 ≡ 0x10) (rest : (a : ℕ) → 2 ≤ a → a < 4096 → byteAt mask a ≡ 0x3e) where
   call-next : successors mask (pair 0 0) ≡ pair 0x010 1 ∷ pair 2 0 ∷ []
-  unfolding successors fault flowOf view decoded map columnsOf columnsAt
+  unfolding successors fault flowAt flowOf view decoded map columnsOf columnsAt
   call-next = rw (call, to) refl
 
   call-main : fault mask (pair 0 0) ≡ 0
-  unfolding fault flowOf view decoded map
+  unfolding fault flowAt flowOf view decoded map
   call-main = rw call refl
 
   call-inside : fault mask (pair 0 1) ≡ 2
-  unfolding fault flowOf view decoded map
+  unfolding fault flowAt flowOf view decoded map
   call-inside = rw call refl
 
   inside : (n : ℕ) → 0x010 + n < 4096 → Reached mask (pair (0x010 + n) 1)

@@ -12,16 +12,15 @@ use Rattle.cpu.specs.declared.Options.{Options}
 use Rattle.datapath.specs.Timer.{counted}
 use Rattle.machine.specs.Machine.{stateOf}
 use Rattle.machine.specs.Power.{reset, powered, powerRefusal, answered, powerOn}
-use Rattle.machine.specs.Events.{woken, wakes, withPorts, withInt, pinned, interrupted, clocked, counting, happened, refusalOf, applied, Input, power, named, answerTo, Call, after, Every, UnderMask, Session}
+use Rattle.machine.specs.Events.{woken, wakes, pinned, interrupted, clocked, counting, happened, refusalOf, applied, Input, power, named, answerTo, Call, after, Every, UnderMask}
 use Rattle.machine.specs.declared.Machine.{Machine}
-use Rattle.machine.specs.declared.Answer.{Answer}
 use Rattle.machine.specs.declared.events.Event.{Event}
 use Rattle.machine.specs.declared.events.Event.the-variants.{Run, Pins, Int, Tmclk, Res}
 use Rattle.machine.specs.declared.events.Named.the-variants.{Known, Unknown}
 use Rattle.machine.proofs.Lists.{session-after, powered-on}
 use Rattle.checker.specs.Verdicts.{Safe}
 use Rattle.cpu.proofs.Leaves.{Standing, standing, same-pick, counting-same}
-use Rattle.guarantee.specs.Property3.{Given, Holds, Property3}
+use Rattle.guarantee.specs.Property3.{Property3}
 use Rattle.guarantee.proofs.Kept.{Kept, Keeps, start-kept, kept-marked, ran-kept}
 
 module _ (mask : List ℕ) (safe : Safe mask) where

@@ -7,7 +7,6 @@ use Rattle.datapath.specs.declared.alu.Sum.{Sum}
 use Rattle.cpu.specs.State.{State, state, address, withAcc, withR1, withPc, withCf, withTf, withCount, withRunning, withEnabled, withHeld}
 use Rattle.cpu.specs.Step.{step}
 use Rattle.cpu.specs.declared.Cpu.{Cpu}
-use Rattle.cpu.specs.declared.Options.{Options}
 use Rattle.machine.specs.Power.{afterRes}
 
 -- a mask of NOPs

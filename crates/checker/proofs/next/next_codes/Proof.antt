@@ -3,55 +3,41 @@
 use Prim.Native.Nat.{ℕ, _+_, _*_, _/_, _%_}
 use mathlib.Core.Path.{_≡_, refl, ap, _∙_}
 use mathlib.Core.Bool.{Bool, true, false}
-use mathlib.Core.List.{List, [], _∷_, map}
+use mathlib.Core.List.{[], _∷_, map}
 use native.Mathlib.Omega.{arith}
 use lib.Dec.{eqb}
-use lib.ListN.{getD}
 use borrow.Author.Tests.{eq-eqb, ne-eqb}
 use Rattle.isa.specs.Choice.{pick}
 use Rattle.isa.specs.declared.ProgramAddress.{ProgramAddress}
+use Rattle.isa.specs.Timing.{lengthOf}
+use Rattle.rom.specs.Fetching.{movedBy}
 use Rattle.checker.specs.declared.flow.Flow.{Flow}
-use Rattle.checker.specs.declared.flow.Flow.the-variants.{On, Enable, Jump, To, Sub, Back}
-use Rattle.checker.specs.Marks.{nestingFault, handed}
+use Rattle.checker.specs.declared.flow.Flow.the-variants.{Unread, On, Enable, Jump, To, Sub, Back}
+use Rattle.checker.specs.Marks.{levels, faultIn}
 use Rattle.checker.specs.Verdicts.{rank}
-use Rattle.rom.specs.Fetching.{readAt}
 use Rattle.checker.specs.Walk.{nextCodes}
-use Rattle.checker.proofs.Fetched.{met, length-in, entry-fits}
+use Rattle.checker.proofs.Fetched.{length-in}
 use Rattle.checker.proofs.Reach.{Targets}
-use Rattle.checker.proofs.Successors.{next-unread, next-flow, next-targets}
+use Rattle.checker.proofs.Successors.{handed-on, next-flow, next-targets}
 use borrow.Author.Needs.{needs}
 use Rattle.checker.proofs.next.next_codes.Statement.{statement}
 use Rattle.checker.proofs.next.next_codes.Tie as tie
 
-abbrev handed-on : Flow → ℕ → ℕ → List ℕ
-handed-on g moved l = map rank (pick (eqb (nestingFault g l) 0) (handed g moved l) [])
-
-read-at : (c : tie.After-decode) → c .decode .result ≡ readAt (c .before .before .before .before .args .mask .now) (c .before .before .before .before .args .code / 3)
-read-at c =
-    let s = c .before .before .before .before in
-    let first = c .before .before .byte-at in
-    let second = c .before .byte-at2 in
-    met (s .args .mask .now) (s .args .code / 3) (first .result) (second .result) (c .decode .result) (first .ensures) (second .ensures) (omega (arith, second)) (c .decode .ensures)
-
-at-flow : (c : tie.After-flow-of) (g : Flow) → c .flow-of .result ≡ g
-    → handed-on g ((c .before .before .before .before .before .before .before .before .before .args .code / 3 + getD (c .before .before .before .before .before .before .before .before .before .args .list .now) (c .before .before .before .before .before .before .before .byte-at .result) 0 / 16) % 4096) (c .before .before .before .before .before .before .before .before .before .args .code % 3)
-    ≡ nextCodes (c .before .before .before .before .before .before .before .before .before .args .mask .now) (c .before .before .before .before .before .before .before .before .before .args .code)
+at-flow : (c : tie.After-flow-at) (g : Flow) → c .flow-at .result ≡ g
+    → handed-on g (c .before .moved-by .result) (c .before .before .before .before .before .args .code % levels)
+    ≡ nextCodes (c .before .before .before .before .before .args .mask .now) (c .before .before .before .before .before .args .code)
 at-flow c g e =
-    let s = c .before .before .before .before .before .before .before .before .before in
-    let r = c .before .before .before .before .before in
-    let i = c .before .before .before .instruction .given in
-    let first = c .before .before .before .before .before .before .before .byte-at in
-    ap (map rank)
-    (next-flow (s .args .mask .now) (s .args .code) (r .decode .result) (read-at r) (i .0 .0) (c .flow-of .result) g (i .1) (c .flow-of .ensures) e
-    (first .result) (getD (s .args .list .now) (first .result) 0 / 16) (first .ensures) (length-in (s .args .list .now) (first .result) (s .pre)))
+    let s = c .before .before .before .before .before in
+    let first = c .before .before .before .byte-at in
+    next-flow (s .args .mask .now) (s .args .code) (c .flow-at .result) g (c .flow-at .ensures) e (c .before .moved-by .result)
+    (c .before .moved-by .ensures
+    ∙ ap (λ (n : ℕ). movedBy n (s .args .code / levels)) (length-in (s .args .list .now) (first .result) (s .pre) ∙ ap lengthOf (first .ensures)))
 
-target : (c : tie.After-flow-of) (g : Flow) → c .flow-of .result ≡ g → Targets g
+target : (c : tie.After-flow-at) (g : Flow) → c .flow-at .result ≡ g → Targets g
 target c g e =
-    let s = c .before .before .before .before .before .before .before .before .before in
-    let r = c .before .before .before .before .before in
-    let i = c .before .before .before .instruction .given in
-    next-targets (s .args .mask .now) (s .args .code) (r .decode .result) (read-at r) (i .0 .0) (c .flow-of .result) g (i .1) (c .flow-of .ensures) e
-    (λ k. omega (arith, c .before .before .before .before .before .before .before .before .shared-slice-known .given k))
+    let s = c .before .before .before .before .before in
+    next-targets (s .args .mask .now) (s .args .code) (c .flow-at .result) g (c .flow-at .ensures) e
+    (λ k. omega (arith, c .before .before .before .before .shared-slice-known .given k))
 
 sub-main : (t : ProgramAddress) (moved l : ℕ) → l ≡ 0 → (t .0 * 3 + 1) ∷ (moved * 3) ∷ [] ≡ handed-on (Sub t) moved l
 sub-main t moved l e = rw (eq-eqb l 0 e) (ap (λ (n : ℕ). (t .0 * 3 + 1) ∷ n ∷ []) (plus-zero (moved * 3)))
@@ -62,8 +48,8 @@ sub-main t moved l e = rw (eq-eqb l 0 e) (ap (λ (n : ℕ). (t .0 * 3 + 1) ∷ n
 sub-other : (t : ProgramAddress) (moved l : ℕ) → (l ≡ 0 → ⊥) → [] ≡ handed-on (Sub t) moved l
 sub-other t moved l n = rw (ne-eqb l 0 n) refl
 
-back : (moved l : ℕ) → [] ≡ handed-on Back moved l
-back moved l = go (eqb (nestingFault Back l) 0)
+back : (l : ℕ) → [] ≡ handed-on Back 0 l
+back l = go (eqb (faultIn Back l) 0)
   where
     go : (b : Bool) → [] ≡ map rank (pick b [] [])
     go true = refl
@@ -72,53 +58,50 @@ back moved l = go (eqb (nestingFault Back l) 0)
 byte-at-requires : tie.Need-byte-at-requires
 byte-at-requires c κs = search needs
 
-add-byte-at : tie.Need-add-byte-at
-add-byte-at c = search needs
+cast-moved-by : tie.Need-cast-moved-by
+cast-moved-by c = search needs
 
-byte-at-requires-2 : tie.Need-byte-at-requires-2
-byte-at-requires-2 c κs = search needs
+element-copy-out-moved-by : tie.Need-element-copy-out-moved-by
+element-copy-out-moved-by c = search needs
 
-decode-requires : tie.Need-decode-requires
-decode-requires c κs = search needs
+moved-by-requires : tie.Need-moved-by-requires
+moved-by-requires c κs = search needs
 
-enum-known-instruction : tie.Need-enum-known-instruction
-enum-known-instruction c = search needs
+flow-at-requires : tie.Need-flow-at-requires
+flow-at-requires c κs = search needs
 
 enum-told : tie.Need-enum-told
 enum-told c = search needs
 
-returns : tie.Need-returns
-returns c =
-    let r = c .before .before in
-    let s = r .before .before .before .before in
-    ap (map rank) (next-unread (s .args .mask .now) (s .args .code) (r .decode .result) (read-at r) (c .enum-told .given .1))
-
-cast-length : tie.Need-cast-length
-cast-length c = search needs
-
-element-copy-out-length : tie.Need-element-copy-out-length
-element-copy-out-length c = search needs
-
-cast-moved : tie.Need-cast-moved
-cast-moved c = omega (arith, entry-fits (c .before .before .before .before .before .before .before .before .args .list .now) (c .before .before .before .before .before .before .byte-at .result) (c .before .before .before .before .before .before .before .before .pre))
-
-add-moved : tie.Need-add-moved
-add-moved c = omega (arith, entry-fits (c .before .before .before .before .before .before .before .before .args .list .now) (c .before .before .before .before .before .before .byte-at .result) (c .before .before .before .before .before .before .before .before .pre))
-
-flow-of-requires : tie.Need-flow-of-requires
-flow-of-requires c κs = search needs
-
 enum-told-2 : tie.Need-enum-told-2
 enum-told-2 c = search needs
 
-mul-t22 : tie.Need-mul-t22
-mul-t22 c = search needs
+mul-t18 : tie.Need-mul-t18
+mul-t18 c = search needs
 
-add-t23 : tie.Need-add-t23
-add-t23 c = search needs
+add-t19 : tie.Need-add-t19
+add-t19 c = search needs
 
 enum-told-3 : tie.Need-enum-told-3
 enum-told-3 c = search needs
+
+mul-t20 : tie.Need-mul-t20
+mul-t20 c = search needs
+
+add-t21 : tie.Need-add-t21
+add-t21 c = search needs
+
+enum-known-flow : tie.Need-enum-known-flow
+enum-known-flow c = search needs
+
+mul-t22 : tie.Need-mul-t22
+mul-t22 c = let t = c .before .before .flow .given in let h = target (c .before .before .before .before) (Jump (t .0 .0)) (t .1) in omega arith
+
+add-t23 : tie.Need-add-t23
+add-t23 c = let t = c .before .before .flow .given in let h = target (c .before .before .before .before) (Jump (t .0 .0)) (t .1) in omega arith
+
+enum-known-flow-2 : tie.Need-enum-known-flow-2
+enum-known-flow-2 c = search needs
 
 mul-t24 : tie.Need-mul-t24
 mul-t24 c = search needs
@@ -126,115 +109,97 @@ mul-t24 c = search needs
 add-t25 : tie.Need-add-t25
 add-t25 c = search needs
 
-enum-known-flow : tie.Need-enum-known-flow
-enum-known-flow c = search needs
-
-mul-t26 : tie.Need-mul-t26
-mul-t26 c = let t = c .before .before .flow .given in let h = target (c .before .before .before .before) (Jump (t .0 .0)) (t .1) in omega arith
-
-add-t27 : tie.Need-add-t27
-add-t27 c = let t = c .before .before .flow .given in let h = target (c .before .before .before .before) (Jump (t .0 .0)) (t .1) in omega arith
-
-enum-known-flow-2 : tie.Need-enum-known-flow-2
-enum-known-flow-2 c = search needs
-
-mul-t28 : tie.Need-mul-t28
-mul-t28 c = search needs
+mul-t27 : tie.Need-mul-t27
+mul-t27 c = search needs
 
 add-t29 : tie.Need-add-t29
 add-t29 c = search needs
 
-mul-t31 : tie.Need-mul-t31
-mul-t31 c = search needs
+mul-t30 : tie.Need-mul-t30
+mul-t30 c = search needs
 
-add-t33 : tie.Need-add-t33
-add-t33 c = search needs
-
-mul-t34 : tie.Need-mul-t34
-mul-t34 c = search needs
-
-add-t35 : tie.Need-add-t35
-add-t35 c = search needs
+add-t31 : tie.Need-add-t31
+add-t31 c = search needs
 
 enum-known-flow-3 : tie.Need-enum-known-flow-3
 enum-known-flow-3 c = search needs
 
-mul-t38 : tie.Need-mul-t38
-mul-t38 c = let t = c .before .before .before .flow3 .given in let h = target (c .before .before .before .before .before) (Sub (t .0 .0)) (t .1) in omega arith
+mul-t34 : tie.Need-mul-t34
+mul-t34 c = let t = c .before .before .before .flow3 .given in let h = target (c .before .before .before .before .before) (Sub (t .0 .0)) (t .1) in omega arith
 
-add-t39 : tie.Need-add-t39
-add-t39 c = let t = c .before .before .before .flow3 .given in let h = target (c .before .before .before .before .before) (Sub (t .0 .0)) (t .1) in omega arith
+add-t35 : tie.Need-add-t35
+add-t35 c = let t = c .before .before .before .flow3 .given in let h = target (c .before .before .before .before .before) (Sub (t .0 .0)) (t .1) in omega arith
 
-mul-t40 : tie.Need-mul-t40
-mul-t40 c = search needs
+mul-t36 : tie.Need-mul-t36
+mul-t36 c = search needs
 
 enum-told-4 : tie.Need-enum-told-4
 enum-told-4 c = search needs
 
+-- no instruction
+returns : tie.Need-returns
+returns c = at-flow (c .before .before) Unread (c .enum-told .given .1)
+
+-- goes on
 returns-2 : tie.Need-returns-2
 returns-2 c = at-flow (c .before .before) On (c .enum-told2 .given .1)
 
+-- EI
 returns-3 : tie.Need-returns-3
 returns-3 c = at-flow (c .before .before) Enable (c .enum-told3 .given .1)
 
+-- JMP
 returns-4 : tie.Need-returns-4
 returns-4 c = let t = c .before .before .flow .given in at-flow (c .before .before .before .before) (Jump (t .0 .0)) (t .1)
 
+-- a branch
 returns-5 : tie.Need-returns-5
 returns-5 c = let t = c .before .before .flow2 .given in at-flow (c .before .before .before .before) (To (t .0 .0)) (t .1)
 
+-- CALL in level 0
 returns-6 : tie.Need-returns-6
-returns-6 c =
-    let t = c .before .before .before .flow3 .given in
-    sub-main (t .0 .0) _ _ (c .before .if1 .taken) ∙ at-flow (c .before .before .before .before .before) (Sub (t .0 .0)) (t .1)
+returns-6 c = let t = c .before .before .before .flow3 .given in sub-main (t .0 .0) _ _ (c .before .if1 .taken) ∙ at-flow (c .before .before .before .before .before) (Sub (t .0 .0)) (t .1)
 
+-- CALL above it
 returns-7 : tie.Need-returns-7
-returns-7 c =
-    let t = c .before .before .flow3 .given in
-    sub-other (t .0 .0) _ _ (c .if1 .left) ∙ at-flow (c .before .before .before .before) (Sub (t .0 .0)) (t .1)
+returns-7 c = let t = c .before .before .flow3 .given in sub-other (t .0 .0) _ _ (c .if1 .left) ∙ at-flow (c .before .before .before .before) (Sub (t .0 .0)) (t .1)
 
+-- RET and RETI
 returns-8 : tie.Need-returns-8
-returns-8 c =
-    let s = c .before .before .before .before .before .before .before .before .before .before .before in
-    back ((s .args .code / 3 + getD (s .args .list .now) (c .before .before .before .before .before .before .before .before .before .byte-at .result) 0 / 16) % 4096) (s .args .code % 3) ∙ at-flow (c .before .before) Back (c .enum-told4 .given .1)
+returns-8 c = back (c .before .before .before .before .before .before .before .args .code % levels) ∙ at-flow (c .before .before) Back (c .enum-told4 .given .1)
 
 pub next-codes-spec : {M : Type 1} → statement M
 next-codes-spec =
     tie.close
     (tie.spec
     byte-at-requires
-    add-byte-at
-    byte-at-requires-2
-    decode-requires
-    enum-known-instruction
+    cast-moved-by
+    element-copy-out-moved-by
+    moved-by-requires
+    flow-at-requires
     enum-told
-    returns
-    cast-length
-    element-copy-out-length
-    cast-moved
-    add-moved
-    flow-of-requires
     enum-told-2
+    mul-t18
+    add-t19
+    enum-told-3
+    mul-t20
+    add-t21
+    enum-known-flow
     mul-t22
     add-t23
-    enum-told-3
+    enum-known-flow-2
     mul-t24
     add-t25
-    enum-known-flow
-    mul-t26
-    add-t27
-    enum-known-flow-2
-    mul-t28
+    mul-t27
     add-t29
-    mul-t31
-    add-t33
+    mul-t30
+    add-t31
+    enum-known-flow-3
     mul-t34
     add-t35
-    enum-known-flow-3
-    mul-t38
-    add-t39
-    mul-t40
+    mul-t36
     enum-told-4
+    returns
     returns-2
     returns-3
     returns-4
