@@ -79,7 +79,7 @@ uint64_t ht1130_read(const uint8_t *mask, size_t mask_len, uint16_t address);
 /*
  * The bytes of an instruction: how many, the first and the second. Refuses with
  * 3 a form that is not in the list, or an operand outside its range. Operands
- * that a form does not have are not looked at.
+ * that a form does not have are not looked at, and read back as 0.
  */
 uint64_t ht1130_write(uint8_t form, uint8_t a, uint16_t b);
 #define HT1130_BYTES(answer) ((uint8_t)((answer) >> 8))
