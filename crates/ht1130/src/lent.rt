@@ -40,11 +40,11 @@ pub extern "C" fn ht1130_apply(
 ) -> u8
     ensures { λ r. ⌜ left r (now (machine .exit)) ≡ hosted (now (mask .entry)) kind count a b c (now (machine .entry)) ⌝ }
 {
-    let answer = event(*machine, kind, count, a, b, c, mask);
-    if answer.refusal == 0 {
-        *machine = answer.machine;
+    let applied = event(*machine, kind, count, a, b, c, mask);
+    if applied.refusal == 0 {
+        *machine = applied.machine;
     }
-    answer.refusal
+    applied.refusal
 }
 
 #[no_mangle]
