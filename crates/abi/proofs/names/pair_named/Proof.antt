@@ -12,46 +12,21 @@ use borrow.Author.Needs.{needs}
 use Rattle.abi.proofs.names.pair_named.Statement.{statement}
 use Rattle.abi.proofs.names.pair_named.Tie as tie
 
-unnamed-requires : tie.Need-unnamed-requires
-unnamed-requires c κs = search needs
-
-returns : tie.Need-returns
-unfolding pairNamed
-returns c = c .unnamed .ensures ∙ rw (le-ltb _ 256 (c .before .if1 .taken)) refl
-
-cast-low : tie.Need-cast-low
-cast-low c = search needs
-
-cast-high : tie.Need-cast-high
-cast-high c = search needs
-
-unnamed-requires-2 : tie.Need-unnamed-requires-2
-unnamed-requires-2 c κs = search needs
-
-returns-2 : tie.Need-returns-2
-unfolding pairNamed
-returns-2 c = rw (lt-ltb (c .before .before .args .b) 256 (omega arith), c .match .keys1) refl
-
-returns-3 : tie.Need-returns-3
-unfolding pairNamed
-returns-3 c = rw (lt-ltb (c .before .before .args .b) 256 (omega arith), c .match .keys2) refl
-
-returns-4 : tie.Need-returns-4
-unfolding pairNamed
-returns-4 c =
-    let b = c .before .before .before .args .b in
-    c .unnamed2 .ensures
-    ∙ rw (lt-ltb b 256 (omega arith)) (ap writingBy (no-pointer (λ (p : Pointer). I.MovPairXX p (b % 16) (b / 16)) _ (past 2 _ (c .before .match .rest))))
-
 pub pair-named-spec : {M : Type 1} → statement M
+unfolding pairNamed
 pair-named-spec =
     tie.close
     (tie.spec
-    unnamed-requires
-    returns
-    cast-low
-    cast-high
-    unnamed-requires-2
-    returns-2
-    returns-3
-    returns-4)
+    (λ c κs. search needs)
+    -- XX over 255
+    (λ c. c .unnamed .ensures ∙ rw (le-ltb _ 256 (c .before .if1 .taken)) refl)
+    (λ c. search needs) (λ c. search needs) (λ c κs. search needs)
+    -- R1R0
+    (λ c. rw (lt-ltb (c .before .before .args .b) 256 (omega arith), c .match .keys1) refl)
+    -- R3R2
+    (λ c. rw (lt-ltb (c .before .before .args .b) 256 (omega arith), c .match .keys2) refl)
+    -- no such pair
+    (λ c.
+    let b = c .before .before .before .args .b in
+    c .unnamed2 .ensures
+    ∙ rw (lt-ltb b 256 (omega arith)) (ap writingBy (no-pointer (λ (p : Pointer). I.MovPairXX p (b % 16) (b / 16)) _ (past 2 _ (c .before .match .rest))))))

@@ -4,14 +4,10 @@ use borrow.Author.Needs.{needs}
 use Rattle.datapath.proofs.alu.rotate_left_through.Statement.{statement}
 use Rattle.datapath.proofs.alu.rotate_left_through.Tie as tie
 
-mul-t4 : tie.Need-mul-t4
-mul-t4 c = search needs
-
-add-t7 : tie.Need-add-t7
-add-t7 c = search needs
-
-returns : tie.Need-returns
-returns c = left (c .args .a) (flag-bit (c .args .carry)) (last (c .args .a))
-
 pub rotate-left-through-spec : {M : Type 1} → statement M
-rotate-left-through-spec = tie.close (tie.spec mul-t4 add-t7 returns)
+rotate-left-through-spec =
+    tie.close
+    (tie.spec
+    (λ c. search needs) (λ c. search needs)
+    -- the nibble and CF
+    (λ c. left (c .args .a) (flag-bit (c .args .carry)) (last (c .args .a))))

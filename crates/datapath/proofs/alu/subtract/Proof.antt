@@ -11,20 +11,10 @@ use Rattle.datapath.proofs.alu.subtract.Tie as tie
 zero : {b : ℕ} → 16 ≤ b → 0 ≡ 15 - b
 zero h = omega arith
 
-sub-add : tie.Need-sub-add
-sub-add c = search needs
-
-add-requires : tie.Need-add-requires
-add-requires c κs = search needs
-
-returns : tie.Need-returns
-returns c = search needs
-
-add-requires-2 : tie.Need-add-requires-2
-add-requires-2 c κs = search needs
-
-returns-2 : tie.Need-returns-2
-returns-2 c = c .add2 .ensures ∙ ap (λ (b : ℕ). summed (c .before .before .args .a) b (c .before .before .args .c)) (zero (c .before .if1 .left))
-
 pub subtract-spec : {M : Type 1} → statement M
-subtract-spec = tie.close (tie.spec sub-add add-requires returns add-requires-2 returns-2)
+subtract-spec =
+    tie.close
+    (tie.spec
+    (λ c. search needs) (λ c κs. search needs) (λ c. search needs) (λ c κs. search needs)
+    -- an operand over 15
+    (λ c. c .add2 .ensures ∙ ap (λ (b : ℕ). summed (c .before .before .args .a) b (c .before .before .args .c)) (zero (c .before .if1 .left))))

@@ -11,20 +11,13 @@ use Rattle.datapath.proofs.timer.advance.Tie as tie
 within : {n : ℕ} → n ≤ 255 → n % 256 ≡ n
 within h = omega arith
 
-add-total : tie.Need-add-total
-add-total c = search needs
-
-cast-t8 : tie.Need-cast-t8
-cast-t8 c = search needs
-
-returns : tie.Need-returns
-returns c = rw (lt-ltb 255 _ (c .if1 .taken)) refl
-
-cast-t9 : tie.Need-cast-t9
-cast-t9 c = search needs
-
-returns-2 : tie.Need-returns-2
-returns-2 c = rw (le-ltb 255 _ (c .if1 .left), within (c .if1 .left)) refl
-
 pub advance-spec : {M : Type 1} → statement M
-advance-spec = tie.close (tie.spec add-total cast-t8 returns cast-t9 returns-2)
+advance-spec =
+    tie.close
+    (tie.spec
+    (λ c. search needs) (λ c. search needs)
+    -- past 255
+    (λ c. rw (lt-ltb 255 _ (c .if1 .taken)) refl)
+    (λ c. search needs)
+    -- 255 or less
+    (λ c. rw (le-ltb 255 _ (c .if1 .left), within (c .if1 .left)) refl))

@@ -1,13 +1,14 @@
 -- `isa::decoder::decode` meets its contract. An arm of single numbers knows the first byte, an arm of a range has it between two
 -- bounds, from which the fields follow by arithmetic; what is unreadable is what the map by first byte has nothing for.
 -- Assumes nothing.
-use Prim.Native.Nat.{ℕ, _<_, _≤_, _/_, _%_}
+use Prim.Native.Nat.{ℕ, _+_, _*_, _<_, _≤_, _/_, _%_}
 use mathlib.Core.Path.{_≡_, refl}
 use mathlib.Core.Bool.{Bool, true, false, _||_}
 use mathlib.Core.List.{List, [], _∷_}
 use lib.Dec.{eqb, ltb}
 use mathlib.Core.Logic.{⊎-elim}
 use native.Mathlib.Omega.{arith}
+use types.Run.{OneOf}
 use borrow.Author.Needs.{needs}
 use borrow.Author.Tests.{lt-ltb, eqb-true, ltb-true, ltb-false}
 use Rattle.isa.specs.Code.{bytesOf, inRange, leading, bitInRange}
@@ -51,387 +52,190 @@ above a h n = go (ltb a 0x50) refl
     go true e = absurd (omega (arith, default a (ltb-true a 0x50 e) n))
     go false e = ltb-false a 0x50 e
 
-cast-target : tie.Need-cast-target
-cast-target c = search needs
-
-mul-target : tie.Need-mul-target
-mul-target c = search needs
-
-add-target : tie.Need-add-target
-add-target c = search needs
-
-cast-address : tie.Need-cast-address
-cast-address c = search needs
-
-mul-address : tie.Need-mul-address
-mul-address c = search needs
-
-add-address : tie.Need-add-address
-add-address c = search needs
-
-returns : tie.Need-returns
-unfolding bytesOf inRange
-returns c = one-byte refl refl (c .match .keys1)
-
-returns-2 : tie.Need-returns-2
-unfolding bytesOf inRange
-returns-2 c = one-byte refl refl (c .match .keys2)
-
-returns-3 : tie.Need-returns-3
-unfolding bytesOf inRange
-returns-3 c = one-byte refl refl (c .match .keys3)
-
-returns-4 : tie.Need-returns-4
-unfolding bytesOf inRange
-returns-4 c = one-byte refl refl (c .match .keys4)
-
-returns-5 : tie.Need-returns-5
-unfolding bytesOf inRange
-returns-5 c = one-byte refl refl (c .match .keys5)
-
-returns-6 : tie.Need-returns-6
-unfolding bytesOf inRange
-returns-6 c = one-byte refl refl (c .match .keys6)
-
-returns-7 : tie.Need-returns-7
-unfolding bytesOf inRange
-returns-7 c = one-byte refl refl (c .match .keys7)
-
-returns-8 : tie.Need-returns-8
-unfolding bytesOf inRange
-returns-8 c = one-byte refl refl (c .match .keys8)
-
-returns-9 : tie.Need-returns-9
-unfolding bytesOf inRange
-returns-9 c = one-byte refl refl (c .match .keys9)
-
-returns-10 : tie.Need-returns-10
-unfolding bytesOf inRange
-returns-10 c = one-byte refl refl (c .match .keys10)
-
-returns-11 : tie.Need-returns-11
-unfolding bytesOf inRange
-returns-11 c = one-byte refl refl (c .match .keys11)
-
-returns-12 : tie.Need-returns-12
-unfolding bytesOf inRange
-returns-12 c = one-byte refl refl (c .match .keys12)
-
-returns-13 : tie.Need-returns-13
-unfolding bytesOf inRange
-returns-13 c = one-byte refl refl (c .match .keys13)
-
-returns-14 : tie.Need-returns-14
-unfolding bytesOf inRange
-returns-14 c = one-byte refl refl (c .match .keys14)
-
-returns-15 : tie.Need-returns-15
-unfolding bytesOf inRange
-returns-15 c = one-byte refl refl (c .match .keys15)
-
-returns-16 : tie.Need-returns-16
-unfolding bytesOf inRange
-returns-16 c = one-byte refl refl (c .match .keys16)
-
-returns-17 : tie.Need-returns-17
-unfolding bytesOf inRange
-returns-17 c = to-register I.IncR 0x10 _ _ refl refl (⊎-elim (λ w. omega arith) (⊎-elim (λ w. omega arith) (⊎-elim (λ w. omega arith) (⊎-elim (λ w. omega arith) (λ w. omega arith)))) (c .match .keys17))
-
-returns-18 : tie.Need-returns-18
-unfolding bytesOf inRange
-returns-18 c = to-register I.DecR 0x11 _ _ refl refl (⊎-elim (λ w. omega arith) (⊎-elim (λ w. omega arith) (⊎-elim (λ w. omega arith) (⊎-elim (λ w. omega arith) (λ w. omega arith)))) (c .match .keys18))
-
-returns-19 : tie.Need-returns-19
-unfolding bytesOf inRange
-returns-19 c = one-byte refl refl (c .match .keys19)
-
-returns-20 : tie.Need-returns-20
-unfolding bytesOf inRange
-returns-20 c = one-byte refl refl (c .match .keys20)
-
-returns-21 : tie.Need-returns-21
-unfolding bytesOf inRange
-returns-21 c = one-byte refl refl (c .match .keys21)
-
-returns-22 : tie.Need-returns-22
-unfolding bytesOf inRange
-returns-22 c = one-byte refl refl (c .match .keys22)
-
-returns-23 : tie.Need-returns-23
-unfolding bytesOf inRange
-returns-23 c = one-byte refl refl (c .match .keys23)
-
-returns-24 : tie.Need-returns-24
-unfolding bytesOf inRange
-returns-24 c = one-byte refl refl (c .match .keys24)
-
-returns-25 : tie.Need-returns-25
-unfolding bytesOf inRange
-returns-25 c = to-register I.MovRA 0x20 _ _ refl refl (⊎-elim (λ w. omega arith) (⊎-elim (λ w. omega arith) (⊎-elim (λ w. omega arith) (⊎-elim (λ w. omega arith) (λ w. omega arith)))) (c .match .keys25))
-
-returns-26 : tie.Need-returns-26
-unfolding bytesOf inRange
-returns-26 c = to-register I.MovAR 0x21 _ _ refl refl (⊎-elim (λ w. omega arith) (⊎-elim (λ w. omega arith) (⊎-elim (λ w. omega arith) (⊎-elim (λ w. omega arith) (λ w. omega arith)))) (c .match .keys26))
-
-returns-27 : tie.Need-returns-27
-unfolding bytesOf inRange
-returns-27 c = one-byte refl refl (c .match .keys27)
-
-returns-28 : tie.Need-returns-28
-unfolding bytesOf inRange
-returns-28 c = one-byte refl refl (c .match .keys28)
-
-returns-29 : tie.Need-returns-29
-unfolding bytesOf inRange
-returns-29 c = one-byte refl refl (c .match .keys29)
-
-returns-30 : tie.Need-returns-30
-unfolding bytesOf inRange
-returns-30 c = one-byte refl refl (c .match .keys30)
-
-returns-31 : tie.Need-returns-31
-unfolding bytesOf inRange
-returns-31 c = one-byte refl refl (c .match .keys31)
-
-returns-32 : tie.Need-returns-32
-unfolding bytesOf inRange
-returns-32 c = one-byte refl refl (c .match .keys32)
-
-returns-33 : tie.Need-returns-33
-unfolding bytesOf inRange
-returns-33 c = one-byte refl refl (c .match .keys33)
-
-returns-34 : tie.Need-returns-34
-unfolding bytesOf inRange
-returns-34 c = one-byte refl refl (c .match .keys34)
-
-returns-35 : tie.Need-returns-35
-unfolding bytesOf inRange
-returns-35 c = one-byte refl refl (c .match .keys35)
-
-returns-36 : tie.Need-returns-36
-unfolding bytesOf inRange
-returns-36 c = one-byte refl refl (c .match .keys36)
-
-returns-37 : tie.Need-returns-37
-unfolding bytesOf inRange
-returns-37 c = one-byte refl refl (c .match .keys37)
-
-returns-38 : tie.Need-returns-38
-unfolding bytesOf inRange
-returns-38 c = one-byte refl refl (c .match .keys38)
-
-returns-39 : tie.Need-returns-39
-unfolding bytesOf inRange
-returns-39 c = two-byte refl refl (c .before .match .keys39) (c .if1 .taken)
-
-returns-40 : tie.Need-returns-40
-returns-40 c = other-halt _ _ (c .before .match .keys39) (c .if1 .left)
-
-returns-41 : tie.Need-returns-41
-unfolding bytesOf inRange
-returns-41 c = one-byte refl refl (c .match .keys40)
-
-returns-42 : tie.Need-returns-42
-unfolding bytesOf inRange
-returns-42 c = one-byte refl refl (c .match .keys41)
-
-returns-43 : tie.Need-returns-43
-unfolding bytesOf inRange
-returns-43 c = one-byte refl refl (c .match .keys42)
-
-returns-44 : tie.Need-returns-44
-unfolding bytesOf inRange
-returns-44 c = one-byte refl refl (c .match .keys43)
-
-returns-45 : tie.Need-returns-45
-unfolding bytesOf inRange
-returns-45 c = one-byte refl refl (c .match .keys44)
-
-returns-46 : tie.Need-returns-46
-unfolding bytesOf inRange
-returns-46 c = one-byte refl refl (c .match .keys45)
-
-returns-47 : tie.Need-returns-47
-unfolding bytesOf inRange
-returns-47 c = one-byte refl refl (c .match .keys46)
-
-returns-48 : tie.Need-returns-48
-unfolding bytesOf inRange
-returns-48 c = one-byte refl refl (c .match .keys47)
-
-returns-49 : tie.Need-returns-49
-unfolding bytesOf inRange
-returns-49 c = two-byte (lt-ltb _ 16 (c .if2 .taken)) refl (c .before .match .keys48) refl
-
-returns-50 : tie.Need-returns-50
-unfolding decoded map
-returns-50 c = over _ _ I.AddAX (c .if2 .left) (rw (c .before .match .keys48) refl)
-
-returns-51 : tie.Need-returns-51
-unfolding bytesOf inRange
-returns-51 c = two-byte (lt-ltb _ 16 (c .if3 .taken)) refl (c .before .match .keys49) refl
-
-returns-52 : tie.Need-returns-52
-unfolding decoded map
-returns-52 c = over _ _ I.SubAX (c .if3 .left) (rw (c .before .match .keys49) refl)
-
-returns-53 : tie.Need-returns-53
-unfolding bytesOf inRange
-returns-53 c = two-byte (lt-ltb _ 16 (c .if4 .taken)) refl (c .before .match .keys50) refl
-
-returns-54 : tie.Need-returns-54
-unfolding decoded map
-returns-54 c = over _ _ I.AndAX (c .if4 .left) (rw (c .before .match .keys50) refl)
-
-returns-55 : tie.Need-returns-55
-unfolding bytesOf inRange
-returns-55 c = two-byte (lt-ltb _ 16 (c .if5 .taken)) refl (c .before .match .keys51) refl
-
-returns-56 : tie.Need-returns-56
-unfolding decoded map
-returns-56 c = over _ _ I.XorAX (c .if5 .left) (rw (c .before .match .keys51) refl)
-
-returns-57 : tie.Need-returns-57
-unfolding bytesOf inRange
-returns-57 c = two-byte (lt-ltb _ 16 (c .if6 .taken)) refl (c .before .match .keys52) refl
-
-returns-58 : tie.Need-returns-58
-unfolding decoded map
-returns-58 c = over _ _ I.OrAX (c .if6 .left) (rw (c .before .match .keys52) refl)
-
-returns-59 : tie.Need-returns-59
-unfolding bytesOf inRange
-returns-59 c = two-byte (lt-ltb _ 16 (c .if7 .taken)) refl (c .before .match .keys53) refl
-
-returns-60 : tie.Need-returns-60
-unfolding decoded map
-returns-60 c = over _ _ I.SoundN (c .if7 .left) (rw (c .before .match .keys53) refl)
-
-returns-61 : tie.Need-returns-61
-unfolding bytesOf inRange
-returns-61 c = two-byte (lt-ltb _ 16 (c .if8 .taken)) refl (c .before .match .keys54) refl
-
-returns-62 : tie.Need-returns-62
-unfolding decoded map
-returns-62 c = over _ _ I.MovR4X (c .if8 .left) (rw (c .before .match .keys54) refl)
-
-returns-63 : tie.Need-returns-63
-unfolding bytesOf inRange
-returns-63 c = two-byte (lt-ltb (c .before .args .second) 256 (omega arith)) refl (c .match .keys55) refl
-
-returns-64 : tie.Need-returns-64
-unfolding bytesOf inRange
-returns-64 c = one-byte refl refl (c .match .keys56)
-
-returns-65 : tie.Need-returns-65
-unfolding bytesOf inRange
-returns-65 c = one-byte refl refl (c .match .keys57)
-
-returns-66 : tie.Need-returns-66
-unfolding bytesOf inRange
-returns-66 c = one-byte refl refl (c .match .keys58)
-
-returns-67 : tie.Need-returns-67
-unfolding bytesOf inRange
-returns-67 c = one-byte refl refl (c .match .keys59)
-
-returns-68 : tie.Need-returns-68
-unfolding bytesOf inRange
-returns-68 c = one-byte refl refl (c .match .keys60)
-
-returns-69 : tie.Need-returns-69
-unfolding bytesOf inRange
-returns-69 c = one-byte refl refl (c .match .keys61)
-
-returns-70 : tie.Need-returns-70
-unfolding bytesOf inRange
-returns-70 c = one-byte refl refl (c .match .keys62)
-
-returns-71 : tie.Need-returns-71
-unfolding bytesOf inRange
-returns-71 c = one-byte refl refl (c .match .keys63)
-
-returns-72 : tie.Need-returns-72
-unfolding arms
-returns-72 c = no-pattern _ _ (default _ (below-54 (c .if10 .taken)) (c .before .before .match .rest))
-
-returns-73 : tie.Need-returns-73
-unfolding bytesOf arms
-returns-73 c = to-pair R1R0 0x50 _ _ refl refl (above _ (c .before .before .if10 .left) (c .before .before .before .before .match .rest)) (c .before .if11 .taken) (c .if12 .taken)
-
-returns-74 : tie.Need-returns-74
-unfolding decoded map arms
-returns-74 c = over-pair R1R0 0x50 _ _ refl (above _ (c .before .before .if10 .left) (c .before .before .before .before .match .rest)) (c .before .if11 .taken) (c .if12 .left)
-
-returns-75 : tie.Need-returns-75
-unfolding bytesOf
-returns-75 c = to-pair R3R2 0x60 _ _ refl refl (c .before .before .if11 .left) (c .before .if13 .taken) (c .if14 .taken)
-
-returns-76 : tie.Need-returns-76
-unfolding decoded map
-returns-76 c = over-pair R3R2 0x60 _ _ refl (c .before .before .if11 .left) (c .before .if13 .taken) (c .if14 .left)
-
-returns-77 : tie.Need-returns-77
-unfolding bytesOf inRange
-returns-77 c = one-byte (lt-ltb (c .before .before .before .before .before .before .args .first % 16) 16 (omega arith)) refl (omega arith)
-
-returns-78 : tie.Need-returns-78
-unfolding leading bitInRange
-returns-78 c = let a = c .before .before .before .before .before .before .before .args .first in to-target (Ja (a / 8 % 4)) a _ (omega arith) (lt-ltb (a / 8 % 4) 4 (omega arith)) (omega arith)
-
-returns-79 : tie.Need-returns-79
-unfolding leading bitInRange
-returns-79 c = to-target JnzR0 _ _ (omega arith) refl (omega arith)
-
-returns-80 : tie.Need-returns-80
-unfolding leading bitInRange
-returns-80 c = to-target JnzR1 _ _ (omega arith) refl (omega arith)
-
-returns-81 : tie.Need-returns-81
-unfolding leading bitInRange
-returns-81 c = to-target Jz _ _ (omega arith) refl (omega arith)
-
-returns-82 : tie.Need-returns-82
-unfolding leading bitInRange
-returns-82 c = to-target JnzA _ _ (omega arith) refl (omega arith)
-
-returns-83 : tie.Need-returns-83
-unfolding leading bitInRange
-returns-83 c = to-target Jc _ _ (omega arith) refl (omega arith)
-
-returns-84 : tie.Need-returns-84
-unfolding leading bitInRange
-returns-84 c = to-target Jnc _ _ (omega arith) refl (omega arith)
-
-returns-85 : tie.Need-returns-85
-unfolding leading bitInRange
-returns-85 c = to-target Jtmr _ _ (omega arith) refl (omega arith)
-
-returns-86 : tie.Need-returns-86
-unfolding leading bitInRange
-returns-86 c = to-target JnzR4 _ _ (omega arith) refl (omega arith)
-
-returns-87 : tie.Need-returns-87
-unfolding bytesOf inRange
-returns-87 c = to-address I.Jmp 0xe0 _ _ refl refl (omega arith) (omega arith)
-
-returns-88 : tie.Need-returns-88
-unfolding bytesOf inRange
-returns-88 c = to-address I.Call 0xf0 _ _ refl refl (omega arith) (omega arith)
-
+-- the five codes of a register's number in bits 1 to 3
+registers : (x a : ℕ) → x % 16 < 2 → OneOf (x ∷ (x + 2) ∷ (x + 4) ∷ (x + 6) ∷ (x + 8) ∷ []) a → (a % 16 / 2 < 5) × (a ≡ x + 2 * (a % 16 / 2))
+registers x a h = ⊎-elim (λ w. omega arith) (⊎-elim (λ w. omega arith) (⊎-elim (λ w. omega arith) (⊎-elim (λ w. omega arith) (λ w. omega arith))))
+
+-- the needs in the order of the code: first the two sums, then the arms' answers
 pub decode-spec : {M : Type 1} → statement M
+unfolding bytesOf inRange decoded map arms leading bitInRange
 decode-spec =
     tie.close
-    (tie.spec cast-target mul-target add-target cast-address mul-address add-address
-    returns returns-2 returns-3 returns-4 returns-5 returns-6 returns-7 returns-8
-    returns-9 returns-10 returns-11 returns-12 returns-13 returns-14 returns-15 returns-16
-    returns-17 returns-18 returns-19 returns-20 returns-21 returns-22 returns-23 returns-24
-    returns-25 returns-26 returns-27 returns-28 returns-29 returns-30 returns-31 returns-32
-    returns-33 returns-34 returns-35 returns-36 returns-37 returns-38 returns-39 returns-40
-    returns-41 returns-42 returns-43 returns-44 returns-45 returns-46 returns-47 returns-48
-    returns-49 returns-50 returns-51 returns-52 returns-53 returns-54 returns-55 returns-56
-    returns-57 returns-58 returns-59 returns-60 returns-61 returns-62 returns-63 returns-64
-    returns-65 returns-66 returns-67 returns-68 returns-69 returns-70 returns-71 returns-72
-    returns-73 returns-74 returns-75 returns-76 returns-77 returns-78 returns-79 returns-80
-    returns-81 returns-82 returns-83 returns-84 returns-85 returns-86 returns-87 returns-88)
+    (tie.spec
+    (λ c. search needs) (λ c. search needs) (λ c. search needs) (λ c. search needs) (λ c. search needs) (λ c. search needs)
+    -- RR A
+    (λ c. one-byte refl refl (c .match .keys1))
+    -- RL A
+    (λ c. one-byte refl refl (c .match .keys2))
+    -- RRC A
+    (λ c. one-byte refl refl (c .match .keys3))
+    -- RLC A
+    (λ c. one-byte refl refl (c .match .keys4))
+    -- MOV A,[R1R0]
+    (λ c. one-byte refl refl (c .match .keys5))
+    -- MOV [R1R0],A
+    (λ c. one-byte refl refl (c .match .keys6))
+    -- MOV A,[R3R2]
+    (λ c. one-byte refl refl (c .match .keys7))
+    -- MOV [R3R2],A
+    (λ c. one-byte refl refl (c .match .keys8))
+    -- ADC A,[R1R0]
+    (λ c. one-byte refl refl (c .match .keys9))
+    -- ADD A,[R1R0]
+    (λ c. one-byte refl refl (c .match .keys10))
+    -- SBC A,[R1R0]
+    (λ c. one-byte refl refl (c .match .keys11))
+    -- SUB A,[R1R0]
+    (λ c. one-byte refl refl (c .match .keys12))
+    -- INC [R1R0]
+    (λ c. one-byte refl refl (c .match .keys13))
+    -- DEC [R1R0]
+    (λ c. one-byte refl refl (c .match .keys14))
+    -- INC [R3R2]
+    (λ c. one-byte refl refl (c .match .keys15))
+    -- DEC [R3R2]
+    (λ c. one-byte refl refl (c .match .keys16))
+    -- INC Rn
+    (λ c. to-register I.IncR 0x10 _ _ refl refl (registers 0x10 _ (omega arith) (c .match .keys17)))
+    -- DEC Rn
+    (λ c. to-register I.DecR 0x11 _ _ refl refl (registers 0x11 _ (omega arith) (c .match .keys18)))
+    -- AND A,[R1R0]
+    (λ c. one-byte refl refl (c .match .keys19))
+    -- XOR A,[R1R0]
+    (λ c. one-byte refl refl (c .match .keys20))
+    -- OR A,[R1R0]
+    (λ c. one-byte refl refl (c .match .keys21))
+    -- AND [R1R0],A
+    (λ c. one-byte refl refl (c .match .keys22))
+    -- XOR [R1R0],A
+    (λ c. one-byte refl refl (c .match .keys23))
+    -- OR [R1R0],A
+    (λ c. one-byte refl refl (c .match .keys24))
+    -- MOV Rn,A
+    (λ c. to-register I.MovRA 0x20 _ _ refl refl (registers 0x20 _ (omega arith) (c .match .keys25)))
+    -- MOV A,Rn
+    (λ c. to-register I.MovAR 0x21 _ _ refl refl (registers 0x21 _ (omega arith) (c .match .keys26)))
+    -- CLC
+    (λ c. one-byte refl refl (c .match .keys27))
+    -- STC
+    (λ c. one-byte refl refl (c .match .keys28))
+    -- EI
+    (λ c. one-byte refl refl (c .match .keys29))
+    -- DI
+    (λ c. one-byte refl refl (c .match .keys30))
+    -- RET
+    (λ c. one-byte refl refl (c .match .keys31))
+    -- RETI
+    (λ c. one-byte refl refl (c .match .keys32))
+    -- OUT PA,A
+    (λ c. one-byte refl refl (c .match .keys33))
+    -- INC A
+    (λ c. one-byte refl refl (c .match .keys34))
+    -- IN A,PM
+    (λ c. one-byte refl refl (c .match .keys35))
+    -- IN A,PS
+    (λ c. one-byte refl refl (c .match .keys36))
+    -- IN A,PP
+    (λ c. one-byte refl refl (c .match .keys37))
+    -- DAA
+    (λ c. one-byte refl refl (c .match .keys38))
+    -- HALT
+    (λ c. two-byte refl refl (c .before .match .keys39) (c .if1 .taken))
+    -- HALT, another second byte
+    (λ c. other-halt _ _ (c .before .match .keys39) (c .if1 .left))
+    -- TIMER ON
+    (λ c. one-byte refl refl (c .match .keys40))
+    -- TIMER OFF
+    (λ c. one-byte refl refl (c .match .keys41))
+    -- MOV A,TMRL
+    (λ c. one-byte refl refl (c .match .keys42))
+    -- MOV A,TMRH
+    (λ c. one-byte refl refl (c .match .keys43))
+    -- MOV TMRL,A
+    (λ c. one-byte refl refl (c .match .keys44))
+    -- MOV TMRH,A
+    (λ c. one-byte refl refl (c .match .keys45))
+    -- NOP
+    (λ c. one-byte refl refl (c .match .keys46))
+    -- DEC A
+    (λ c. one-byte refl refl (c .match .keys47))
+    -- ADD A,XH
+    (λ c. two-byte (lt-ltb _ 16 (c .if2 .taken)) refl (c .before .match .keys48) refl)
+    -- ADD A,XH, X over 15
+    (λ c. over _ _ I.AddAX (c .if2 .left) (rw (c .before .match .keys48) refl))
+    -- SUB A,XH
+    (λ c. two-byte (lt-ltb _ 16 (c .if3 .taken)) refl (c .before .match .keys49) refl)
+    -- SUB A,XH, X over 15
+    (λ c. over _ _ I.SubAX (c .if3 .left) (rw (c .before .match .keys49) refl))
+    -- AND A,XH
+    (λ c. two-byte (lt-ltb _ 16 (c .if4 .taken)) refl (c .before .match .keys50) refl)
+    -- AND A,XH, X over 15
+    (λ c. over _ _ I.AndAX (c .if4 .left) (rw (c .before .match .keys50) refl))
+    -- XOR A,XH
+    (λ c. two-byte (lt-ltb _ 16 (c .if5 .taken)) refl (c .before .match .keys51) refl)
+    -- XOR A,XH, X over 15
+    (λ c. over _ _ I.XorAX (c .if5 .left) (rw (c .before .match .keys51) refl))
+    -- OR A,XH
+    (λ c. two-byte (lt-ltb _ 16 (c .if6 .taken)) refl (c .before .match .keys52) refl)
+    -- OR A,XH, X over 15
+    (λ c. over _ _ I.OrAX (c .if6 .left) (rw (c .before .match .keys52) refl))
+    -- SOUND n
+    (λ c. two-byte (lt-ltb _ 16 (c .if7 .taken)) refl (c .before .match .keys53) refl)
+    -- SOUND n, X over 15
+    (λ c. over _ _ I.SoundN (c .if7 .left) (rw (c .before .match .keys53) refl))
+    -- MOV R4,XH
+    (λ c. two-byte (lt-ltb _ 16 (c .if8 .taken)) refl (c .before .match .keys54) refl)
+    -- MOV R4,XH, X over 15
+    (λ c. over _ _ I.MovR4X (c .if8 .left) (rw (c .before .match .keys54) refl))
+    -- TIMER XXH
+    (λ c. two-byte (lt-ltb (c .before .args .second) 256 (omega arith)) refl (c .match .keys55) refl)
+    -- SOUND ONE
+    (λ c. one-byte refl refl (c .match .keys56))
+    -- SOUND LOOP
+    (λ c. one-byte refl refl (c .match .keys57))
+    -- SOUND OFF
+    (λ c. one-byte refl refl (c .match .keys58))
+    -- SOUND A
+    (λ c. one-byte refl refl (c .match .keys59))
+    -- READ R4A
+    (λ c. one-byte refl refl (c .match .keys60))
+    -- READF R4A
+    (λ c. one-byte refl refl (c .match .keys61))
+    -- READ MR0A
+    (λ c. one-byte refl refl (c .match .keys62))
+    -- READF MR0A
+    (λ c. one-byte refl refl (c .match .keys63))
+    -- 35h
+    (λ c. no-pattern _ _ (default _ (below-54 (c .if10 .taken)) (c .before .before .match .rest)))
+    -- MOV R1R0,XXH
+    (λ c. to-pair R1R0 0x50 _ _ refl refl (above _ (c .before .before .if10 .left) (c .before .before .before .before .match .rest)) (c .before .if11 .taken) (c .if12 .taken))
+    -- MOV R1R0,XXH, its second nibble over 15
+    (λ c. over-pair R1R0 0x50 _ _ refl (above _ (c .before .before .if10 .left) (c .before .before .before .before .match .rest)) (c .before .if11 .taken) (c .if12 .left))
+    -- MOV R3R2,XXH
+    (λ c. to-pair R3R2 0x60 _ _ refl refl (c .before .before .if11 .left) (c .before .if13 .taken) (c .if14 .taken))
+    -- MOV R3R2,XXH, its second nibble over 15
+    (λ c. over-pair R3R2 0x60 _ _ refl (c .before .before .if11 .left) (c .before .if13 .taken) (c .if14 .left))
+    -- MOV A,XH
+    (λ c. one-byte (lt-ltb (c .before .before .before .before .before .before .args .first % 16) 16 (omega arith)) refl (omega arith))
+    -- JAn
+    (λ c. let a = c .before .before .before .before .before .before .before .args .first in to-target (Ja (a / 8 % 4)) a _ (omega arith) (lt-ltb (a / 8 % 4) 4 (omega arith)) (omega arith))
+    -- JNZ R0
+    (λ c. to-target JnzR0 _ _ (omega arith) refl (omega arith))
+    -- JNZ R1
+    (λ c. to-target JnzR1 _ _ (omega arith) refl (omega arith))
+    -- JZ A
+    (λ c. to-target Jz _ _ (omega arith) refl (omega arith))
+    -- JNZ A
+    (λ c. to-target JnzA _ _ (omega arith) refl (omega arith))
+    -- JC
+    (λ c. to-target Jc _ _ (omega arith) refl (omega arith))
+    -- JNC
+    (λ c. to-target Jnc _ _ (omega arith) refl (omega arith))
+    -- JTMR
+    (λ c. to-target Jtmr _ _ (omega arith) refl (omega arith))
+    -- JNZ R4
+    (λ c. to-target JnzR4 _ _ (omega arith) refl (omega arith))
+    -- JMP
+    (λ c. to-address I.Jmp 0xe0 _ _ refl refl (omega arith) (omega arith))
+    -- CALL
+    (λ c. to-address I.Call 0xf0 _ _ refl refl (omega arith) (omega arith)))
