@@ -8,6 +8,7 @@ import contextlib
 import io
 import os
 import pathlib
+import re
 import sys
 
 import paths  # noqa: F401
@@ -15,6 +16,7 @@ import checker_cases
 import isa_table
 import make_demo
 import make_panel_cases
+import reference
 import vectors
 
 ROOT = pathlib.Path(__file__).resolve().parent.parent
@@ -33,12 +35,29 @@ def made():
     return result
 
 
+def guide():
+    """What docs/SCRIPT.md says of its worked script: each record's bytes in turn, and each report."""
+    text = (ROOT / 'docs' / 'SCRIPT.md').read_text()
+    rows = [line.split('|')[1:3] for line in text.splitlines() if re.match(r'\| \d+ \| `[0-9A-F ]+` \|', line)]
+    script = b''.join(bytes.fromhex(cell.strip(' `')) for _, cell in rows)
+    at, offsets = 0, []
+    for _, cell in rows:
+        offsets.append(at)
+        at += len(bytes.fromhex(cell.strip(' `')))
+    reports = [line.split()[0] for line in text.splitlines() if line.startswith('    2C001000')]
+    lines = reference.panel(make_panel_cases.MASK, script)
+    right = (script == make_panel_cases.WORKED and [int(offset) for offset, _ in rows] == offsets
+             and [line[:32] for line in lines] == reports and all(set(line[32:]) == {'0'} for line in lines))
+    return [] if right else ['docs/SCRIPT.md does not say what its script does']
+
+
 def main():
     files = made()
     wrong = [f'{path.relative_to(ROOT)} is not what its maker makes' for path, content in files.items()
              if not path.is_file() or path.read_bytes() != content]
     wrong += [f'{path.relative_to(ROOT)} is made by nothing' for folder in MADE
               for path in sorted(folder.rglob('*')) if path.is_file() and path not in files]
+    wrong += guide()
     for text in wrong:
         print(f'check_stored: {text}')
     if wrong:

@@ -21,6 +21,9 @@ MASK = bytes.fromhex('7530').ljust(reference.MASK, b'\x3e')
 SCRIPT = bytes.fromhex('06000100020400000000' '020002000200')
 
 # 'the lines are ..., each followed by 64 zeros'
+# docs/SCRIPT.md works this one through; check_stored.py holds the page to it.
+WORKED = bytes.fromhex('06000100020400000000' '020002000200' '030003000e0f0f' '0100040000' '020005000500' '00000600')
+
 LINES = ['2C0010000000000000000000000F1000' + '0' * 64,
          '2C001000020002000000000000051000' + '0' * 64]
 
@@ -99,9 +102,56 @@ def padded(size, last=b''):
     return START + middle + last
 
 
+# What each case guards: tests/panel/README.md is made of it.
+GUARDS = {
+    'example': "document 01's own example, bytes and lines as printed there",
+    'worked-through': 'the script of docs/SCRIPT.md: each kind once',
+    'every-kind': 'each kind of event at least once, on the external clock; both handlers; a second power-on with 3 commons',
+    'three-commons': 'bit 3 of each display nibble shows 0 with 3 commons and 1 with 4; a Run of 65,535 steps',
+    'timer-interrupts': 'a step that forgets the timer, an interrupt that loses CF, a count not kept between Runs',
+    'timer-rates': 'each of the thirteen rates: a rate shifted by one, the phase of the cycle count left out',
+    'external-clock': 'TMCLK that does not pass 255, just passes it, and passes it 255 times; none after RES stopped the timer',
+    'halt-pin-wake': 'wake bits: only a falling bit whose wake bit is 1 wakes, and only when halted; the edge is then taken',
+    'halt-int-wake': 'INT wakes without a wake bit; a second low level is no edge; the held edge goes to 008h',
+    'halt-int-wake-disabled': 'with interrupts off the wake goes on after HALT and the edge stays held',
+    'halt-not-by-timer': 'TF and TMCLK wake nothing, nor an edge held before HALT',
+    'round-the-end': 'an instruction whose second byte is the byte at 0',
+    'fault-1': 'a second byte that breaks its pattern: fault 1, the PC stays, a later edge changes no fault; RES clears it',
+    'fault-2': 'CALL in level 1: fault 2; pins and TMCLK on a faulted machine',
+    'fault-3': 'RET in level 0: fault 3; a further power-on clears it',
+    'refused-1-short-mask': 'a mask of 4,095 bytes',
+    'refused-1-long-mask': 'a mask of 4,097 bytes',
+    'refused-1-empty-mask': 'an empty mask',
+    'refused-1-missing-mask': 'no mask.bin: counts as empty',
+    'refused-1-first': "1 goes before the script's own refusals",
+    'refused-3-fill': 'the fill nibble of a power-on is no option: 3, not 4',
+    'refused-3-pins': "the first bad record's offset, not the last's",
+    'refused-3-int': 'INT over 1',
+    'refused-3-before-4': '3 over all records goes before 4, although the 4 stands first',
+    'refused-4-rate': 'rate 6',
+    'refused-4-commons': "commons 5, at its record's offset",
+    'refused-4-wake': 'a wake nibble over 15 is an option: 4, not 3',
+    'refused-6-cut-head': "three bytes where a record's head has four",
+    'refused-6-cut-payload': 'a payload that runs past the end',
+    'refused-6-cut-unknown': '6 goes before 7 in a record cut off',
+    'refused-6-length': 'RES with a payload; the first bad record decides',
+    'refused-6-too-long': '65,536 bytes are refused at offset 0, whatever they hold',
+    'refused-7-kind-9': 'an unknown kind',
+    'refused-7-kind-257': 'the kind has two bytes: 257 is not 1',
+    'refused-7-kind-0': 'kind 0, whatever its length; before a 3 further on',
+    'refused-7-last-of-65535': 'the last record of the longest script',
+    'refused-3-last-of-65535': 'the largest offset, 65,530',
+    'refused-8-empty-script': 'no record at all',
+    'refused-8-missing-script': 'no script.bin: counts as empty',
+    'refused-8-first-run': '8 goes before 3',
+    'refused-1-both-missing': 'no file at all: 1',
+}
+
+
 def cases():
     """Name, mask, script (None: the file is missing) and the answer typed by hand, or None."""
     yield 'example', MASK, SCRIPT, LINES
+    yield 'worked-through', MASK, WORKED, None
     yield 'every-kind', EVERY_KIND, (
         power_on(rate=255, fill=3) + run(5) + pins(1, 2, 4) + run(20) + int_pin(0) + run(30) + tmclk(16)
         + run(30) + tmclk(5) + run(20) + int_pin(1) + int_pin(1) + res() + run(2)
@@ -165,10 +215,19 @@ def expected(mask, script, answer):
     return ''.join(line + '\n' for line in lines).encode()
 
 
+def readme():
+    names = [case[0] for case in cases()]
+    assert names == list(GUARDS), 'a case without what it guards, or the other way round'
+    head = ('# Stored cases of `panel`\n\nEach folder is one case: `mask.bin`, `script.bin` and what the program must print, `expected`. A file '
+            '`missing` names\na file that is left out. `tools/make_panel_cases.py` makes them all, this page too; `tools/differential.py` runs them.\n'
+            '`docs/SCRIPT.md` has the format.\n\n| Case | What it guards |\n|---|---|\n')
+    return (head + ''.join(f'| {name} | {GUARDS[name]} |\n' for name in names)).encode()
+
+
 def files():
     """All that is stored, as a dict from paths to bytes."""
     result = {CRATE / 'data' / 'mask.bin': MASK, CRATE / 'data' / 'script.bin': SCRIPT,
-              CRATE / 'stdout': expected(MASK, SCRIPT, LINES)}
+              CRATE / 'stdout': expected(MASK, SCRIPT, LINES), CASES / 'README.md': readme()}
     for name, mask, script, answer in cases():
         folder = CASES / name
         stored = {'mask.bin': mask, 'script.bin': script, 'expected': expected(mask, script, answer)}

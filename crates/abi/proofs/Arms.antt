@@ -16,7 +16,7 @@ use Rattle.isa.specs.declared.Instruction.{Instruction}
 use Rattle.isa.specs.declared.Instruction.the-variants as I
 use Rattle.isa.proofs.Arms.{NoneOf}
 use Rattle.abi.specs.Answers.{writingOf}
-use Rattle.abi.specs.Forms.{Meant, one, nothing, listed, conditions, branchNamed, forms, named}
+use Rattle.abi.specs.Forms.{one, nothing, listed, conditions, branchNamed, Form, choice, meant, forms, named}
 
 pub at : (form k a b : ℕ) → form ≡ k → writingOf k a b ≡ writingOf form a b
 at form k a b e = ap (λ (n : ℕ). writingOf n a b) (sym e)
@@ -56,4 +56,4 @@ no-condition a b h = no-choice (map (λ (k : Condition). I.Branch (record { 0 = 
 
 pub no-form : (form a b : ℕ) → 60 ≤ form → nothing ≡ named form a b
 unfolding forms named
-no-form form a b h = sym (ap (λ (f : ℕ → ℕ → Meant). f a b) (List·getD-eq-default forms (λ (a b : ℕ). nothing) h))
+no-form form a b h = sym (ap (λ (f : Form). meant f a b) (List·getD-eq-default forms (choice []) h))

@@ -27,12 +27,12 @@ fitting n = ltb (n .form) 256 && (ltb (n .a) 256 && ltb (n .b) 65536)
 pub record Hosted (i : Instruction) : Type 0 where
   pub back : named (numbersOf i .form) (numbersOf i .a) (numbersOf i .b) ≡ one i
   pub fits : fitting (numbersOf i) ≡ true
-  pub sized : length (bytesOf i) ≡ columnsOf i .length
-  pub short : columnsOf i .length < 256
+  pub sized : length (bytesOf i) ≡ columnsOf i .bytes
+  pub short : columnsOf i .bytes < 3
 
 host : {i : Instruction} → named (numbersOf i .form) (numbersOf i .a) (numbersOf i .b) ≡ one i → fitting (numbersOf i) ≡ true
-    → (length (bytesOf i) ≡ columnsOf i .length) × (ltb (columnsOf i .length) 256 ≡ true) → Hosted i
-host {i} b f s = record { back = b; fits = f; sized = s .0; short = ltb-true (columnsOf i .length) 256 (s .1) }
+    → (length (bytesOf i) ≡ columnsOf i .bytes) × (ltb (columnsOf i .bytes) 3 ≡ true) → Hosted i
+host {i} b f s = record { back = b; fits = f; sized = s .0; short = ltb-true (columnsOf i .bytes) 3 (s .1) }
 
 in-a : (d n : ℕ) → n ≤ 256 → ltb d n ≡ true → ltb d 256 && true ≡ true
 in-a d n l h = rw (lt-ltb d 256 (omega (arith, ltb-true d n h))) refl

@@ -1,3 +1,4 @@
 pub mod Arms
 pub mod Inverse
+pub mod Kept
 pub mod RoundTrip

@@ -1,28 +1,30 @@
--- Reading, then writing what was read, over what the two exported functions promise: where `read` answers r with no refusal and no fault, `write` of
--- the form and the operands that stand in r answers the bytes that stand at the address. The two tables are inverse, what two bytes read as has these
--- bytes as its code, and each part stands in its own place of r. Assumes nothing.
-use Prim.Native.Nat.{ℕ, _+_, _*_, _/_, _%_, _^_, _<_}
-use mathlib.Core.Path.{_≡_, sym, ap, subst, _∙_}
+-- Reading and writing as numbers are inverse, over what the two exported functions promise. The two tables are inverse, what two bytes read as has
+-- these bytes as its code, and each part stands in its own place of an answer. Assumes nothing.
+use Prim.Native.Nat.{ℕ, _+_, _*_, _/_, _%_, _^_, _<_, _≤_}
+use mathlib.Core.Path.{_≡_, refl, sym, ap, subst, _∙_}
 use mathlib.Core.Bool.{Bool, true, false, _&&_}
 use mathlib.Core.List.{List, [], _∷_}
 use native.Mathlib.Omega.{arith}
 use lib.Dec.{eqb, ltb}
-use lib.ListN.{length, take, getD}
-use borrow.Author.Tests.{ltb-true}
+use lib.ListN.{length, take, getD, List·getD-eq-default}
+use borrow.Author.Tests.{ltb-true, ltb-false, lt-ltb, eq-eqb}
 use Rattle.isa.specs.Choice.{pick}
 use Rattle.isa.specs.Code.{bytesOf, inRange}
-use Rattle.isa.specs.Reading.{Reads, Reading, decoded}
+use Rattle.isa.specs.Reading.{Reads, Reading, Entry, none, map, complete, decoded}
 use Rattle.isa.specs.Timing.{Columns, lengthOf, cyclesOf}
 use Rattle.rom.specs.Fetching.{refused, byteAt, withTiming, fetching}
 use Rattle.rom.specs.Writing as Writing
-use Rattle.rom.specs.Writing.{writing}
+use Rattle.rom.specs.Writing.{fitting, writing}
 use Rattle.isa.specs.declared.Instruction.{Instruction}
 use Rattle.isa.specs.declared.decoder.Decoded.{Decoded}
 use Rattle.isa.specs.declared.decoder.Decoded.the-variants.{Read, Unreadable}
-use Rattle.isa.proofs.Exact.{and-left, and-right, exact, timed}
-use Rattle.abi.specs.Forms.{Named, numbersOf}
-use Rattle.abi.specs.Answers.{packed, packedNamed, readNumber, formOf, aOf, bOf, sizeOf, writeNumber, writingBy, writingOf}
-use Rattle.abi.proofs.Inverse.{fitting, by-form, inverse}
+use Rattle.isa.proofs.Exact.{and-left, and-right, back, exact, timed}
+use Rattle.abi.specs.Forms.{Named, numbersOf, Meant, one, nothing, named, kept}
+use Rattle.abi.specs.Answers.{packed, packedNamed, readNumber, formOf, aOf, bOf, sizeOf, packedBytes, refusalOf, countOf, firstOf, secondOf, writeNumber, writingBy, writingOf}
+use Rattle.abi.specs.RoundTrip.{Bytes, bytesAt, Gives, ReadThenWrite, WriteThenRead}
+use Rattle.abi.proofs.Inverse as Inverse
+use Rattle.abi.proofs.Inverse.{by-form, inverse}
+use Rattle.abi.proofs.Kept.{named-kept}
 
 -- ---- each part stands in its own place
 module _ (f a b size cycles : ℕ) (hf : f < 256) (ha : a < 256) (hb : b < 65536) (hs : size < 256) where
@@ -38,6 +40,9 @@ module _ (f a b size cycles : ℕ) (hf : f < 256) (ha : a < 256) (hb : b < 65536
   size-out : sizeOf (packed 0 0 f a b size cycles) ≡ size
   size-out = omega arith
 
+  no-fault : packed 0 0 f a b size cycles % 2 ^ 16 ≡ 0
+  no-fault = omega arith
+
 -- ---- what two bytes read as
 module _ (x y : ℕ) (small : y < 256) where
   -- the bytes x, y, of which the first n are written
@@ -51,7 +56,7 @@ module _ (x y : ℕ) (small : y < 256) where
     abbrev n : Named
     n = numbersOf i
 
-    fits : fitting n ≡ true
+    fits : Inverse.fitting n ≡ true
     fits = by-form i (reads .fields) .fits
 
     form-fits : n .form < 256
@@ -67,10 +72,10 @@ module _ (x y : ℕ) (small : y < 256) where
     b-fits = ltb-true (n .b) 65536 (and-right (ltb (n .a) 256) (ltb (n .b) 65536) operands)
 
     counted : length (bytesOf i) ≡ lengthOf x
-    counted = by-form i (reads .fields) .sized ∙ sym (ap (λ (c : Columns). c .length) (timed x .read y i small reads))
+    counted = by-form i (reads .fields) .sized ∙ sym (ap (λ (c : Columns). c .bytes) (timed x .read y i small reads))
 
     size-fits : lengthOf x < 256
-    size-fits = rw (ap (λ (c : Columns). c .length) (timed x .read y i small reads)) (by-form i (reads .fields) .short)
+    size-fits = rw (ap (λ (c : Columns). c .bytes) (timed x .read y i small reads)) (omega (arith, by-form i (reads .fields) .short))
 
     written : writing i ≡ first (length (bytesOf i))
     written = rw (reads .fields) (ap (λ (s : List ℕ). record { number = 0; bytes = s }) (sym (reads .bytes)))
@@ -78,30 +83,33 @@ module _ (x y : ℕ) (small : y < 256) where
     abbrev r : ℕ
     r = packedNamed n (lengthOf x) (cyclesOf x)
 
-    named-there : writingOf (formOf r) (aOf r) (bOf r) ≡ writingOf (n .form) (n .a) (n .b)
-    named-there =
-        λ k. writingOf
-        (form-out (n .form) (n .a) (n .b) (lengthOf x) (cyclesOf x) form-fits a-fits b-fits size-fits k)
-        (a-out (n .form) (n .a) (n .b) (lengthOf x) (cyclesOf x) form-fits a-fits b-fits size-fits k)
-        (b-out (n .form) (n .a) (n .b) (lengthOf x) (cyclesOf x) form-fits a-fits b-fits size-fits k)
+    gives : Gives r n
+    gives =
+        record {
+          read = no-fault (n .form) (n .a) (n .b) (lengthOf x) (cyclesOf x) form-fits a-fits b-fits size-fits;
+          form = form-out (n .form) (n .a) (n .b) (lengthOf x) (cyclesOf x) form-fits a-fits b-fits size-fits;
+          a = a-out (n .form) (n .a) (n .b) (lengthOf x) (cyclesOf x) form-fits a-fits b-fits size-fits;
+          b = b-out (n .form) (n .a) (n .b) (lengthOf x) (cyclesOf x) form-fits a-fits b-fits size-fits;
+        }
 
-    back : Back r
-    back =
+    named-there : writingOf (formOf r) (aOf r) (bOf r) ≡ writingOf (n .form) (n .a) (n .b)
+    named-there = λ k. writingOf (gives .form k) (gives .a k) (gives .b k)
+
+    written-back : Back r
+    written-back =
         named-there ∙ ap writingBy (inverse i (reads .fields)) ∙ written
         ∙ ap first (counted ∙ sym (size-out (n .form) (n .a) (n .b) (lengthOf x) (cyclesOf x) form-fits a-fits b-fits size-fits))
 
   -- by the tests of a mask and an address, and by what the decoder answers: only what was read has neither refusal nor fault
   through : (s t : Bool) (d : Decoded) → Reading x y d → readNumber (pick s (pick t (withTiming x d) (refused 5)) (refused 1)) % 2 ^ 16 ≡ 0
       → Back (readNumber (pick s (pick t (withTiming x d) (refused 5)) (refused 1)))
-  through true true (Read i) r h = back i r
+  through true true (Read i) r h = written-back i r
   through true true Unreadable r h = absurd (omega arith)
   through true false d r h = absurd (omega arith)
   through false t d r h = absurd (omega arith)
 
-pub given-back : (mask : List ℕ) (address r w : ℕ) → ((k : ℕ) → getD mask k 0 < 256) → r ≡ readNumber (fetching mask address) → r % 2 ^ 16 ≡ 0
-    → w ≡ writeNumber (writingOf (formOf r) (aOf r) (bOf r))
-    → w ≡ writeNumber (record { number = 0; bytes = take (sizeOf r) (byteAt mask address ∷ byteAt mask (address + 1) ∷ []) })
-given-back mask address m w bytes e h f = f ∙ ap writeNumber there
+pub read-then-write : ReadThenWrite
+read-then-write mask address m w bytes e h f = f ∙ ap writeNumber there
   where
     x : ℕ
     x = byteAt mask address
@@ -116,3 +124,76 @@ given-back mask address m w bytes e h f = f ∙ ap writeNumber there
     there =
         subst (Back x y small) (sym e)
         (through x y small (eqb (length mask) 4096) (ltb address 4096) (decoded x y) (exact x y small) (rw e at h))
+
+-- ---- what is written
+-- past the map's end nothing is read
+first-below : (x y : ℕ) (i : Instruction) → decoded x y ≡ Read i → x < 256
+unfolding decoded map
+first-below x y i e = go (ltb x 256) refl
+  where
+    go : (t : Bool) → ltb x 256 ≡ t → x < 256
+    go true h = ltb-true x 256 h
+    go false h =
+        let p : getD map x none ≡ none = List·getD-eq-default map none (ltb-false x 256 h) in
+        let q : Unreadable ≡ Read i = sym (ap (λ (e : Entry). complete e y) p) ∙ e in
+        absurd (let z : _≡_ {A = ℕ} 0 1 = cc in omega arith)
+
+-- a list of two or less, by its places
+two-at-most : (s : List ℕ) → length s < 3 → take (length s) (getD s 0 0 ∷ getD s 1 0 ∷ []) ≡ s
+two-at-most [] h = refl
+two-at-most (x ∷ []) h = refl
+two-at-most (x ∷ y ∷ []) h = refl
+two-at-most (x ∷ y ∷ z ∷ s) h = absurd (omega arith)
+
+module _ (w count x y : ℕ) (e : w ≡ packedBytes 0 count x y) (hc : count < 3) (hx : x < 256) where
+  count-out : countOf w ≡ count
+  count-out = omega arith
+
+  x-out : firstOf w ≡ x
+  x-out = omega arith
+
+  y-out : secondOf w ≡ y
+  y-out = omega arith
+
+-- where a mask has the bytes of an instruction in range, that instruction stands
+module _ (i : Instruction) (ok : inRange i ≡ true) where
+  abbrev s : List ℕ
+  s = bytesOf i
+
+  short : length s < 3
+  short = omega (arith, by-form i ok .sized, by-form i ok .short)
+
+  x-fits : getD s 0 0 < 256
+  x-fits = first-below (getD s 0 0) (getD s 1 0) i (back (getD s 0 0) (getD s 1 0) i (record { fields = ok; bytes = two-at-most s short }))
+
+  stands : (w x y : ℕ) → w ≡ packedBytes 0 (length s) (getD s 0 0) (getD s 1 0) → take (countOf w) (x ∷ y ∷ []) ≡ take (countOf w) (firstOf w ∷ secondOf w ∷ []) → Reads x y i
+  stands w x y e h =
+      let n : countOf w ≡ length s = count-out w (length s) (getD s 0 0) (getD s 1 0) e short x-fits in
+      let p : firstOf w ≡ getD s 0 0 = x-out w (length s) (getD s 0 0) (getD s 1 0) e short x-fits in
+      let q : secondOf w ≡ getD s 1 0 = y-out w (length s) (getD s 0 0) (getD s 1 0) e short x-fits in
+      let there : take (length s) (x ∷ y ∷ []) ≡ take (length s) (getD s 0 0 ∷ getD s 1 0 ∷ []) = rw (n, p, q) at h in
+      record { fields = ok; bytes = there ∙ two-at-most s short }
+
+pub write-then-read : WriteThenRead
+write-then-read form a b w mask address r e free size bytes inside holds f = by-name (named form a b) refl
+  where
+    x : ℕ
+    x = byteAt mask address
+
+    y : ℕ
+    y = byteAt mask (address + 1)
+
+    small : y < 256
+    small = bytes ((address + 1) % 4096)
+
+    by-range : (i : Instruction) (t : Bool) → named form a b ≡ one i → inRange i ≡ t → w ≡ writeNumber (fitting t (bytesOf i)) → Gives r (kept form a b)
+    by-range i false m ok g = absurd (omega arith)
+    by-range i true m ok g =
+        let reads = stands i ok w x y g holds in
+        let read : r ≡ packedNamed (numbersOf i) (lengthOf x) (cyclesOf x) =
+        f ∙ (λ k. readNumber (pick (eq-eqb (length mask) 4096 size k) (pick (lt-ltb address 4096 inside k) (withTiming x (back x y i reads k)) (refused 5)) (refused 1))) in
+        rw (read, ← named-kept form a b i m) (gives x y small i reads)
+
+    by-name : (d : Meant) → named form a b ≡ d → Gives r (kept form a b)
+    by-name nothing m = absurd (omega (arith, e ∙ ap (λ (d : Meant). writeNumber (writingBy d)) m))
+    by-name (one i) m = by-range i (inRange i) m refl (e ∙ ap (λ (d : Meant). writeNumber (writingBy d)) m)

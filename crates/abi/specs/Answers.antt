@@ -4,7 +4,7 @@ use Prim.Native.Nat.{ℕ, _+_, _*_, _/_, _%_, _^_}
 use mathlib.Core.List.{[]}
 use lib.ListN.{length, getD}
 use Rattle.rom.specs.Fetching as Fetching
-use Rattle.rom.specs.Fetching.{refused, unreadable, instruction}
+use Rattle.rom.specs.Fetching.{refused, faulted, instruction}
 use Rattle.rom.specs.Writing as Writing
 use Rattle.rom.specs.Writing.{writing}
 use Rattle.abi.specs.Forms.{Named, numbersOf, Meant, one, nothing, named}
@@ -17,10 +17,10 @@ packed refusal fault form a b size cycles =
 abbrev pub packedNamed : Named → ℕ → ℕ → ℕ
 packedNamed n size cycles = packed 0 0 (n .form) (n .a) (n .b) size cycles
 
--- "An instruction that cannot be read gives fault 1"; what is refused or cannot be read has 0 in all else
+-- what is refused or gives a fault has 0 in all else
 abbrev pub readNumber : Fetching.Answer → ℕ
 readNumber (refused n) = packed n 0 0 0 0 0 0
-readNumber unreadable = packed 0 1 0 0 0 0 0
+readNumber (faulted n) = packed 0 n 0 0 0 0 0
 readNumber (instruction i size cycles) = packedNamed (numbersOf i) size cycles
 
 -- the form, the operands and the length, as a host takes them out of an answer
@@ -42,6 +42,19 @@ packedBytes refusal count first second = refusal + 2 ^ 8 * count + 2 ^ 16 * firs
 
 abbrev pub writeNumber : Writing.Answer → ℕ
 writeNumber w = packedBytes (w .number) (length (w .bytes)) (getD (w .bytes) 0 0) (getD (w .bytes) 1 0)
+
+-- the refusal, the count and the bytes, as a host takes them out of an answer
+abbrev pub refusalOf : ℕ → ℕ
+refusalOf w = w % 2 ^ 8
+
+abbrev pub countOf : ℕ → ℕ
+countOf w = w / 2 ^ 8 % 2 ^ 8
+
+abbrev pub firstOf : ℕ → ℕ
+firstOf w = w / 2 ^ 16 % 2 ^ 8
+
+abbrev pub secondOf : ℕ → ℕ
+secondOf w = w / 2 ^ 24
 
 -- "3: .. in an instruction to be written: a field outside its pattern", also where the numbers name no instruction
 abbrev pub writingBy : Meant → Writing.Answer

@@ -144,21 +144,35 @@ branchNamed a b = listed (map (λ (k : Condition). I.Branch (record { 0 = b }) k
 unfoldable pub pairNamed : ℕ → ℕ → Meant
 pairNamed a b = when (ltb b 256) (listed (I.MovPairXX R1R0 (b % 16) (b / 16) ∷ I.MovPairXX R3R2 (b % 16) (b / 16) ∷ []) a)
 
--- what a form makes of its operands: nothing, a number in a, one of a few by a, or a target in b
-abbrev pub plain : Instruction → ℕ → ℕ → Meant
-plain i a b = one i
+-- a form: its instruction has no operand, a number in a, one of a few by a, a target in b, or both a and b
+pub data Form : Type 0 where
+  plain : Instruction → Form
+  number : (ℕ → Instruction) → Form
+  choice : List Instruction → Form
+  target : (ProgramAddress → Instruction) → Form
+  pair : Form
+  branch : Form
 
-abbrev pub number : (ℕ → Instruction) → ℕ → ℕ → Meant
-number f a b = one (f a)
+-- what a form makes of its operands
+abbrev pub meant : Form → ℕ → ℕ → Meant
+meant (plain i) a b = one i
+meant (number f) a b = one (f a)
+meant (choice is) a b = listed is a
+meant (target f) a b = one (f (record { 0 = b }))
+meant pair a b = pairNamed a b
+meant branch a b = branchNamed a b
 
-abbrev pub choice : List Instruction → ℕ → ℕ → Meant
-choice is a b = listed is a
-
-abbrev pub target : (ProgramAddress → Instruction) → ℕ → ℕ → Meant
-target f a b = one (f (record { 0 = b }))
+-- the numbers of the form n with the operands that it has, 0 for one that it does not have
+abbrev pub having : Form → ℕ → ℕ → ℕ → Named
+having (plain i) n a b = numbers n 0 0
+having (number f) n a b = numbers n a 0
+having (choice is) n a b = numbers n a 0
+having (target f) n a b = numbers n 0 b
+having pair n a b = numbers n a b
+having branch n a b = numbers n a b
 
 -- the forms by their numbers
-unfoldable pub forms : List (ℕ → ℕ → Meant)
+unfoldable pub forms : List Form
 forms =
     plain I.AddAM ∷ plain I.AdcAM ∷ plain I.SubAM ∷ plain I.SbcAM
     ∷ number I.AddAX ∷ number I.SubAX ∷ plain I.Daa
@@ -169,11 +183,11 @@ forms =
     ∷ plain I.DecA ∷ number I.DecR ∷ choice (I.DecM R1R0 ∷ I.DecM R3R2 ∷ [])
     ∷ number I.MovAR ∷ number I.MovRA
     ∷ choice (I.MovAM R1R0 ∷ I.MovAM R3R2 ∷ []) ∷ choice (I.MovMA R1R0 ∷ I.MovMA R3R2 ∷ [])
-    ∷ number I.MovAX ∷ pairNamed
+    ∷ number I.MovAX ∷ pair
     ∷ number I.MovR4X
     ∷ plain I.RlA ∷ plain I.RlcA ∷ plain I.RrA ∷ plain I.RrcA
     ∷ choice (I.InA Pm ∷ I.InA Ps ∷ I.InA Pp ∷ []) ∷ plain I.OutPaA
-    ∷ target I.Jmp ∷ branchNamed
+    ∷ target I.Jmp ∷ branch
     ∷ target I.Call
     ∷ plain I.Ret ∷ plain I.Reti
     ∷ plain I.Clc ∷ plain I.Stc ∷ plain I.Ei
@@ -185,6 +199,14 @@ forms =
     ∷ plain I.Halt
     ∷ []
 
+-- past the last form there is nothing to choose
+abbrev pub formAt : ℕ → Form
+formAt n = getD forms n (choice [])
+
 unfoldable pub named : ℕ → ℕ → ℕ → Meant
 unfolding forms
-named form a b = getD forms form (λ (a b : ℕ). nothing) a b
+named form a b = meant (formAt form) a b
+
+-- what is left of three numbers: the operands that the form has
+abbrev pub kept : ℕ → ℕ → ℕ → Named
+kept form a b = having (formAt form) form a b

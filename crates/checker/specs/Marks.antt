@@ -3,6 +3,7 @@ use Prim.Native.Nat.{ℕ}
 use mathlib.Core.List.{List, [], _∷_, _++_}
 use lib.Dec.{eqb}
 use Rattle.isa.specs.Choice.{pick}
+use Rattle.isa.specs.Reading.{faultNumber}
 use Rattle.rom.specs.Fetching.{readAt, movedFrom, branchTo}
 use Rattle.isa.specs.declared.decoder.Decoded.{Decoded}
 use Rattle.isa.specs.declared.decoder.Decoded.the-variants.{Read, Unreadable}
@@ -51,7 +52,7 @@ flowAt mask a = flowRead (readAt mask a)
 
 -- "it cannot be read, is CALL in level 1 or 2, or is RET or RETI in level 0": fault 1, 2 or 3, and 0 where there is none
 abbrev pub faultIn : Flow → ℕ → ℕ
-faultIn Unread l = 1
+faultIn Unread l = faultNumber Unreadable
 faultIn On l = 0
 faultIn Enable l = 0
 faultIn (Jump t) l = 0

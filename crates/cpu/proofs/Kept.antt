@@ -1,7 +1,7 @@
 -- A step keeps a machine in its ranges, where every byte of the mask is below 256. Each value that an effect stores is a constant, a
--- remainder, a value of the machine in the same range, the AND, OR or XOR of two nibbles, half of a byte, two nibbles put together, or a
--- field of the instruction; and `sound` says that the fields of what two bytes read as are in range. A step changes only a machine with
--- neither halt nor fault, and sets at most one of the two, so that it never halts with a fault. Assumes nothing.
+-- remainder, a nibble made of bits, a value of the machine in the same range, the AND, OR or XOR of two nibbles, half of a byte, two
+-- nibbles put together, or a field of the instruction; and `sound` says that the fields of what two bytes read as are in range. A step
+-- changes only a machine with neither halt nor fault, and sets at most one of the two, so that it never halts with a fault. Assumes nothing.
 use Prim.Native.Nat.{ℕ, _+_, _*_, _/_, _%_, _<_, _^_}
 use native.Mathlib.Omega.{arith}
 use mathlib.Core.Path.{_≡_, refl}
@@ -27,7 +27,7 @@ use Rattle.isa.specs.declared.Condition.the-variants.{Ja, JnzR0, JnzR1, JnzR4, 
 use Rattle.isa.specs.declared.Instruction.{Instruction}
 use Rattle.isa.specs.declared.Instruction.the-variants as I
 use Rattle.isa.proofs.Exact.{and-left, and-right, sound}
-use Rattle.datapath.specs.Alu.{flag, summed, adjusted}
+use Rattle.datapath.specs.Alu.{flag, nibbleOf, summed, adjusted}
 use Rattle.datapath.specs.Timer.{clocks, counted}
 use Rattle.datapath.specs.declared.alu.Sum.{Sum}
 use Rattle.datapath.specs.declared.timer.Count.{Count}
@@ -46,6 +46,9 @@ low n = omega arith
 
 odd : (n : ℕ) → n % 2 < 2
 odd n = omega arith
+
+bits : (a b c d : ℕ) → nibbleOf (a % 2) (b % 2) (c % 2) (d % 2) < 16
+bits a b c d = omega arith
 
 high : (n : ℕ) → n < 256 → n / 16 < 16
 high n h = omega arith
@@ -195,10 +198,10 @@ module _ (mask : List ℕ) (s : State) (b : Bytes mask) (v : Valid s) (e : s .cp
   effect-valid (I.MovAX d) r = to-acc (ltb-true d 16 r)
   effect-valid (I.MovPairXX p x y) r = on (pair-in (v .cpu) p x y r)
   effect-valid (I.MovR4X d) r = on (r4-in (v .cpu) d (ltb-true d 16 r))
-  effect-valid I.RlA r = sum (record { value = low _; carry = odd _ })
-  effect-valid I.RlcA r = sum (record { value = low _; carry = odd _ })
-  effect-valid I.RrA r = sum (record { value = low _; carry = odd _ })
-  effect-valid I.RrcA r = sum (record { value = low _; carry = odd _ })
+  effect-valid I.RlA r = sum (record { value = bits _ _ _ _; carry = odd _ })
+  effect-valid I.RlcA r = sum (record { value = bits _ _ _ _; carry = odd _ })
+  effect-valid I.RrA r = sum (record { value = bits _ _ _ _; carry = odd _ })
+  effect-valid I.RrcA r = sum (record { value = bits _ _ _ _; carry = odd _ })
   effect-valid (I.InA p) r = to-acc (port-in (v .cpu) p)
   effect-valid I.OutPaA r = on (pa-in (v .cpu) _ acc)
   effect-valid (I.Jmp t) r = on (pc-in (v .cpu) t (ltb-true (t .0) 4096 r))

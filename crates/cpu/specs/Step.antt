@@ -4,6 +4,7 @@ use mathlib.Core.Bool.{Bool, not, _&&_}
 use mathlib.Core.List.{List}
 use lib.Dec.{eqb}
 use Rattle.isa.specs.Choice.{pick}
+use Rattle.isa.specs.Reading.{faultNumber}
 use Rattle.rom.specs.Fetching.{readAt, lengthAt, cyclesAt, movedBy}
 use Rattle.isa.specs.declared.Instruction.{Instruction}
 use Rattle.isa.specs.declared.decoder.Decoded.{Decoded}
@@ -31,7 +32,7 @@ entered vector c =
 
 -- "PC moves on by the length, modulo 4,096, before the effect"
 abbrev pub moved : ℕ → Cpu → Cpu
-moved length c = withPc (address (movedBy length (c .control .pc .0))) c
+moved size c = withPc (address (movedBy size (c .control .pc .0))) c
 
 -- "A fault leaves the machine as before that instruction, with the fault set", and no cycles are spent
 abbrev pub settled : ℕ → State → State → State
@@ -40,8 +41,8 @@ settled n before after =
 
 -- "An instruction that cannot be read gives fault 1"
 abbrev pub instructed : List ℕ → Decoded → ℕ → ℕ → State → State
-instructed mask (Read i) length cycles s = settled cycles s (effect mask i (onCpu (moved length) s))
-instructed mask Unreadable length cycles s = onCpu (withFault 1) s
+instructed mask (Read i) size cycles s = settled cycles s (effect mask i (onCpu (moved size) s))
+instructed mask Unreadable size cycles s = onCpu (withFault (faultNumber Unreadable)) s
 
 -- "Otherwise one instruction runs"
 unfoldable pub executed : List ℕ → State → State

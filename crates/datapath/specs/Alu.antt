@@ -1,4 +1,4 @@
--- Document 01, "Effects". A carry is 0 or 1. Assumes nothing.
+-- Document 01, "Effects", and for the rotates document 001. A carry is 0 or 1. Assumes nothing.
 use Prim.Native.Nat.{ℕ, _+_, _-_, _*_, _/_, _%_, _^_}
 use mathlib.Core.Bool.{Bool, true, false, not, _||_}
 use lib.Dec.{ltb, eqb}
@@ -22,18 +22,30 @@ subtracted a b c = summed a (15 - b) c
 abbrev pub adjusted : ℕ → ℕ → Sum
 adjusted a c = pick (ltb 9 a || eqb c 1) (record { value = (a + 6) % 16; carry = 1 }) (record { value = a; carry = c })
 
--- "RL and RR copy the bit that goes round into CF; RLC and RRC go through CF"
+-- bit n of a number
+abbrev pub bit : ℕ → ℕ → ℕ
+bit n a = a / 2 ^ n % 2
+
+-- a nibble by its bits, bit 3 first
+abbrev pub nibbleOf : ℕ → ℕ → ℕ → ℕ → ℕ
+nibbleOf a₃ a₂ a₁ a₀ = 8 * a₃ + 4 * a₂ + 2 * a₁ + a₀
+
+-- The rotates by document 001's lines "Operation", n being 0, 1, 2; CF is bit 0 of its byte
+-- RL: "An+1 <- An, A0 <- A3, CF <- A3"
 abbrev pub rotatedLeft : ℕ → Sum
-rotatedLeft a = record { value = (a * 2 + a / 8) % 16; carry = a / 8 % 2 }
+rotatedLeft a = record { value = nibbleOf (bit 2 a) (bit 1 a) (bit 0 a) (bit 3 a); carry = bit 3 a }
 
+-- RLC: "An+1 <- An, A0 <- CF, CF <- A3"
 abbrev pub rotatedLeftThrough : ℕ → ℕ → Sum
-rotatedLeftThrough a c = record { value = (a * 2 + c) % 16; carry = a / 8 % 2 }
+rotatedLeftThrough a c = record { value = nibbleOf (bit 2 a) (bit 1 a) (bit 0 a) (bit 0 c); carry = bit 3 a }
 
+-- RR: "An <- An+1, A3 <- A0, CF <- A0"
 abbrev pub rotatedRight : ℕ → Sum
-rotatedRight a = record { value = (a / 2 + a % 2 * 8) % 16; carry = a % 2 }
+rotatedRight a = record { value = nibbleOf (bit 0 a) (bit 3 a) (bit 2 a) (bit 1 a); carry = bit 0 a }
 
+-- RRC: "An <- An+1, A3 <- CF, CF <- A0"
 abbrev pub rotatedRightThrough : ℕ → ℕ → Sum
-rotatedRightThrough a c = record { value = (a / 2 + c * 8) % 16; carry = a % 2 }
+rotatedRightThrough a c = record { value = nibbleOf (bit 0 c) (bit 3 a) (bit 2 a) (bit 1 a); carry = bit 0 a }
 
 -- INC and DEC, modulo 16
 abbrev pub incremented : ℕ → ℕ
@@ -44,7 +56,7 @@ decremented a = (a + 15) % 16
 
 -- JAn: bit n of ACC is 1, n being 0 to 3
 abbrev pub bitSet : ℕ → ℕ → Bool
-bitSet a n = eqb (a / 2 ^ (n % 4) % 2) 1
+bitSet a n = eqb (bit (n % 4) a) 1
 
 -- JNZ
 abbrev pub notZero : ℕ → Bool

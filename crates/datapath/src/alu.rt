@@ -60,9 +60,10 @@ pub fn decimal_adjust(a: u8, carry: u8) -> Sum
 pub fn rotate_left(a: u8) -> Sum
     ensures { λ r. ⌜ r ≡ rotatedLeft a ⌝ }
 {
+    let n = a % 16;
     Sum {
-        value: ((a as u16 * 2 + a as u16 / 8) % 16) as u8,
-        carry: a / 8 % 2,
+        value: n * 2 % 16 + n / 8,
+        carry: n / 8,
     }
 }
 
@@ -70,9 +71,10 @@ pub fn rotate_left(a: u8) -> Sum
 pub fn rotate_left_through(a: u8, carry: u8) -> Sum
     ensures { λ r. ⌜ r ≡ rotatedLeftThrough a carry ⌝ }
 {
+    let n = a % 16;
     Sum {
-        value: ((a as u16 * 2 + carry as u16) % 16) as u8,
-        carry: a / 8 % 2,
+        value: n * 2 % 16 + carry % 2,
+        carry: n / 8,
     }
 }
 
@@ -80,9 +82,10 @@ pub fn rotate_left_through(a: u8, carry: u8) -> Sum
 pub fn rotate_right(a: u8) -> Sum
     ensures { λ r. ⌜ r ≡ rotatedRight a ⌝ }
 {
+    let n = a % 16;
     Sum {
-        value: (a / 2 + a % 2 * 8) % 16,
-        carry: a % 2,
+        value: n / 2 + n % 2 * 8,
+        carry: n % 2,
     }
 }
 
@@ -90,9 +93,10 @@ pub fn rotate_right(a: u8) -> Sum
 pub fn rotate_right_through(a: u8, carry: u8) -> Sum
     ensures { λ r. ⌜ r ≡ rotatedRightThrough a carry ⌝ }
 {
+    let n = a % 16;
     Sum {
-        value: ((a as u16 / 2 + carry as u16 * 8) % 16) as u8,
-        carry: a % 2,
+        value: n / 2 + carry % 2 * 8,
+        carry: n % 2,
     }
 }
 

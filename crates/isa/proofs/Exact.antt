@@ -200,7 +200,7 @@ below (suc n) f = f 0 && below n (λ (k : ℕ). f (suc k))
 
 -- i's fields are in range and its bytes are s; and its columns are c
 abbrev good : Columns → Instruction → List ℕ → Bool
-good c i s = inRange i && same (bytesOf i) s && (eqb (c .length) (columnsOf i .length) && eqb (c .cycles) (columnsOf i .cycles))
+good c i s = inRange i && same (bytesOf i) s && (eqb (c .bytes) (columnsOf i .bytes) && eqb (c .cycles) (columnsOf i .cycles))
 
 abbrev right : ℕ → Entry → Bool
 right a none = true
@@ -246,12 +246,12 @@ pub record Made (c : Columns) (a b : ℕ) (i : Instruction) : Type 0 where
 
 made : (c : Columns) (a b : ℕ) (i : Instruction) (s : List ℕ) → good c i s ≡ true → take (length s) (a ∷ b ∷ []) ≡ s → Made c a b i
 made c a b i s g e =
-    let coded : inRange i && same (bytesOf i) s ≡ true = and-left (inRange i && same (bytesOf i) s) (eqb (c .length) (columnsOf i .length) && eqb (c .cycles) (columnsOf i .cycles)) g in
-    let timed : eqb (c .length) (columnsOf i .length) && eqb (c .cycles) (columnsOf i .cycles) ≡ true = and-right (inRange i && same (bytesOf i) s) (eqb (c .length) (columnsOf i .length) && eqb (c .cycles) (columnsOf i .cycles)) g in
+    let coded : inRange i && same (bytesOf i) s ≡ true = and-left (inRange i && same (bytesOf i) s) (eqb (c .bytes) (columnsOf i .bytes) && eqb (c .cycles) (columnsOf i .cycles)) g in
+    let timed : eqb (c .bytes) (columnsOf i .bytes) && eqb (c .cycles) (columnsOf i .cycles) ≡ true = and-right (inRange i && same (bytesOf i) s) (eqb (c .bytes) (columnsOf i .bytes) && eqb (c .cycles) (columnsOf i .cycles)) g in
     let p : bytesOf i ≡ s = same-is (bytesOf i) s (and-right (inRange i) (same (bytesOf i) s) coded) in
-    let l : c .length ≡ columnsOf i .length = eqb-true _ _ (and-left (eqb (c .length) (columnsOf i .length)) (eqb (c .cycles) (columnsOf i .cycles)) timed) in
-    let n : c .cycles ≡ columnsOf i .cycles = eqb-true _ _ (and-right (eqb (c .length) (columnsOf i .length)) (eqb (c .cycles) (columnsOf i .cycles)) timed) in
-    record { reads = record { fields = and-left (inRange i) (same (bytesOf i) s) coded; bytes = rw p e }; timed = λ k. record { length = l k; cycles = n k } }
+    let l : c .bytes ≡ columnsOf i .bytes = eqb-true _ _ (and-left (eqb (c .bytes) (columnsOf i .bytes)) (eqb (c .cycles) (columnsOf i .cycles)) timed) in
+    let n : c .cycles ≡ columnsOf i .cycles = eqb-true _ _ (and-right (eqb (c .bytes) (columnsOf i .bytes)) (eqb (c .cycles) (columnsOf i .cycles)) timed) in
+    record { reads = record { fields = and-left (inRange i) (same (bytesOf i) s) coded; bytes = rw p e }; timed = λ k. record { bytes = l k; cycles = n k } }
 
 same-read : {i j : Instruction} → Read i ≡ Read j → i ≡ j
 same-read e = cc

@@ -15,8 +15,8 @@ pub length-at : (a : ℕ) → getD entries a 0 / 16 ≡ lengthOf a
 unfolding entries columnsOf columnsAt map
 length-at a =
     sym (List·getD-map (λ (x : ℕ). x / 16) entries a 0)
-    ∙ part (λ (x : ℕ). x / 16) (λ (e : Entry). entryColumns e .length) refl a
-    ∙ List·getD-map (λ (e : Entry). entryColumns e .length) map a none
+    ∙ part (λ (x : ℕ). x / 16) (λ (e : Entry). entryColumns e .bytes) refl a
+    ∙ List·getD-map (λ (e : Entry). entryColumns e .bytes) map a none
 
 pub cycles-at : (a : ℕ) → getD entries a 0 % 16 ≡ cyclesOf a
 unfolding entries columnsOf columnsAt map

@@ -26,10 +26,24 @@ pub record Reads (a b : ℕ) (i : Instruction) : Type 0 where
   pub fields : inRange i ≡ true
   pub bytes : take (length (bytesOf i)) (a ∷ b ∷ []) ≡ bytesOf i
 
--- what each answer of the decoder says of the bytes: they read as i, or as no instruction ("cannot be read")
+-- document 01's fault for each answer of the decoder, 0 for none: "An instruction that cannot be read gives fault 1"
+abbrev pub faultNumber : Decoded → ℕ
+faultNumber (Read i) = 0
+faultNumber Unreadable = 1
+
+-- the answer is an instruction, and the bytes read as it
+abbrev pub ReadAs : ℕ → ℕ → Decoded → Type 0
+ReadAs a b (Read i) = Reads a b i
+ReadAs a b Unreadable = ⊥
+
+-- what an answer says of the bytes, by its fault: 0, they read as its instruction; 1, they read as none. Bytes alone give no other fault
+abbrev pub Faulting : ℕ → ℕ → Decoded → ℕ → Type 0
+Faulting a b d zero = ReadAs a b d
+Faulting a b d (suc zero) = (i : Instruction) → Reads a b i → ⊥
+Faulting a b d (suc (suc n)) = ⊥
+
 abbrev pub Reading : ℕ → ℕ → Decoded → Type 0
-Reading a b (Read i) = Reads a b i
-Reading a b Unreadable = (i : Instruction) → Reads a b i → ⊥
+Reading a b d = Faulting a b d (faultNumber d)
 
 -- what a first byte leaves to its second
 pub data Entry : Type 0 where

@@ -9,11 +9,11 @@ use Rattle.isa.specs.declared.Instruction.{Instruction}
 use Rattle.isa.specs.declared.Instruction.the-variants as I
 
 pub record Columns : Type 0 where
-  pub length : ℕ
+  pub bytes : ℕ
   pub cycles : ℕ
 
 abbrev pub columns : ℕ → ℕ → Columns
-columns l c = record { length = l; cycles = c }
+columns l c = record { bytes = l; cycles = c }
 
 -- the summary, in its order: Byte, then Cycle
 unfoldable pub columnsOf : Instruction → Columns
@@ -95,14 +95,14 @@ unfoldable pub columnsAt : ℕ → Columns
 columnsAt a = entryColumns (getD map a none)
 
 abbrev pub lengthOf : ℕ → ℕ
-lengthOf a = columnsAt a .length
+lengthOf a = columnsAt a .bytes
 
 abbrev pub cyclesOf : ℕ → ℕ
 cyclesOf a = columnsAt a .cycles
 
 -- an entry in one byte: the length in the high nibble, the cycles in the low one
 abbrev pub packed : Columns → ℕ
-packed c = 16 * c .length + c .cycles
+packed c = 16 * c .bytes + c .cycles
 
 abbrev pub entriesOf : List Entry → List ℕ
 entriesOf [] = []

@@ -5,7 +5,7 @@ use mathlib.Core.List.{List}
 use lib.Dec.{ltb, eqb}
 use lib.ListN.{length, getD}
 use Rattle.isa.specs.Choice.{pick}
-use Rattle.isa.specs.Reading.{decoded}
+use Rattle.isa.specs.Reading.{faultNumber, decoded}
 use Rattle.isa.specs.Timing.{lengthOf, cyclesOf}
 use Rattle.isa.specs.declared.Instruction.{Instruction}
 use Rattle.isa.specs.declared.ProgramAddress.{ProgramAddress}
@@ -35,7 +35,7 @@ cyclesAt mask a = cyclesOf (byteAt mask a)
 
 -- "PC moves on by the length, modulo 4,096": the moved address
 abbrev pub movedBy : ℕ → ℕ → ℕ
-movedBy length a = (a + length) % 4096
+movedBy size a = (a + size) % 4096
 
 abbrev pub movedFrom : List ℕ → ℕ → ℕ
 movedFrom mask a = movedBy (lengthAt mask a) a
@@ -44,23 +44,24 @@ movedFrom mask a = movedBy (lengthAt mask a) a
 abbrev pub branchTo : ℕ → ProgramAddress → ℕ
 branchTo moved t = moved / 2048 * 2048 + t .0 % 2048
 
--- what stands at an address: refused with a number, no instruction, or an instruction with its length and cycles
+-- what stands at an address: refused with a number, a fault, or an instruction with its length and cycles
 pub data Answer : Type 0 where
   refused : ℕ → Answer
-  unreadable : Answer
+  faulted : ℕ → Answer
   instruction : Instruction → ℕ → ℕ → Answer
 
--- the number and the values of each answer: 1 "mask not 4,096 bytes", 5 "address to read at over 4,095"
+-- the number and the values of each answer: 1 "mask not 4,096 bytes", 5 "address to read at over 4,095"; a fault
+-- for what cannot be read
 abbrev pub answerOf : Fetched → Answer
 answerOf BadMask = refused 1
 answerOf BadAddress = refused 5
-answerOf Unread = unreadable
+answerOf Unread = faulted (faultNumber Unreadable)
 answerOf (Fetch i l c) = instruction i l c
 
 -- a reading with the list's entry for its first byte
 abbrev pub withTiming : ℕ → Decoded → Answer
 withTiming first (Read i) = instruction i (lengthOf first) (cyclesOf first)
-withTiming first Unreadable = unreadable
+withTiming first Unreadable = faulted (faultNumber Unreadable)
 
 abbrev pub standing : List ℕ → ℕ → Answer
 standing mask a = withTiming (byteAt mask a) (readAt mask a)
