@@ -14,7 +14,7 @@ passed mask old marks c = go (c .verdict) (c .answers) (c .number)
   where
     go : (v : Verdict) → Answers mask old marks v → 0 ≡ verdictNumber v → Answers mask old marks Passed
     go Passed w e = w
-    go (Failed f a l) w e = absurd (w .2 .not-zero (omega (arith, e)))
+    go (Failed f a l) w e = absurd (w .1 .not-zero (omega (arith, e)))
     go BadMask w e = absurd (omega (arith, e))
     go BadMarks w e = absurd (omega (arith, e))
 
