@@ -11,24 +11,9 @@ Inv-loop fd stored number₀ number = number ≤ stored
 abbrev μ-loop : tie.MeasureT-loop
 μ-loop fd stored number₀ number = stored - number
 
-loop-holds : tie.Need-loop-holds Inv-loop μ-loop
-loop-holds c = omega arith
-
-put-stored-requires : tie.Need-put-stored-requires Inv-loop μ-loop
-put-stored-requires c κs = search needs
-
-add-number : tie.Need-add-number Inv-loop μ-loop
-add-number c = omega arith
-
-loop-less : tie.Need-loop-less Inv-loop μ-loop
-loop-less c = omega arith
-
-loop-again : tie.Need-loop-again Inv-loop μ-loop
-loop-again c = omega arith
-
-returns : tie.Need-returns Inv-loop μ-loop
-returns c = search needs
-
 pub put-all-stored-spec : {M : Type 1} → statement M
 put-all-stored-spec =
-    tie.close (tie.spec Inv-loop μ-loop loop-holds put-stored-requires add-number loop-less loop-again returns)
+    tie.close
+    (tie.spec
+    Inv-loop μ-loop (λ c. omega arith) (λ c κs. search needs) (λ c. omega arith) (λ c. omega arith) (λ c. omega arith)
+    (λ c. search needs))

@@ -26,18 +26,6 @@ returns c = (search needs, rw (ne-eqb _ 4096 (c .if1 .taken)) refl)
 returns-2 : tie.Need-returns-2
 returns-2 c = (search needs, rw (eq-eqb _ 4096 (c .before .if1 .left), ne-eqb _ 4096 (c .if2 .taken)) refl)
 
-reach-requires : tie.Need-reach-requires
-reach-requires c κs = search needs
-
-pack-requires : tie.Need-pack-requires
-pack-requires c κs = search needs
-
-judge-requires : tie.Need-judge-requires
-judge-requires c κs = search needs
-
-same-length : tie.Need-same-length
-same-length c = search needs
-
 returns-3 : tie.Need-returns-3
 returns-3 c =
     let r = c .before .before .before .before .before .before .before in
@@ -50,4 +38,5 @@ returns-3 c =
 pub check-spec : {M : Type 1} → statement M
 check-spec =
     tie.close
-    (tie.spec returns returns-2 reach-requires pack-requires judge-requires same-length returns-3)
+    (tie.spec
+    returns returns-2 (λ c κs. search needs) (λ c κs. search needs) (λ c κs. search needs) (λ c. search needs) returns-3)

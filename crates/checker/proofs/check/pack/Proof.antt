@@ -28,18 +28,6 @@ more seen marks i l h f a b =
 loop-holds : tie.Need-loop-holds Inv-loop μ-loop
 loop-holds c = (omega arith, c .pre .0, λ a h. absurd (omega arith))
 
-mul-code : tie.Need-mul-code Inv-loop μ-loop
-mul-code c = omega arith
-
-element-copy-out-marks : tie.Need-element-copy-out-marks Inv-loop μ-loop
-element-copy-out-marks c = omega arith
-
-add-marks : tie.Need-add-marks Inv-loop μ-loop
-add-marks c = omega arith
-
-element-copy-out-marks-2 : tie.Need-element-copy-out-marks-2 Inv-loop μ-loop
-element-copy-out-marks-2 c = omega arith
-
 mul-marks : tie.Need-mul-marks Inv-loop μ-loop
 mul-marks c =
     let l = c .before .before .before in
@@ -53,12 +41,6 @@ add-marks-2 c =
     let f = l .before .pre .1 in
     let a = l .loop .address in
     omega (arith, f (a * 3), f (a * 3 + 1), f (a * 3 + 2))
-
-add-marks-3 : tie.Need-add-marks-3 Inv-loop μ-loop
-add-marks-3 c = omega arith
-
-element-copy-out-marks-3 : tie.Need-element-copy-out-marks-3 Inv-loop μ-loop
-element-copy-out-marks-3 c = omega arith
 
 mul-marks-2 : tie.Need-mul-marks-2 Inv-loop μ-loop
 mul-marks-2 c =
@@ -74,15 +56,6 @@ add-marks-4 c =
     let a = l .loop .address in
     omega (arith, f (a * 3), f (a * 3 + 1), f (a * 3 + 2))
 
-slice-write-marks : tie.Need-slice-write-marks Inv-loop μ-loop
-slice-write-marks c = omega arith
-
-add-address : tie.Need-add-address Inv-loop μ-loop
-add-address c = omega arith
-
-loop-less : tie.Need-loop-less Inv-loop μ-loop
-loop-less c = omega arith
-
 loop-again : tie.Need-loop-again Inv-loop μ-loop
 loop-again c =
     let l = c .before .before .before .before in
@@ -93,9 +66,6 @@ loop-again c =
       more s (l .loop .marks) (l .loop .address) (i .1) (c .before .before .before .loop-test .taken) (i .2),
     )
 
-same-length : tie.Need-same-length Inv-loop μ-loop
-same-length c = omega arith
-
 returns : tie.Need-returns Inv-loop μ-loop
 returns c =
     let l = c .before in
@@ -105,22 +75,6 @@ pub pack-spec : {M : Type 1} → statement M
 pack-spec =
     tie.close
     (tie.spec
-    Inv-loop
-    μ-loop
-    loop-holds
-    mul-code
-    element-copy-out-marks
-    add-marks
-    element-copy-out-marks-2
-    mul-marks
-    add-marks-2
-    add-marks-3
-    element-copy-out-marks-3
-    mul-marks-2
-    add-marks-4
-    slice-write-marks
-    add-address
-    loop-less
-    loop-again
-    same-length
-    returns)
+    Inv-loop μ-loop loop-holds (λ c. omega arith) (λ c. omega arith) (λ c. omega arith) (λ c. omega arith) mul-marks add-marks-2
+    (λ c. omega arith) (λ c. omega arith) mul-marks-2 add-marks-4 (λ c. omega arith) (λ c. omega arith) (λ c. omega arith) loop-again
+    (λ c. omega arith) returns)

@@ -16,30 +16,9 @@ read-at c =
     let second = c .before .byte-at2 in
     met (s .args .mask .now) (s .args .code / levels) (first .result) (second .result) (c .decode .result) (first .ensures) (second .ensures) (omega (arith, second)) (c .decode .ensures)
 
-byte-at-requires : tie.Need-byte-at-requires
-byte-at-requires c κs = search needs
-
-add-byte-at : tie.Need-add-byte-at
-add-byte-at c = search needs
-
-byte-at-requires-2 : tie.Need-byte-at-requires-2
-byte-at-requires-2 c κs = search needs
-
-decode-requires : tie.Need-decode-requires
-decode-requires c κs = search needs
-
-enum-known-instruction : tie.Need-enum-known-instruction
-enum-known-instruction c = search needs
-
-enum-told : tie.Need-enum-told
-enum-told c = search needs
-
 returns : tie.Need-returns
 unfolding flowAt
 returns c = ap flowRead (sym (c .enum-told .given .1) ∙ read-at (c .before .before))
-
-flow-of-requires : tie.Need-flow-of-requires
-flow-of-requires c κs = search needs
 
 returns-2 : tie.Need-returns-2
 unfolding flowAt
@@ -49,12 +28,5 @@ pub flow-at-spec : {M : Type 1} → statement M
 flow-at-spec =
     tie.close
     (tie.spec
-    byte-at-requires
-    add-byte-at
-    byte-at-requires-2
-    decode-requires
-    enum-known-instruction
-    enum-told
-    returns
-    flow-of-requires
-    returns-2)
+    (λ c κs. search needs) (λ c. search needs) (λ c κs. search needs) (λ c κs. search needs) (λ c. search needs) (λ c. search needs)
+    returns (λ c κs. search needs) returns-2)

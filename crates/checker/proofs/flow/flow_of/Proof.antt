@@ -32,24 +32,6 @@ goes-on ret h = absurd (miss others (tagOf the-type I.Ret) tt h)
 goes-on reti h = absurd (miss others (tagOf the-type I.Reti) tt h)
 goes-on ei h = absurd (miss others (tagOf the-type I.Ei) tt h)
 
-enum-known-instruction : tie.Need-enum-known-instruction
-enum-known-instruction c = search needs
-
-enum-known-instruction-2 : tie.Need-enum-known-instruction-2
-enum-known-instruction-2 c = search needs
-
-enum-known-instruction-3 : tie.Need-enum-known-instruction-3
-enum-known-instruction-3 c = search needs
-
-enum-told : tie.Need-enum-told
-enum-told c = search needs
-
-enum-told-2 : tie.Need-enum-told-2
-enum-told-2 c = search needs
-
-enum-told-3 : tie.Need-enum-told-3
-enum-told-3 c = search needs
-
 -- JMP
 returns : tie.Need-returns
 unfolding flowOf view
@@ -89,16 +71,5 @@ pub flow-of-spec : {M : Type 1} → statement M
 flow-of-spec =
     tie.close
     (tie.spec
-    enum-known-instruction
-    enum-known-instruction-2
-    enum-known-instruction-3
-    enum-told
-    enum-told-2
-    enum-told-3
-    returns
-    returns-2
-    returns-3
-    returns-4
-    returns-5
-    returns-6
-    returns-7)
+    (λ c. search needs) (λ c. search needs) (λ c. search needs) (λ c. search needs) (λ c. search needs) (λ c. search needs) returns
+    returns-2 returns-3 returns-4 returns-5 returns-6 returns-7)

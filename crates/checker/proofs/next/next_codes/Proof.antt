@@ -55,86 +55,17 @@ back l = go (eqb (faultIn Back l) 0)
     go true = refl
     go false = refl
 
-byte-at-requires : tie.Need-byte-at-requires
-byte-at-requires c κs = search needs
-
-cast-moved-by : tie.Need-cast-moved-by
-cast-moved-by c = search needs
-
-element-copy-out-moved-by : tie.Need-element-copy-out-moved-by
-element-copy-out-moved-by c = search needs
-
-moved-by-requires : tie.Need-moved-by-requires
-moved-by-requires c κs = search needs
-
-flow-at-requires : tie.Need-flow-at-requires
-flow-at-requires c κs = search needs
-
-enum-told : tie.Need-enum-told
-enum-told c = search needs
-
-enum-told-2 : tie.Need-enum-told-2
-enum-told-2 c = search needs
-
-mul-t18 : tie.Need-mul-t18
-mul-t18 c = search needs
-
-add-t19 : tie.Need-add-t19
-add-t19 c = search needs
-
-enum-told-3 : tie.Need-enum-told-3
-enum-told-3 c = search needs
-
-mul-t20 : tie.Need-mul-t20
-mul-t20 c = search needs
-
-add-t21 : tie.Need-add-t21
-add-t21 c = search needs
-
-enum-known-flow : tie.Need-enum-known-flow
-enum-known-flow c = search needs
-
 mul-t22 : tie.Need-mul-t22
 mul-t22 c = let t = c .before .before .flow .given in let h = target (c .before .before .before .before) (Jump (t .0 .0)) (t .1) in omega arith
 
 add-t23 : tie.Need-add-t23
 add-t23 c = let t = c .before .before .flow .given in let h = target (c .before .before .before .before) (Jump (t .0 .0)) (t .1) in omega arith
 
-enum-known-flow-2 : tie.Need-enum-known-flow-2
-enum-known-flow-2 c = search needs
-
-mul-t24 : tie.Need-mul-t24
-mul-t24 c = search needs
-
-add-t25 : tie.Need-add-t25
-add-t25 c = search needs
-
-mul-t27 : tie.Need-mul-t27
-mul-t27 c = search needs
-
-add-t29 : tie.Need-add-t29
-add-t29 c = search needs
-
-mul-t30 : tie.Need-mul-t30
-mul-t30 c = search needs
-
-add-t31 : tie.Need-add-t31
-add-t31 c = search needs
-
-enum-known-flow-3 : tie.Need-enum-known-flow-3
-enum-known-flow-3 c = search needs
-
 mul-t34 : tie.Need-mul-t34
 mul-t34 c = let t = c .before .before .before .flow3 .given in let h = target (c .before .before .before .before .before) (Sub (t .0 .0)) (t .1) in omega arith
 
 add-t35 : tie.Need-add-t35
 add-t35 c = let t = c .before .before .before .flow3 .given in let h = target (c .before .before .before .before .before) (Sub (t .0 .0)) (t .1) in omega arith
-
-mul-t36 : tie.Need-mul-t36
-mul-t36 c = search needs
-
-enum-told-4 : tie.Need-enum-told-4
-enum-told-4 c = search needs
 
 -- no instruction
 returns : tie.Need-returns
@@ -172,38 +103,8 @@ pub next-codes-spec : {M : Type 1} → statement M
 next-codes-spec =
     tie.close
     (tie.spec
-    byte-at-requires
-    cast-moved-by
-    element-copy-out-moved-by
-    moved-by-requires
-    flow-at-requires
-    enum-told
-    enum-told-2
-    mul-t18
-    add-t19
-    enum-told-3
-    mul-t20
-    add-t21
-    enum-known-flow
-    mul-t22
-    add-t23
-    enum-known-flow-2
-    mul-t24
-    add-t25
-    mul-t27
-    add-t29
-    mul-t30
-    add-t31
-    enum-known-flow-3
-    mul-t34
-    add-t35
-    mul-t36
-    enum-told-4
-    returns
-    returns-2
-    returns-3
-    returns-4
-    returns-5
-    returns-6
-    returns-7
-    returns-8)
+    (λ c κs. search needs) (λ c. search needs) (λ c. search needs) (λ c κs. search needs) (λ c κs. search needs) (λ c. search needs)
+    (λ c. search needs) (λ c. search needs) (λ c. search needs) (λ c. search needs) (λ c. search needs) (λ c. search needs)
+    (λ c. search needs) mul-t22 add-t23 (λ c. search needs) (λ c. search needs) (λ c. search needs) (λ c. search needs)
+    (λ c. search needs) (λ c. search needs) (λ c. search needs) (λ c. search needs) mul-t34 add-t35 (λ c. search needs)
+    (λ c. search needs) returns returns-2 returns-3 returns-4 returns-5 returns-6 returns-7 returns-8)

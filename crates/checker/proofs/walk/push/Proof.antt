@@ -6,26 +6,14 @@ use borrow.Author.Needs.{needs}
 use Rattle.checker.proofs.walk.push.Statement.{statement}
 use Rattle.checker.proofs.walk.push.Tie as tie
 
-element-copy-out-if1 : tie.Need-element-copy-out-if1
-element-copy-out-if1 c = search needs
-
 returns : tie.Need-returns
 returns c =
     let a = c .before .before .args in push-old (work (a .seen .now) (a .queue .now) (a .tail)) (a .code) (c .if1 .taken)
-
-element-write-seen : tie.Need-element-write-seen
-element-write-seen c = search needs
-
-mul-queue : tie.Need-mul-queue
-mul-queue c = search needs
 
 element-write-queue : tie.Need-element-write-queue
 element-write-queue c =
     let s = c .before .before in
     room-left (s .args .seen .now) (s .args .tail) (s .args .code) (s .pre .1) (s .pre .0) (c .if1 .left)
-
-add-result : tie.Need-add-result
-add-result c = search needs
 
 returns-2 : tie.Need-returns-2
 returns-2 c =
@@ -35,10 +23,4 @@ pub push-spec : {M : Type 1} → statement M
 push-spec =
     tie.close
     (tie.spec
-    element-copy-out-if1
-    returns
-    element-write-seen
-    mul-queue
-    element-write-queue
-    add-result
-    returns-2)
+    (λ c. search needs) returns (λ c. search needs) (λ c. search needs) element-write-queue (λ c. search needs) returns-2)

@@ -35,12 +35,6 @@ unfolding pushedAll
 three-pushed w u v x s a b c e p q r =
     r ∙ ap (λ (x : Work). pushed x c) (q ∙ ap (λ (x : Work). pushed x b) p) ∙ ap (λ (d : Codes). pushedAll w (codesOf d)) (sym e)
 
-enum-told : tie.Need-enum-told
-enum-told c = search needs
-
-enum-known-codes : tie.Need-enum-known-codes
-enum-known-codes c = search needs
-
 push-requires : tie.Need-push-requires
 push-requires c κs =
     let s = c .before .before .before .before .before in
@@ -48,9 +42,6 @@ push-requires c κs =
     let k = c .before .before .before .codes .given in
     let h = small (a .codes) (One (k .0 .0)) (k .1) (s .pre .0) in
     (h .0, s .pre .1)
-
-enum-known-codes-2 : tie.Need-enum-known-codes-2
-enum-known-codes-2 c = search needs
 
 push-requires-2 : tie.Need-push-requires-2
 push-requires-2 c κs =
@@ -68,9 +59,6 @@ push-requires-3 c κs =
     let p2 = c .before .before .push2 in
     let h = small (a .codes) (Two (k .0 .0) (k .0 .1 .0)) (k .1) (s .pre .0) in
     (h .1 .0, room-after (work (a .seen .now) (a .queue .now) (a .tail)) (work (p2 .last .0) (p2 .last .1 .0) (p2 .result)) (k .0 .0) (p2 .ensures) (s .pre .1) (h .0))
-
-enum-known-codes-3 : tie.Need-enum-known-codes-3
-enum-known-codes-3 c = search needs
 
 push-requires-4 : tie.Need-push-requires-4
 push-requires-4 c κs =
@@ -137,17 +125,5 @@ pub push-all-spec : {M : Type 1} → statement M
 push-all-spec =
     tie.close
     (tie.spec
-    enum-told
-    enum-known-codes
-    push-requires
-    enum-known-codes-2
-    push-requires-2
-    push-requires-3
-    enum-known-codes-3
-    push-requires-4
-    push-requires-5
-    push-requires-6
-    returns
-    returns-2
-    returns-3
-    returns-4)
+    (λ c. search needs) (λ c. search needs) push-requires (λ c. search needs) push-requires-2 push-requires-3 (λ c. search needs)
+    push-requires-4 push-requires-5 push-requires-6 returns returns-2 returns-3 returns-4)

@@ -18,12 +18,6 @@ Inv-loop mask entries seen₀ queue₀ head₀ tail₀ seen queue head tail = Wa
 abbrev μ-loop : tie.MeasureT-loop
 μ-loop mask entries seen₀ queue₀ head₀ tail₀ seen queue head tail = pairs - head
 
-list-requires : tie.Need-list-requires Inv-loop μ-loop
-list-requires c κs = search needs
-
-array-write-seen : tie.Need-array-write-seen Inv-loop μ-loop
-array-write-seen c = omega arith
-
 loop-holds : tie.Need-loop-holds Inv-loop μ-loop
 loop-holds c =
     let len = length-replicate {A = ℕ} pairs 0 in
@@ -73,17 +67,5 @@ pub reach-spec : {M : Type 1} → statement M
 reach-spec =
     tie.close
     (tie.spec
-    Inv-loop
-    μ-loop
-    list-requires
-    array-write-seen
-    loop-holds
-    cast-at
-    mul-next-codes
-    array-read-next-codes
-    next-codes-requires
-    push-all-requires
-    add-head
-    loop-less
-    loop-again
-    returns)
+    Inv-loop μ-loop (λ c κs. search needs) (λ c. omega arith) loop-holds cast-at mul-next-codes array-read-next-codes
+    next-codes-requires push-all-requires add-head loop-less loop-again returns)

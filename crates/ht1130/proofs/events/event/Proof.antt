@@ -6,16 +6,10 @@ use borrow.Author.Needs.{needs}
 use Rattle.ht1130.proofs.events.event.Statement.{statement}
 use Rattle.ht1130.proofs.events.event.Tie as tie
 
-event-of-requires : tie.Need-event-of-requires
-event-of-requires c κs = search needs
-
-apply-named-requires : tie.Need-apply-named-requires
-apply-named-requires c κs = search needs
-
 returns : tie.Need-returns
 returns c =
     let a = c .before .before .before .args in
     c .apply-named .ensures ∙ ap (λ (n : Named). namedAnswer (a .mask .now) n (a .machine)) (c .before .event-of .ensures)
 
 pub event-spec : {M : Type 1} → statement M
-event-spec = tie.close (tie.spec event-of-requires apply-named-requires returns)
+event-spec = tie.close (tie.spec (λ c κs. search needs) (λ c κs. search needs) returns)

@@ -8,9 +8,6 @@ use Rattle.ht1130_tools.proofs.Small.{small}
 use Rattle.ht1130_tools.proofs.scripts.ht1130_check_script.Statement.{statement}
 use Rattle.ht1130_tools.proofs.scripts.ht1130_check_script.Tie as tie
 
-check-script-requires : tie.Need-check-script-requires
-check-script-requires c κs = search needs
-
 packed-requires : tie.Need-packed-requires
 packed-requires c κs =
     let x = c .before .before .before .args in
@@ -20,4 +17,4 @@ returns : tie.Need-returns
 returns c = c .packed .ensures ∙ ap scriptNumber (c .before .check-script .ensures)
 
 pub ht1130-check-script-spec : {M : Type 1} → statement M
-ht1130-check-script-spec = tie.close (tie.spec check-script-requires packed-requires returns)
+ht1130-check-script-spec = tie.close (tie.spec (λ c κs. search needs) packed-requires returns)

@@ -18,16 +18,10 @@ fits mask s old new k e = subst (λ (n : ℕ). n ≤ 65535) (sym (ap (λ (a : Ap
 ran : (a : Applied) (new : List ℕ) (k : Checked) (r : ℕ) → leaving k new ≡ a → r ≡ scriptNumber k → Ran a new r
 ran a new k r e f = record { number = f ∙ ap (λ (b : Applied). scriptNumber (b .answer)) e; bytes = ap (λ (b : Applied). b .bytes) e }
 
-apply-script-requires : tie.Need-apply-script-requires
-apply-script-requires c κs = search needs
-
 packed-requires : tie.Need-packed-requires
 packed-requires c κs =
     let x = c .before .before .before .before .before .before .before .args in
     fits (x .mask .now) (x .script .now) (x .out .now) (c .before .before .apply-script .last .1 .1 .0) (c .before .before .apply-script .result) (c .before .before .apply-script .ensures)
-
-same-length : tie.Need-same-length
-same-length c = search needs
 
 returns : tie.Need-returns
 returns c =
@@ -36,4 +30,4 @@ returns c =
     ran (applied (x .mask .now) (x .script .now) (x .out .now)) (a .last .1 .1 .0) (a .result) (c .packed .result) (a .ensures) (c .packed .ensures)
 
 pub ht1130-run-script-spec : {M : Type 1} → statement M
-ht1130-run-script-spec = tie.close (tie.spec apply-script-requires packed-requires same-length returns)
+ht1130-run-script-spec = tie.close (tie.spec (λ c κs. search needs) packed-requires (λ c. search needs) returns)

@@ -6,23 +6,14 @@ use borrow.Author.Needs.{needs}
 use Rattle.machine.proofs.Machine.apply.Statement.{statement}
 use Rattle.machine.proofs.Machine.apply.Tie as tie
 
-enum-told : tie.Need-enum-told
-enum-told c = search needs
-
-reset-requires : tie.Need-reset-requires
-reset-requires c κs = search needs
-
-happen-requires : tie.Need-happen-requires
-happen-requires c κs = search needs
-
 returns : tie.Need-returns
 unfolding applied happened refusalOf maskOk valuesOk
 returns c =
     let a = c .before .before .before .before .args in
     c .reset .ensures ∙ sym (ap (λ (e : Event). applied (a .mask .now) e (a .self)) (c .before .enum-told .given .1))
 
-returns-2 : tie.Need-returns-2
-returns-2 c = search needs
-
 pub apply-spec : {M : Type 1} → statement M
-apply-spec = tie.close (tie.spec enum-told reset-requires happen-requires returns returns-2)
+apply-spec =
+    tie.close
+    (tie.spec
+    (λ c. search needs) (λ c κs. search needs) (λ c κs. search needs) returns (λ c. search needs))

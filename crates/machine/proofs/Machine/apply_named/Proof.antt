@@ -6,18 +6,6 @@ use borrow.Author.Needs.{needs}
 use Rattle.machine.proofs.Machine.apply_named.Statement.{statement}
 use Rattle.machine.proofs.Machine.apply_named.Tie as tie
 
-enum-known-named : tie.Need-enum-known-named
-enum-known-named c = search needs
-
-apply-requires : tie.Need-apply-requires
-apply-requires c κs = search needs
-
-enum-told : tie.Need-enum-told
-enum-told c = search needs
-
-unknown-requires : tie.Need-unknown-requires
-unknown-requires c κs = search needs
-
 returns : tie.Need-returns
 returns c =
     let a = c .before .before .before .before .before .args in
@@ -29,4 +17,7 @@ returns-2 c =
     c .unknown .ensures ∙ sym (ap (λ (n : Named). namedAnswer (a .mask .now) n (a .self)) (c .before .enum-told .given .1))
 
 pub apply-named-spec : {M : Type 1} → statement M
-apply-named-spec = tie.close (tie.spec enum-known-named apply-requires enum-told unknown-requires returns returns-2)
+apply-named-spec =
+    tie.close
+    (tie.spec
+    (λ c. search needs) (λ c κs. search needs) (λ c. search needs) (λ c κs. search needs) returns returns-2)

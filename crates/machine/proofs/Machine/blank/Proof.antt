@@ -10,12 +10,9 @@ use borrow.Author.Needs.{needs}
 use Rattle.machine.proofs.Machine.blank.Statement.{statement}
 use Rattle.machine.proofs.Machine.blank.Tie as tie
 
-after-res-requires : tie.Need-after-res-requires
-after-res-requires c κs = search needs
-
 returns : tie.Need-returns
 unfolding blank
 returns c = ap (λ (k : Cpu). machineOf (state k (replicate 160 0))) (c .after-res .ensures)
 
 pub blank-spec : {M : Type 1} → statement M
-blank-spec = tie.close (tie.spec after-res-requires returns)
+blank-spec = tie.close (tie.spec (λ c κs. search needs) returns)

@@ -25,9 +25,6 @@ sized o image e = go (eqb (length image) 166) (eqb-true (length image) 166) e
     go true f z = f refl
     go false f z = absurd (omega arith)
 
-power-refusal-requires : tie.Need-power-refusal-requires
-power-refusal-requires c κs = search needs
-
 returns : tie.Need-returns
 unfolding powerOn
 returns c =
@@ -44,4 +41,4 @@ returns-2 c =
     done (c .before .before .power-refusal .result) (powered (a .options) (a .image .now)) (a .self) (c .before .if1 .left) (c .before .before .power-refusal .ensures) (c .powered .ensures)
 
 pub power-on-spec : {M : Type 1} → statement M
-power-on-spec = tie.close (tie.spec power-refusal-requires returns powered-requires returns-2)
+power-on-spec = tie.close (tie.spec (λ c κs. search needs) returns powered-requires returns-2)

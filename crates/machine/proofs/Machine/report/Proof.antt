@@ -10,15 +10,6 @@ returns : tie.Need-returns
 unfolding report
 returns c = rw (ne-eqb _ 48 (c .if1 .taken)) refl
 
-sound-requires : tie.Need-sound-requires
-sound-requires c κs = search needs
-
-write-report-requires : tie.Need-write-report-requires
-write-report-requires c κs = search needs
-
-same-length : tie.Need-same-length
-same-length c = search needs
-
 returns-2 : tie.Need-returns-2
 unfolding report
 returns-2 c =
@@ -32,4 +23,5 @@ returns-3 c = rw (eq-eqb _ 48 (c .before .before .before .before .before .if1 .l
 pub report-spec : {M : Type 1} → statement M
 report-spec =
     tie.close
-    (tie.spec returns sound-requires write-report-requires same-length returns-2 returns-3)
+    (tie.spec
+    returns (λ c κs. search needs) (λ c κs. search needs) (λ c. search needs) returns-2 returns-3)

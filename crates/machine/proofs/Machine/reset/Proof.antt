@@ -8,12 +8,6 @@ use borrow.Author.Needs.{needs}
 use Rattle.machine.proofs.Machine.reset.Statement.{statement}
 use Rattle.machine.proofs.Machine.reset.Tie as tie
 
-sound-requires : tie.Need-sound-requires
-sound-requires c κs = search needs
-
-reset-cpu-requires : tie.Need-reset-cpu-requires
-reset-cpu-requires c κs = search needs
-
 returns : tie.Need-returns
 unfolding happened maskOk valuesOk refusalOf applied
 returns c =
@@ -26,4 +20,4 @@ unfolding happened maskOk valuesOk refusalOf applied
 returns-2 c = rw (sym (c .before .sound .ensures) ∙ c .if1 .left) refl
 
 pub reset-spec : {M : Type 1} → statement M
-reset-spec = tie.close (tie.spec sound-requires reset-cpu-requires returns returns-2)
+reset-spec = tie.close (tie.spec (λ c κs. search needs) (λ c κs. search needs) returns returns-2)

@@ -9,17 +9,11 @@ use borrow.Author.Needs.{needs}
 use Rattle.machine.proofs.Machine.step.Statement.{statement}
 use Rattle.machine.proofs.Machine.step.Tie as tie
 
-refusal-requires : tie.Need-refusal-requires
-refusal-requires c κs = search needs
-
 returns : tie.Need-returns
 unfolding applied happened ran
 returns c =
     let a = c .before .before .before .before .before .before .args in
     refused (c .before .refusal .result) {k = refusalOf (a .mask .now) (Run 1) (a .t1)} (happened (a .mask .now) (Run 1) (a .t1)) (a .t1) (c .if1 .taken) (c .before .refusal .ensures)
-
-step-requires : tie.Need-step-requires
-step-requires c κs = search needs
 
 returns-2 : tie.Need-returns-2
 unfolding applied happened ran
@@ -29,4 +23,4 @@ returns-2 c =
     done (r .refusal .result) {k = refusalOf (a .mask .now) (Run 1) (a .t1)} (happened (a .mask .now) (Run 1) (a .t1)) (a .t1) (c .before .before .before .if1 .left) (r .refusal .ensures) (ap machineOf (c .step .ensures))
 
 pub step-spec : {M : Type 1} → statement M
-step-spec = tie.close (tie.spec refusal-requires returns step-requires returns-2)
+step-spec = tie.close (tie.spec (λ c κs. search needs) returns (λ c κs. search needs) returns-2)

@@ -4,9 +4,6 @@ use borrow.Author.Needs.{needs}
 use Rattle.machine.proofs.Machine.unknown.Statement.{statement}
 use Rattle.machine.proofs.Machine.unknown.Tie as tie
 
-sound-requires : tie.Need-sound-requires
-sound-requires c κs = search needs
-
 returns : tie.Need-returns
 returns c = rw (sym (c .before .sound .ensures) ∙ c .if1 .taken) refl
 
@@ -14,4 +11,4 @@ returns-2 : tie.Need-returns-2
 returns-2 c = rw (sym (c .before .sound .ensures) ∙ c .if1 .left) refl
 
 pub unknown-spec : {M : Type 1} → statement M
-unknown-spec = tie.close (tie.spec sound-requires returns returns-2)
+unknown-spec = tie.close (tie.spec (λ c κs. search needs) returns returns-2)

@@ -10,15 +10,6 @@ use borrow.Author.Needs.{needs}
 use Rattle.machine.proofs.events.counting.Statement.{statement}
 use Rattle.machine.proofs.events.counting.Tie as tie
 
-clocked-requires : tie.Need-clocked-requires
-clocked-requires c κs = search needs
-
-advance-requires : tie.Need-advance-requires
-advance-requires c κs = search needs
-
-timed-requires : tie.Need-timed-requires
-timed-requires c κs = search needs
-
 returns : tie.Need-returns
 unfolding counting
 returns c =
@@ -33,5 +24,4 @@ returns-2 c =
     ap (λ (b : Bool). pick b (timed (counted (a .c .timer .count) (a .n)) (a .c)) (a .c)) (sym (c .if1 .left) ∙ c .before .clocked .ensures)
 
 pub counting-spec : {M : Type 1} → statement M
-counting-spec =
-    tie.close (tie.spec clocked-requires advance-requires timed-requires returns returns-2)
+counting-spec = tie.close (tie.spec (λ c κs. search needs) (λ c κs. search needs) (λ c κs. search needs) returns returns-2)

@@ -22,36 +22,6 @@ on-cpu memory e = ap (λ (k : Cpu). machineOf (state k memory)) e
 at : (mask : List ℕ) (m : Machine) {e k : Event} {r : Machine} → r ≡ happened mask k m → e ≡ k → r ≡ happened mask e m
 at mask m p q = p ∙ sym (ap (λ (e : Event). happened mask e m) q)
 
-enum-known-event : tie.Need-enum-known-event
-enum-known-event c = search needs
-
-run-requires : tie.Need-run-requires
-run-requires c κs = search needs
-
-enum-known-event-2 : tie.Need-enum-known-event-2
-enum-known-event-2 c = search needs
-
-pinned-requires : tie.Need-pinned-requires
-pinned-requires c κs = search needs
-
-enum-known-event-3 : tie.Need-enum-known-event-3
-enum-known-event-3 c = search needs
-
-interrupted-requires : tie.Need-interrupted-requires
-interrupted-requires c κs = search needs
-
-enum-known-event-4 : tie.Need-enum-known-event-4
-enum-known-event-4 c = search needs
-
-counting-requires : tie.Need-counting-requires
-counting-requires c κs = search needs
-
-enum-told : tie.Need-enum-told
-enum-told c = search needs
-
-reset-cpu-requires : tie.Need-reset-cpu-requires
-reset-cpu-requires c κs = search needs
-
 returns : tie.Need-returns
 unfolding happened
 returns c =
@@ -86,18 +56,6 @@ pub happened-spec : {M : Type 1} → statement M
 happened-spec =
     tie.close
     (tie.spec
-    enum-known-event
-    run-requires
-    enum-known-event-2
-    pinned-requires
-    enum-known-event-3
-    interrupted-requires
-    enum-known-event-4
-    counting-requires
-    enum-told
-    reset-cpu-requires
-    returns
-    returns-2
-    returns-3
-    returns-4
+    (λ c. search needs) (λ c κs. search needs) (λ c. search needs) (λ c κs. search needs) (λ c. search needs) (λ c κs. search needs)
+    (λ c. search needs) (λ c κs. search needs) (λ c. search needs) (λ c κs. search needs) returns returns-2 returns-3 returns-4
     returns-5)

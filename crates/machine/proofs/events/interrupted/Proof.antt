@@ -6,25 +6,13 @@ use borrow.Author.Needs.{needs}
 use Rattle.machine.proofs.events.interrupted.Statement.{statement}
 use Rattle.machine.proofs.events.interrupted.Tie as tie
 
-set-int-requires : tie.Need-set-int-requires
-set-int-requires c κs = search needs
-
 returns : tie.Need-returns
 unfolding interrupted
 returns c = c .set-int .ensures ∙ rw (ne-eqb _ 1 (c .before .if1 .taken)) refl
 
-set-int-requires-2 : tie.Need-set-int-requires-2
-set-int-requires-2 c κs = search needs
-
 returns-2 : tie.Need-returns-2
 unfolding interrupted
 returns-2 c = c .set-int2 .ensures ∙ rw (eq-eqb _ 1 (c .before .before .if1 .left), ne-eqb _ 0 (c .before .if2 .taken)) refl
-
-woken-requires : tie.Need-woken-requires
-woken-requires c κs = search needs
-
-set-int-requires-3 : tie.Need-set-int-requires-3
-set-int-requires-3 c κs = search needs
 
 returns-3 : tie.Need-returns-3
 unfolding interrupted
@@ -36,10 +24,4 @@ pub interrupted-spec : {M : Type 1} → statement M
 interrupted-spec =
     tie.close
     (tie.spec
-    set-int-requires
-    returns
-    set-int-requires-2
-    returns-2
-    woken-requires
-    set-int-requires-3
-    returns-3)
+    (λ c κs. search needs) returns (λ c κs. search needs) returns-2 (λ c κs. search needs) (λ c κs. search needs) returns-3)

@@ -8,24 +8,12 @@ use borrow.Author.Needs.{needs}
 use Rattle.machine.proofs.events.pinned.Statement.{statement}
 use Rattle.machine.proofs.events.pinned.Tie as tie
 
-wakes-requires : tie.Need-wakes-requires
-wakes-requires c κs = search needs
-
-woken-requires : tie.Need-woken-requires
-woken-requires c κs = search needs
-
-set-ports-requires : tie.Need-set-ports-requires
-set-ports-requires c κs = search needs
-
 returns : tie.Need-returns
 unfolding pinned
 returns c =
     let a = c .before .before .before .before .args in
     c .set-ports .ensures ∙ ap (withPorts (a .pm) (a .ps) (a .pp)) (c .before .woken .ensures)
     ∙ ap (λ (b : Bool). withPorts (a .pm) (a .ps) (a .pp) (pick b (woken (a .c)) (a .c))) (sym (c .before .before .if1 .taken) ∙ c .before .before .before .wakes .ensures)
-
-set-ports-requires-2 : tie.Need-set-ports-requires-2
-set-ports-requires-2 c κs = search needs
 
 returns-2 : tie.Need-returns-2
 unfolding pinned
@@ -38,9 +26,4 @@ pub pinned-spec : {M : Type 1} → statement M
 pinned-spec =
     tie.close
     (tie.spec
-    wakes-requires
-    woken-requires
-    set-ports-requires
-    returns
-    set-ports-requires-2
-    returns-2)
+    (λ c κs. search needs) (λ c κs. search needs) (λ c κs. search needs) returns (λ c κs. search needs) returns-2)

@@ -5,15 +5,6 @@ use borrow.Author.Needs.{needs}
 use Rattle.machine.proofs.events.refusal.Statement.{statement}
 use Rattle.machine.proofs.events.refusal.Tie as tie
 
-mask-ok-requires : tie.Need-mask-ok-requires
-mask-ok-requires c κs = search needs
-
-values-ok-requires : tie.Need-values-ok-requires
-values-ok-requires c κs = search needs
-
-sound-requires : tie.Need-sound-requires
-sound-requires c κs = search needs
-
 returns : tie.Need-returns
 unfolding refusalOf
 returns c = rw (
@@ -42,4 +33,7 @@ unfolding refusalOf
 returns-4 c = rw (sym (c .before .mask-ok .ensures) ∙ c .if1 .left) refl
 
 pub refusal-spec : {M : Type 1} → statement M
-refusal-spec = tie.close (tie.spec mask-ok-requires values-ok-requires sound-requires returns returns-2 returns-3 returns-4)
+refusal-spec =
+    tie.close
+    (tie.spec
+    (λ c κs. search needs) (λ c κs. search needs) (λ c κs. search needs) returns returns-2 returns-3 returns-4)

@@ -7,27 +7,6 @@ use borrow.Author.Needs.{needs}
 use Rattle.machine.proofs.events.values_ok.Statement.{statement}
 use Rattle.machine.proofs.events.values_ok.Tie as tie
 
-enum-told : tie.Need-enum-told
-enum-told c = search needs
-
-enum-known-event : tie.Need-enum-known-event
-enum-known-event c = search needs
-
-both-requires : tie.Need-both-requires
-both-requires c κs = search needs
-
-both-requires-2 : tie.Need-both-requires-2
-both-requires-2 c κs = search needs
-
-enum-known-event-2 : tie.Need-enum-known-event-2
-enum-known-event-2 c = search needs
-
-enum-told-2 : tie.Need-enum-told-2
-enum-told-2 c = search needs
-
-enum-told-3 : tie.Need-enum-told-3
-enum-told-3 c = search needs
-
 returns : tie.Need-returns
 unfolding valuesOk
 returns c = sym (ap valuesOk (c .enum-told .given .1))
@@ -51,4 +30,8 @@ unfolding valuesOk
 returns-5 c = sym (ap valuesOk (c .enum-told3 .given .1))
 
 pub values-ok-spec : {M : Type 1} → statement M
-values-ok-spec = tie.close (tie.spec enum-told enum-known-event both-requires both-requires-2 enum-known-event-2 enum-told-2 enum-told-3 returns returns-2 returns-3 returns-4 returns-5)
+values-ok-spec =
+    tie.close
+    (tie.spec
+    (λ c. search needs) (λ c. search needs) (λ c κs. search needs) (λ c κs. search needs) (λ c. search needs) (λ c. search needs)
+    (λ c. search needs) returns returns-2 returns-3 returns-4 returns-5)

@@ -26,21 +26,6 @@ from image i = ap (λ (k : ℕ). getD image k 0) (swap i) ∙ sym (getD-drop 6 i
 loop-holds : tie.Need-loop-holds Inv-loop μ-loop
 loop-holds c = (omega arith, length-replicate {A = ℕ} 160 0, refl)
 
-add-memory : tie.Need-add-memory Inv-loop μ-loop
-add-memory c = omega arith
-
-shared-slice-read-memory : tie.Need-shared-slice-read-memory Inv-loop μ-loop
-shared-slice-read-memory c = omega arith
-
-array-write-memory : tie.Need-array-write-memory Inv-loop μ-loop
-array-write-memory c = omega arith
-
-add-i : tie.Need-add-i Inv-loop μ-loop
-add-i c = omega arith
-
-loop-less : tie.Need-loop-less Inv-loop μ-loop
-loop-less c = omega arith
-
 loop-again : tie.Need-loop-again Inv-loop μ-loop
 loop-again c =
     let l = c .before .before in
@@ -59,4 +44,7 @@ returns c =
 
 pub image-memory-spec : {M : Type 1} → statement M
 image-memory-spec =
-    tie.close (tie.spec Inv-loop μ-loop loop-holds add-memory shared-slice-read-memory array-write-memory add-i loop-less loop-again returns)
+    tie.close
+    (tie.spec
+    Inv-loop μ-loop loop-holds (λ c. omega arith) (λ c. omega arith) (λ c. omega arith) (λ c. omega arith) (λ c. omega arith) loop-again
+    returns)

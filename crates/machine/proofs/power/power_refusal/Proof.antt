@@ -10,12 +10,6 @@ returns : tie.Need-returns
 unfolding powerRefusal
 returns c = rw (ne-eqb _ 166 (c .if1 .taken)) refl
 
-all-nibbles-requires : tie.Need-all-nibbles-requires
-all-nibbles-requires c κs = search needs
-
-options-ok-requires : tie.Need-options-ok-requires
-options-ok-requires c κs = search needs
-
 returns-2 : tie.Need-returns-2
 unfolding powerRefusal
 returns-2 c = rw (eq-eqb _ 166 (c .before .before .before .before .if1 .left), sym (c .before .before .before .all-nibbles .ensures) ∙ c .before .before .if2 .taken, sym (c .before .options-ok .ensures) ∙ c .if3 .taken) refl
@@ -29,6 +23,4 @@ unfolding powerRefusal
 returns-4 c = rw (eq-eqb _ 166 (c .before .before .if1 .left), sym (c .before .all-nibbles .ensures) ∙ c .if2 .left) refl
 
 pub power-refusal-spec : {M : Type 1} → statement M
-power-refusal-spec =
-    tie.close
-    (tie.spec returns all-nibbles-requires options-ok-requires returns-2 returns-3 returns-4)
+power-refusal-spec = tie.close (tie.spec returns (λ c κs. search needs) (λ c κs. search needs) returns-2 returns-3 returns-4)

@@ -42,18 +42,6 @@ end s i top h p = sym (p ∙ rw (drop-of-length-le s h) (alone (ltb top 16)))
 loop-holds : tie.Need-loop-holds Inv-loop μ-loop
 loop-holds c = (omega arith, refl)
 
-shared-slice-read-larger : tie.Need-shared-slice-read-larger Inv-loop μ-loop
-shared-slice-read-larger c = omega arith
-
-larger-requires : tie.Need-larger-requires Inv-loop μ-loop
-larger-requires c κs = search needs
-
-add-i : tie.Need-add-i Inv-loop μ-loop
-add-i c = omega arith
-
-loop-less : tie.Need-loop-less Inv-loop μ-loop
-loop-less c = omega arith
-
 loop-again : tie.Need-loop-again Inv-loop μ-loop
 loop-again c =
     let l = c .before .before .before in
@@ -63,4 +51,7 @@ returns : tie.Need-returns Inv-loop μ-loop
 returns c = end (c .before .before .before .args .s .now) (c .before .loop .i) (c .before .loop .top) (c .loop-test .left) (c .before .loop .inv .1)
 
 pub all-nibbles-spec : {M : Type 1} → statement M
-all-nibbles-spec = tie.close (tie.spec Inv-loop μ-loop loop-holds shared-slice-read-larger larger-requires add-i loop-less loop-again returns)
+all-nibbles-spec =
+    tie.close
+    (tie.spec
+    Inv-loop μ-loop loop-holds (λ c. omega arith) (λ c κs. search needs) (λ c. omega arith) (λ c. omega arith) loop-again returns)

@@ -23,57 +23,6 @@ joined y b8 b7 b6 b5 b4 b3 b2 b1 r k t i s u o p q {R} {K} {T} {I} {S} {U} {O} {
     let z : Q ≡ Q && y = and-true Q y e in
     cc
 
-outputs-ok-requires : tie.Need-outputs-ok-requires
-outputs-ok-requires c κs = search needs
-
-pins-ok-requires : tie.Need-pins-ok-requires
-pins-ok-requires c κs = search needs
-
-options-ok-requires : tie.Need-options-ok-requires
-options-ok-requires c κs = search needs
-
-both-requires : tie.Need-both-requires
-both-requires c κs = search needs
-
-both-requires-2 : tie.Need-both-requires-2
-both-requires-2 c κs = search needs
-
-interrupts-ok-requires : tie.Need-interrupts-ok-requires
-interrupts-ok-requires c κs = search needs
-
-stack-ok-requires : tie.Need-stack-ok-requires
-stack-ok-requires c κs = search needs
-
-status-ok-requires : tie.Need-status-ok-requires
-status-ok-requires c κs = search needs
-
-both-requires-3 : tie.Need-both-requires-3
-both-requires-3 c κs = search needs
-
-both-requires-4 : tie.Need-both-requires-4
-both-requires-4 c κs = search needs
-
-both-requires-5 : tie.Need-both-requires-5
-both-requires-5 c κs = search needs
-
-registers-ok-requires : tie.Need-registers-ok-requires
-registers-ok-requires c κs = search needs
-
-control-ok-requires : tie.Need-control-ok-requires
-control-ok-requires c κs = search needs
-
-timer-ok-requires : tie.Need-timer-ok-requires
-timer-ok-requires c κs = search needs
-
-both-requires-6 : tie.Need-both-requires-6
-both-requires-6 c κs = search needs
-
-both-requires-7 : tie.Need-both-requires-7
-both-requires-7 c κs = search needs
-
-both-requires-8 : tie.Need-both-requires-8
-both-requires-8 c κs = search needs
-
 returns : tie.Need-returns
 unfolding cpuOk
 returns c =
@@ -86,21 +35,7 @@ pub cpu-ok-spec : {M : Type 1} → statement M
 cpu-ok-spec =
     tie.close
     (tie.spec
-    outputs-ok-requires
-    pins-ok-requires
-    options-ok-requires
-    both-requires
-    both-requires-2
-    interrupts-ok-requires
-    stack-ok-requires
-    status-ok-requires
-    both-requires-3
-    both-requires-4
-    both-requires-5
-    registers-ok-requires
-    control-ok-requires
-    timer-ok-requires
-    both-requires-6
-    both-requires-7
-    both-requires-8
-    returns)
+    (λ c κs. search needs) (λ c κs. search needs) (λ c κs. search needs) (λ c κs. search needs) (λ c κs. search needs)
+    (λ c κs. search needs) (λ c κs. search needs) (λ c κs. search needs) (λ c κs. search needs) (λ c κs. search needs)
+    (λ c κs. search needs) (λ c κs. search needs) (λ c κs. search needs) (λ c κs. search needs) (λ c κs. search needs)
+    (λ c κs. search needs) (λ c κs. search needs) returns)

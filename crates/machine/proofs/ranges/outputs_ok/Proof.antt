@@ -4,15 +4,9 @@ use borrow.Author.Needs.{needs}
 use Rattle.machine.proofs.ranges.outputs_ok.Statement.{statement}
 use Rattle.machine.proofs.ranges.outputs_ok.Tie as tie
 
-both-requires : tie.Need-both-requires
-both-requires c κs = search needs
-
-both-requires-2 : tie.Need-both-requires-2
-both-requires-2 c κs = search needs
-
 returns : tie.Need-returns
 unfolding outputsOk
 returns c = cc
 
 pub outputs-ok-spec : {M : Type 1} → statement M
-outputs-ok-spec = tie.close (tie.spec both-requires both-requires-2 returns)
+outputs-ok-spec = tie.close (tie.spec (λ c κs. search needs) (λ c κs. search needs) returns)

@@ -4,18 +4,9 @@ use borrow.Author.Needs.{needs}
 use Rattle.machine.proofs.ranges.pins_ok.Statement.{statement}
 use Rattle.machine.proofs.ranges.pins_ok.Tie as tie
 
-both-requires : tie.Need-both-requires
-both-requires c κs = search needs
-
-both-requires-2 : tie.Need-both-requires-2
-both-requires-2 c κs = search needs
-
-both-requires-3 : tie.Need-both-requires-3
-both-requires-3 c κs = search needs
-
 returns : tie.Need-returns
 unfolding pinsOk
 returns c = cc
 
 pub pins-ok-spec : {M : Type 1} → statement M
-pins-ok-spec = tie.close (tie.spec both-requires both-requires-2 both-requires-3 returns)
+pins-ok-spec = tie.close (tie.spec (λ c κs. search needs) (λ c κs. search needs) (λ c κs. search needs) returns)

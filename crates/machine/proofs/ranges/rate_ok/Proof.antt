@@ -3,14 +3,8 @@ use borrow.Author.Needs.{needs}
 use Rattle.machine.proofs.ranges.rate_ok.Statement.{statement}
 use Rattle.machine.proofs.ranges.rate_ok.Tie as tie
 
-both-requires : tie.Need-both-requires
-both-requires c κs = search needs
-
-either-requires : tie.Need-either-requires
-either-requires c κs = search needs
-
 returns : tie.Need-returns
 returns c = cc
 
 pub rate-ok-spec : {M : Type 1} → statement M
-rate-ok-spec = tie.close (tie.spec both-requires either-requires returns)
+rate-ok-spec = tie.close (tie.spec (λ c κs. search needs) (λ c κs. search needs) returns)

@@ -16,19 +16,10 @@ met : (k : Cpu) (m : List ℕ) (x y : Bool) {b : Bool} → b ≡ x && y → x �
 unfolding valid memoryOk
 met k m x y e p q l = e ∙ ap₂ (λ (x y : Bool). x && y) p q ∙ rw (eq-eqb (length m) 160 l) refl
 
-cpu-ok-requires : tie.Need-cpu-ok-requires
-cpu-ok-requires c κs = search needs
-
-all-nibbles-requires : tie.Need-all-nibbles-requires
-all-nibbles-requires c κs = search needs
-
-both-requires : tie.Need-both-requires
-both-requires c κs = search needs
-
 returns : tie.Need-returns
 returns c =
     let s = c .before .before .before .before in
     met (s .args .cpu) (s .args .memory .now) _ _ (c .both .ensures) (c .before .before .before .cpu-ok .ensures) (c .before .all-nibbles .ensures) (s .pre)
 
 pub sound-spec : {M : Type 1} → statement M
-sound-spec = tie.close (tie.spec cpu-ok-requires all-nibbles-requires both-requires returns)
+sound-spec = tie.close (tie.spec (λ c κs. search needs) (λ c κs. search needs) (λ c κs. search needs) returns)

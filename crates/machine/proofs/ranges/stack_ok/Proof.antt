@@ -4,12 +4,9 @@ use borrow.Author.Needs.{needs}
 use Rattle.machine.proofs.ranges.stack_ok.Statement.{statement}
 use Rattle.machine.proofs.ranges.stack_ok.Tie as tie
 
-both-requires : tie.Need-both-requires
-both-requires c κs = search needs
-
 returns : tie.Need-returns
 unfolding stackOk
 returns c = cc
 
 pub stack-ok-spec : {M : Type 1} → statement M
-stack-ok-spec = tie.close (tie.spec both-requires returns)
+stack-ok-spec = tie.close (tie.spec (λ c κs. search needs) returns)

@@ -5,20 +5,13 @@ use mathlib.Core.List.{List}
 use native.Mathlib.Omega.{arith}
 use lib.ListN.{getD}
 use Rattle.machine.proofs.Reports.{in-heading, in-display}
-use borrow.Author.Needs.{needs}
 use Rattle.machine.proofs.report.report_byte.Statement.{statement}
 use Rattle.machine.proofs.report.report_byte.Tie as tie
-
-element-copy-out-result : tie.Need-element-copy-out-result
-element-copy-out-result c = omega arith
 
 returns : tie.Need-returns
 returns c =
     let a = c .before .before .args in
     ap (λ (l : List ℕ). getD l (a .k) 0) (c .before .before .pre .0) ∙ in-heading (a .cpu) (a .memory .now) (a .k) (c .before .if1 .taken)
-
-shown-requires : tie.Need-shown-requires
-shown-requires c κs = omega arith
 
 returns-2 : tie.Need-returns-2
 returns-2 c =
@@ -26,4 +19,4 @@ returns-2 c =
     c .shown .ensures ∙ in-display (a .cpu) (a .memory .now) (a .k) (c .before .if1 .left) (c .before .before .pre .1)
 
 pub report-byte-spec : {M : Type 1} → statement M
-report-byte-spec = tie.close (tie.spec element-copy-out-result returns shown-requires returns-2)
+report-byte-spec = tie.close (tie.spec (λ c. omega arith) returns (λ c κs. omega arith) returns-2)

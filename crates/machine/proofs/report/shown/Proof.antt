@@ -11,12 +11,6 @@ returns : tie.Need-returns
 unfolding shown
 returns c = rw (eq-eqb _ 1 (c .if1 .taken)) refl
 
-add-t6 : tie.Need-add-t6
-add-t6 c = search needs
-
-load-requires : tie.Need-load-requires
-load-requires c κs = search needs
-
 returns-2 : tie.Need-returns-2
 unfolding shown
 returns-2 c = ap (λ (x : ℕ). x % 8) (c .before .before .load .ensures) ∙ rw (ne-eqb _ 1 (c .before .before .before .if1 .left), eq-eqb _ 3 (c .if2 .taken)) refl
@@ -26,4 +20,4 @@ unfolding shown
 returns-3 c = c .before .before .load .ensures ∙ rw (ne-eqb _ 1 (c .before .before .before .if1 .left), ne-eqb _ 3 (c .if2 .left)) refl
 
 pub shown-spec : {M : Type 1} → statement M
-shown-spec = tie.close (tie.spec returns add-t6 load-requires returns-2 returns-3)
+shown-spec = tie.close (tie.spec returns (λ c. search needs) (λ c κs. search needs) returns-2 returns-3)

@@ -18,26 +18,11 @@ Inv-loop cpu memory out₀ first k₀ out k = (k ≤ 48) × (length out ≡ leng
 abbrev μ-loop : tie.MeasureT-loop
 μ-loop cpu memory out₀ first k₀ out k = 48 - k
 
-heading-requires : tie.Need-heading-requires Inv-loop μ-loop
-heading-requires c κs = search needs
-
 loop-holds : tie.Need-loop-holds Inv-loop μ-loop
 loop-holds c = (omega arith, refl, refl)
 
 report-byte-requires : tie.Need-report-byte-requires Inv-loop μ-loop
 report-byte-requires c κs = (c .before .before .before .heading .ensures, omega arith)
-
-cast-out : tie.Need-cast-out Inv-loop μ-loop
-cast-out c = omega arith
-
-slice-write-out : tie.Need-slice-write-out Inv-loop μ-loop
-slice-write-out c = omega arith
-
-add-k : tie.Need-add-k Inv-loop μ-loop
-add-k c = omega arith
-
-loop-less : tie.Need-loop-less Inv-loop μ-loop
-loop-less c = omega arith
 
 loop-again : tie.Need-loop-again Inv-loop μ-loop
 loop-again c =
@@ -61,4 +46,7 @@ returns c =
 
 pub write-report-spec : {M : Type 1} → statement M
 write-report-spec =
-    tie.close (tie.spec Inv-loop μ-loop heading-requires loop-holds report-byte-requires cast-out slice-write-out add-k loop-less loop-again same-length returns)
+    tie.close
+    (tie.spec
+    Inv-loop μ-loop (λ c κs. search needs) loop-holds report-byte-requires (λ c. omega arith) (λ c. omega arith) (λ c. omega arith)
+    (λ c. omega arith) loop-again same-length returns)

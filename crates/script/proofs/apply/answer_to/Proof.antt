@@ -7,21 +7,6 @@ use borrow.Author.Needs.{needs}
 use Rattle.script.proofs.apply.answer_to.Statement.{statement}
 use Rattle.script.proofs.apply.answer_to.Tie as tie
 
-enum-known-input : tie.Need-enum-known-input
-enum-known-input c = search needs
-
-slice-aggregate-power-on : tie.Need-slice-aggregate-power-on
-slice-aggregate-power-on c = search needs
-
-power-on-requires : tie.Need-power-on-requires
-power-on-requires c κs = search needs
-
-enum-known-input-2 : tie.Need-enum-known-input-2
-enum-known-input-2 c = search needs
-
-apply-named-requires : tie.Need-apply-named-requires
-apply-named-requires c κs = search needs
-
 returns : tie.Need-returns
 returns c =
     let a = c .before .before .before .before .before .before .args in
@@ -33,4 +18,7 @@ returns-2 c =
     c .apply-named .ensures ∙ sym (ap (λ (r : Record). answerTo (a .mask .now) (inputOf r) (a .machine)) (c .before .before .input2 .given .1))
 
 pub answer-to-spec : {M : Type 1} → statement M
-answer-to-spec = tie.close (tie.spec enum-known-input slice-aggregate-power-on power-on-requires enum-known-input-2 apply-named-requires returns returns-2)
+answer-to-spec =
+    tie.close
+    (tie.spec
+    (λ c. search needs) (λ c. search needs) (λ c κs. search needs) (λ c. search needs) (λ c κs. search needs) returns returns-2)

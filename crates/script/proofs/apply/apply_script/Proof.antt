@@ -20,9 +20,6 @@ module _ (mask s out : List ℕ) (k : Checked) (e : k ≡ checked mask s (length
   unfolding applied
   done z p = ap₂ leaving e p ∙ rw (eq-eqb _ 0 (sym (ap (λ (k : Checked). k .number) e) ∙ z)) refl
 
-check-script-requires : tie.Need-check-script-requires
-check-script-requires c κs = search needs
-
 returns : tie.Need-returns
 returns c =
     let k = c .before .before in
@@ -32,9 +29,6 @@ returns c =
 put-reports-requires : tie.Need-put-reports-requires
 put-reports-requires c κs = sym (ap (λ (k : Checked). k .number) (c .before .before .before .check-script .ensures)) ∙ c .before .if1 .left
 
-same-length : tie.Need-same-length
-same-length c = search needs
-
 returns-2 : tie.Need-returns-2
 returns-2 c =
     let else1 = c .before .before .before .before in
@@ -43,5 +37,4 @@ returns-2 c =
     done (a .mask .now) (a .script .now) (a .out .now) (k .check-script .result) (k .check-script .ensures) (else1 .if1 .left) (c .before .before .put-reports .ensures)
 
 pub apply-script-spec : {M : Type 1} → statement M
-apply-script-spec =
-    tie.close (tie.spec check-script-requires returns put-reports-requires same-length returns-2)
+apply-script-spec = tie.close (tie.spec (λ c κs. search needs) returns put-reports-requires (λ c. search needs) returns-2)

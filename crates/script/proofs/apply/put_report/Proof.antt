@@ -17,24 +17,6 @@ sized out at h = mid-len at (at + 48) out h ∙ end at
     end : (at : ℕ) → at + 48 - at ≡ 48
     end at = omega arith
 
-add-end : tie.Need-add-end
-add-end c = search needs
-
-sub-report : tie.Need-sub-report
-sub-report c = search needs
-
-part-report-start : tie.Need-part-report-start
-part-report-start c = search needs
-
-part-report-end : tie.Need-part-report-end
-part-report-end c = search needs
-
-report-requires : tie.Need-report-requires
-report-requires c κs = search needs
-
-same-length : tie.Need-same-length
-same-length c = search needs
-
 returns : tie.Need-returns
 returns c =
     let a = c .before .before .before .before .before .args in
@@ -48,10 +30,4 @@ pub put-report-spec : {M : Type 1} → statement M
 put-report-spec =
     tie.close
     (tie.spec
-    add-end
-    sub-report
-    part-report-start
-    part-report-end
-    report-requires
-    same-length
-    returns)
+    (λ c. search needs) (λ c. search needs) (λ c. search needs) (λ c. search needs) (λ c κs. search needs) (λ c. search needs) returns)

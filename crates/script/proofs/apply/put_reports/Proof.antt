@@ -19,17 +19,11 @@ Inv-loop mask script out₀ at₀ done₀ machine₀ out at done machine = Held 
 abbrev μ-loop : tie.MeasureT-loop
 μ-loop mask script out₀ at₀ done₀ machine₀ out at done machine = length script - at
 
-blank-requires : tie.Need-blank-requires Inv-loop μ-loop
-blank-requires c κs = search needs
-
 loop-holds : tie.Need-loop-holds Inv-loop μ-loop
 loop-holds c =
     let a = c .before .before .before .before .args in
     subst (λ (m : Machine). Held (a .mask .now) (a .script .now) (a .out .now) (a .out .now) 0 0 m) (sym (c .blank .ensures))
     (begins (a .mask .now) (a .script .now) (a .out .now) (c .before .before .before .before .pre))
-
-step-record-requires : tie.Need-step-record-requires Inv-loop μ-loop
-step-record-requires c κs = search needs
 
 put-report-requires : tie.Need-put-report-requires Inv-loop μ-loop
 put-report-requires c κs =
@@ -97,14 +91,5 @@ pub put-reports-spec : {M : Type 1} → statement M
 put-reports-spec =
     tie.close
     (tie.spec
-    Inv-loop
-    μ-loop
-    blank-requires
-    loop-holds
-    step-record-requires
-    put-report-requires
-    add-done
-    loop-less
-    loop-again
-    same-length
-    returns)
+    Inv-loop μ-loop (λ c κs. search needs) loop-holds (λ c κs. search needs) put-report-requires add-done loop-less loop-again
+    same-length returns)

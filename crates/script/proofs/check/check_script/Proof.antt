@@ -96,40 +96,25 @@ returns-2 c =
     let a = start1 (c .before) .args in
     sym (past1 (c .before) ∙ stop6 (a .mask .now) (a .script .now) (a .room) (c .if2 .taken))
 
-first-requires : tie.Need-first-requires
-first-requires c κs = search needs
-
 returns-3 : tie.Need-returns-3
 returns-3 c =
     let a = start2 (c .before .before .before) .args in
     sym (past6 (c .before .before .before) ∙ stop7 (a .mask .now) (a .script .now) (a .room) (c .before .before .first .ensures) (c .if3 .taken))
-
-kind-at-requires : tie.Need-kind-at-requires
-kind-at-requires c κs = search needs
 
 returns-4 : tie.Need-returns-4
 returns-4 c =
     let a = start3 (c .before .before) .args in
     sym (past7 (c .before .before) ∙ stop8 (a .mask .now) (a .script .now) (a .room) (λ z. c .if4 .taken (c .before .kind-at .ensures ∙ z)))
 
-first-requires-2 : tie.Need-first-requires-2
-first-requires-2 c κs = search needs
-
 returns-5 : tie.Need-returns-5
 returns-5 c =
     let a = start4 (c .before .before .before) .args in
     sym (past8 (c .before .before .before) ∙ stop3 (a .mask .now) (a .script .now) (a .room) (c .before .before .first2 .ensures) (c .if5 .taken))
 
-first-requires-3 : tie.Need-first-requires-3
-first-requires-3 c κs = search needs
-
 returns-6 : tie.Need-returns-6
 returns-6 c =
     let a = start5 (c .before .before .before) .args in
     sym (past3 (c .before .before .before) ∙ stop4 (a .mask .now) (a .script .now) (a .room) (c .before .before .first3 .ensures) (c .if6 .taken))
-
-count-requires : tie.Need-count-requires
-count-requires c κs = search needs
 
 -- there are fewer records than bytes
 mul-if7 : tie.Need-mul-if7
@@ -152,17 +137,5 @@ pub check-script-spec : {M : Type 1} → statement M
 check-script-spec =
     tie.close
     (tie.spec
-    returns
-    returns-2
-    first-requires
-    returns-3
-    kind-at-requires
-    returns-4
-    first-requires-2
-    returns-5
-    first-requires-3
-    returns-6
-    count-requires
-    mul-if7
-    returns-7
-    returns-8)
+    returns returns-2 (λ c κs. search needs) returns-3 (λ c κs. search needs) returns-4 (λ c κs. search needs) returns-5
+    (λ c κs. search needs) returns-6 (λ c κs. search needs) mul-if7 returns-7 returns-8)

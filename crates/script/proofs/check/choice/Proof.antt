@@ -9,20 +9,11 @@ use borrow.Author.Needs.{needs}
 use Rattle.script.proofs.check.choice.Statement.{statement}
 use Rattle.script.proofs.check.choice.Tie as tie
 
-enum-known-input : tie.Need-enum-known-input
-enum-known-input c = search needs
-
-options-ok-requires : tie.Need-options-ok-requires
-options-ok-requires c κs = search needs
-
 returns : tie.Need-returns
 unfolding choiceOf
 returns c =
     ap (λ (b : Bool). pick b 0 4) (sym (c .if1 .taken) ∙ c .before .options-ok .ensures)
     ∙ sym (ap (λ (r : Record). choiceOf (inputOf r)) (c .before .before .before .input .given .1))
-
-enum-told : tie.Need-enum-told
-enum-told c = search needs
 
 returns-2 : tie.Need-returns-2
 unfolding choiceOf
@@ -36,4 +27,6 @@ returns-3 c = sym (ap (λ (r : Record). choiceOf (inputOf r)) (c .enum-told .giv
 
 pub choice-spec : {M : Type 1} → statement M
 choice-spec =
-    tie.close (tie.spec enum-known-input options-ok-requires returns enum-told returns-2 returns-3)
+    tie.close
+    (tie.spec
+    (λ c. search needs) (λ c κs. search needs) returns (λ c. search needs) returns-2 returns-3)

@@ -15,12 +15,6 @@ Inv-loop rule s at₀ at = first (ruled rule s) (offsets s) ≡ first (ruled rul
 abbrev μ-loop : tie.MeasureT-loop
 μ-loop rule s at₀ at = length s - at
 
-loop-holds : tie.Need-loop-holds Inv-loop μ-loop
-loop-holds c = refl
-
-judged-requires : tie.Need-judged-requires Inv-loop μ-loop
-judged-requires c κs = omega arith
-
 returns : tie.Need-returns Inv-loop μ-loop
 returns c =
     let l = c .before .before .before in
@@ -28,18 +22,6 @@ returns c =
     let e = c .before .judged .ensures in
     ap (λ (n : ℕ). refused n (l .loop .at)) e
     ∙ sym (l .loop .inv ∙ first-bad (ruled (a .rule) (a .s .now)) (a .s .now) (l .loop .at) (c .before .before .loop-test .taken) (λ z. c .if1 .taken (e ∙ z)))
-
-add-at : tie.Need-add-at Inv-loop μ-loop
-add-at c = omega arith
-
-size-at-requires : tie.Need-size-at-requires Inv-loop μ-loop
-size-at-requires c κs = omega arith
-
-add-at-2 : tie.Need-add-at-2 Inv-loop μ-loop
-add-at-2 c = omega arith
-
-loop-less : tie.Need-loop-less Inv-loop μ-loop
-loop-less c = omega arith
 
 loop-again : tie.Need-loop-again Inv-loop μ-loop
 loop-again c =
@@ -58,14 +40,5 @@ pub first-spec : {M : Type 1} → statement M
 first-spec =
     tie.close
     (tie.spec
-    Inv-loop
-    μ-loop
-    loop-holds
-    judged-requires
-    returns
-    add-at
-    size-at-requires
-    add-at-2
-    loop-less
-    loop-again
-    returns-2)
+    Inv-loop μ-loop (λ c. refl) (λ c κs. omega arith) returns (λ c. omega arith) (λ c κs. omega arith) (λ c. omega arith)
+    (λ c. omega arith) loop-again returns-2)

@@ -7,28 +7,13 @@ use borrow.Author.Needs.{needs}
 use Rattle.script.proofs.check.format_at.Statement.{statement}
 use Rattle.script.proofs.check.format_at.Tie as tie
 
-add-if1 : tie.Need-add-if1
-add-if1 c = search needs
-
 returns : tie.Need-returns
 returns c = no-head (c .before .before .args .s .now) (c .before .before .args .at) (c .if1 .taken)
-
-size-at-requires : tie.Need-size-at-requires
-size-at-requires c κs = search needs
-
-add-if2 : tie.Need-add-if2
-add-if2 c = search needs
-
-add-if2-2 : tie.Need-add-if2-2
-add-if2-2 c = search needs
 
 returns-2 : tie.Need-returns-2
 returns-2 c =
     let a = c .before .before .before .before .args in
     no-payload (a .s .now) (a .at) (c .before .before .if1 .left) (omega arith)
-
-kind-at-requires : tie.Need-kind-at-requires
-kind-at-requires c κs = search needs
 
 returns-3 : tie.Need-returns-3
 returns-3 c =
@@ -39,9 +24,6 @@ returns-4 : tie.Need-returns-4
 returns-4 c =
     let a = c .before .before .before .before .before .before .before .args in
     kind-over (a .s .now) (a .at) (c .before .before .before .before .before .if1 .left) (omega arith) (omega arith) (omega arith)
-
-size-of-requires : tie.Need-size-of-requires
-size-of-requires c κs = search needs
 
 returns-5 : tie.Need-returns-5
 returns-5 c =
@@ -63,15 +45,5 @@ pub format-at-spec : {M : Type 1} → statement M
 format-at-spec =
     tie.close
     (tie.spec
-    add-if1
-    returns
-    size-at-requires
-    add-if2
-    add-if2-2
-    returns-2
-    kind-at-requires
-    returns-3
-    returns-4
-    size-of-requires
-    returns-5
-    returns-6)
+    (λ c. search needs) returns (λ c κs. search needs) (λ c. search needs) (λ c. search needs) returns-2 (λ c κs. search needs)
+    returns-3 returns-4 (λ c κs. search needs) returns-5 returns-6)

@@ -6,30 +6,6 @@ use borrow.Author.Needs.{needs}
 use Rattle.script.proofs.check.judged.Statement.{statement}
 use Rattle.script.proofs.check.judged.Tie as tie
 
-enum-told : tie.Need-enum-told
-enum-told c = search needs
-
-format-at-requires : tie.Need-format-at-requires
-format-at-requires c κs = search needs
-
-enum-told-2 : tie.Need-enum-told-2
-enum-told-2 c = search needs
-
-record-at-requires : tie.Need-record-at-requires
-record-at-requires c κs = search needs
-
-value-requires : tie.Need-value-requires
-value-requires c κs = search needs
-
-enum-told-3 : tie.Need-enum-told-3
-enum-told-3 c = search needs
-
-record-at-requires-2 : tie.Need-record-at-requires-2
-record-at-requires-2 c κs = search needs
-
-choice-requires : tie.Need-choice-requires
-choice-requires c κs = search needs
-
 returns : tie.Need-returns
 returns c =
     let a = c .before .before .before .before .args in
@@ -49,14 +25,5 @@ pub judged-spec : {M : Type 1} → statement M
 judged-spec =
     tie.close
     (tie.spec
-    enum-told
-    format-at-requires
-    enum-told-2
-    record-at-requires
-    value-requires
-    enum-told-3
-    record-at-requires-2
-    choice-requires
-    returns
-    returns-2
-    returns-3)
+    (λ c. search needs) (λ c κs. search needs) (λ c. search needs) (λ c κs. search needs) (λ c κs. search needs) (λ c. search needs)
+    (λ c κs. search needs) (λ c κs. search needs) returns returns-2 returns-3)

@@ -9,20 +9,11 @@ use borrow.Author.Needs.{needs}
 use Rattle.script.proofs.check.named_value.Statement.{statement}
 use Rattle.script.proofs.check.named_value.Tie as tie
 
-enum-known-named : tie.Need-enum-known-named
-enum-known-named c = search needs
-
-values-ok-requires : tie.Need-values-ok-requires
-values-ok-requires c κs = search needs
-
 returns : tie.Need-returns
 unfolding valueOf
 returns c =
     ap (λ (b : Bool). pick b 0 3) (sym (c .if1 .taken) ∙ c .before .values-ok .ensures)
     ∙ sym (ap (λ (n : Named). valueOf (named n)) (c .before .before .before .named .given .1))
-
-enum-told : tie.Need-enum-told
-enum-told c = search needs
 
 returns-2 : tie.Need-returns-2
 unfolding valueOf
@@ -35,4 +26,7 @@ unfolding valueOf
 returns-3 c = sym (ap (λ (n : Named). valueOf (named n)) (c .enum-told .given .1))
 
 pub named-value-spec : {M : Type 1} → statement M
-named-value-spec = tie.close (tie.spec enum-known-named values-ok-requires returns enum-told returns-2 returns-3)
+named-value-spec =
+    tie.close
+    (tie.spec
+    (λ c. search needs) (λ c κs. search needs) returns (λ c. search needs) returns-2 returns-3)

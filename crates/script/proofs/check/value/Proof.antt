@@ -10,19 +10,10 @@ use borrow.Author.Needs.{needs}
 use Rattle.script.proofs.check.value.Statement.{statement}
 use Rattle.script.proofs.check.value.Tie as tie
 
-enum-known-input : tie.Need-enum-known-input
-enum-known-input c = search needs
-
 returns : tie.Need-returns
 unfolding valueOf
 returns c =
     ap (λ (b : Bool). pick b 0 3) (sym (filled-bad 165 _ (c .if1 .taken))) ∙ sym (ap (λ (r : Record). valueOf (inputOf r)) (c .before .before .input .given .1))
-
-enum-known-input-2 : tie.Need-enum-known-input-2
-enum-known-input-2 c = search needs
-
-named-value-requires : tie.Need-named-value-requires
-named-value-requires c κs = search needs
 
 returns-2 : tie.Need-returns-2
 unfolding valueOf
@@ -35,4 +26,5 @@ returns-3 c = c .named-value .ensures ∙ sym (ap (λ (r : Record). valueOf (inp
 pub value-spec : {M : Type 1} → statement M
 value-spec =
     tie.close
-    (tie.spec enum-known-input returns enum-known-input-2 named-value-requires returns-2 returns-3)
+    (tie.spec
+    (λ c. search needs) returns (λ c. search needs) (λ c κs. search needs) returns-2 returns-3)

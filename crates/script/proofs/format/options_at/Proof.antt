@@ -12,21 +12,6 @@ options a b c d e = record { rate = a; commons = b; pm = c; ps = d; pp = e }
 met : {a b c d e a' b' c' d' e' : ℕ} → a ≡ a' → b ≡ b' → c ≡ c' → d ≡ d' → e ≡ e' → options a b c d e ≡ options a' b' c' d' e'
 met p q r s t = cc
 
-payload-at-requires : tie.Need-payload-at-requires
-payload-at-requires c κs = search needs
-
-payload-at-requires-2 : tie.Need-payload-at-requires-2
-payload-at-requires-2 c κs = search needs
-
-payload-at-requires-3 : tie.Need-payload-at-requires-3
-payload-at-requires-3 c κs = search needs
-
-payload-at-requires-4 : tie.Need-payload-at-requires-4
-payload-at-requires-4 c κs = search needs
-
-payload-at-requires-5 : tie.Need-payload-at-requires-5
-payload-at-requires-5 c κs = search needs
-
 returns : tie.Need-returns
 returns c =
     met (c .before .before .before .before .payload-at .ensures) (c .before .before .before .payload-at2 .ensures)
@@ -36,9 +21,4 @@ pub options-at-spec : {M : Type 1} → statement M
 options-at-spec =
     tie.close
     (tie.spec
-    payload-at-requires
-    payload-at-requires-2
-    payload-at-requires-3
-    payload-at-requires-4
-    payload-at-requires-5
-    returns)
+    (λ c κs. search needs) (λ c κs. search needs) (λ c κs. search needs) (λ c κs. search needs) (λ c κs. search needs) returns)

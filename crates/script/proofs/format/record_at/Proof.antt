@@ -12,38 +12,11 @@ use Rattle.script.proofs.format.record_at.Tie as tie
 same : {k n x y z k′ n′ x′ y′ z′ : ℕ} → k ≡ k′ → n ≡ n′ → x ≡ x′ → y ≡ y′ → z ≡ z′ → eventOf k n x y z ≡ eventOf k′ n′ x′ y′ z′
 same p q r s t = cc
 
-kind-at-requires : tie.Need-kind-at-requires
-kind-at-requires c κs = search needs
-
-options-at-requires : tie.Need-options-at-requires
-options-at-requires c κs = search needs
-
-payload-at-requires : tie.Need-payload-at-requires
-payload-at-requires c κs = search needs
-
 returns : tie.Need-returns
 unfolding inputAt
 returns c =
     ap₂ (λ (o : Options) (x : ℕ). power o (filled x)) (c .before .options-at .ensures) (c .payload-at .ensures)
     ∙ rw (sym (c .before .before .before .kind-at .ensures) ∙ c .before .before .if1 .taken) refl
-
-add-word : tie.Need-add-word
-add-word c = search needs
-
-word-requires : tie.Need-word-requires
-word-requires c κs = search needs
-
-payload-at-requires-2 : tie.Need-payload-at-requires-2
-payload-at-requires-2 c κs = search needs
-
-payload-at-requires-3 : tie.Need-payload-at-requires-3
-payload-at-requires-3 c κs = search needs
-
-payload-at-requires-4 : tie.Need-payload-at-requires-4
-payload-at-requires-4 c κs = search needs
-
-event-of-requires : tie.Need-event-of-requires
-event-of-requires c κs = search needs
 
 returns-2 : tie.Need-returns-2
 unfolding inputAt
@@ -53,4 +26,8 @@ returns-2 c =
     ∙ rw (ne-eqb _ 1 (λ y. c .before .before .before .before .before .if1 .left (kind ∙ y))) refl
 
 pub record-at-spec : {M : Type 1} → statement M
-record-at-spec = tie.close (tie.spec kind-at-requires options-at-requires payload-at-requires returns add-word word-requires payload-at-requires-2 payload-at-requires-3 payload-at-requires-4 event-of-requires returns-2)
+record-at-spec =
+    tie.close
+    (tie.spec
+    (λ c κs. search needs) (λ c κs. search needs) (λ c κs. search needs) returns (λ c. search needs) (λ c κs. search needs)
+    (λ c κs. search needs) (λ c κs. search needs) (λ c κs. search needs) (λ c κs. search needs) returns-2)

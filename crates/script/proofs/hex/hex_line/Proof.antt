@@ -19,20 +19,8 @@ abbrev μ-loop : tie.MeasureT-loop
 loop-holds : tie.Need-loop-holds Inv-loop μ-loop
 loop-holds c = (omega arith, length-replicate {A = ℕ} 97 0, refl)
 
-slice-aggregate-line-byte : tie.Need-slice-aggregate-line-byte Inv-loop μ-loop
-slice-aggregate-line-byte c = search needs
-
 line-byte-requires : tie.Need-line-byte-requires Inv-loop μ-loop
 line-byte-requires c κs = (search needs, omega arith)
-
-array-write-line : tie.Need-array-write-line Inv-loop μ-loop
-array-write-line c = omega arith
-
-add-i : tie.Need-add-i Inv-loop μ-loop
-add-i c = omega arith
-
-loop-less : tie.Need-loop-less Inv-loop μ-loop
-loop-less c = omega arith
 
 loop-again : tie.Need-loop-again Inv-loop μ-loop
 loop-again c =
@@ -56,13 +44,5 @@ pub hex-line-spec : {M : Type 1} → statement M
 hex-line-spec =
     tie.close
     (tie.spec
-    Inv-loop
-    μ-loop
-    loop-holds
-    slice-aggregate-line-byte
-    line-byte-requires
-    array-write-line
-    add-i
-    loop-less
-    loop-again
-    returns)
+    Inv-loop μ-loop loop-holds (λ c. search needs) line-byte-requires (λ c. omega arith) (λ c. omega arith) (λ c. omega arith)
+    loop-again returns)

@@ -17,9 +17,6 @@ returns c =
     let a = c .before .before .args in
     sym (newline (a .report .now) (a .i) (omega arith))
 
-shared-slice-read-x : tie.Need-shared-slice-read-x
-shared-slice-read-x c = search needs
-
 digit-requires : tie.Need-digit-requires
 digit-requires c κs = omega (arith, c .before .shared-slice-known2 .given (c .before .before .before .before .args .i / 2))
 
@@ -31,9 +28,6 @@ returns-2 c =
     ∙ ap (λ (t : Bool). digit (pick t (x / 16) (x % 16))) (sym (eq-eqb (a .i % 2) 0 (c .before .if2 .taken)))
     ∙ sym (character (a .report .now) (a .i) (omega arith))
 
-digit-requires-2 : tie.Need-digit-requires-2
-digit-requires-2 c κs = search needs
-
 returns-3 : tie.Need-returns-3
 returns-3 c =
     let a = c .before .before .before .before .before .args in
@@ -43,6 +37,4 @@ returns-3 c =
     ∙ sym (character (a .report .now) (a .i) (omega arith))
 
 pub line-byte-spec : {M : Type 1} → statement M
-line-byte-spec =
-    tie.close
-    (tie.spec returns shared-slice-read-x digit-requires returns-2 digit-requires-2 returns-3)
+line-byte-spec = tie.close (tie.spec returns (λ c. search needs) digit-requires returns-2 (λ c κs. search needs) returns-3)
