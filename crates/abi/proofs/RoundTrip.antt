@@ -93,13 +93,16 @@ module _ (x y : ℕ) (small : y < 256) where
           b = b-out (n .form) (n .a) (n .b) (lengthOf x) (cyclesOf x) form-fits a-fits b-fits size-fits;
         }
 
+    as-long : sizeOf r ≡ length (bytesOf i)
+    as-long = size-out (n .form) (n .a) (n .b) (lengthOf x) (cyclesOf x) form-fits a-fits b-fits size-fits ∙ sym counted
+
     named-there : writingOf (formOf r) (aOf r) (bOf r) ≡ writingOf (n .form) (n .a) (n .b)
     named-there = λ k. writingOf (gives .form k) (gives .a k) (gives .b k)
 
     written-back : Back r
     written-back =
         named-there ∙ ap writingBy (inverse i (reads .fields)) ∙ written
-        ∙ ap first (counted ∙ sym (size-out (n .form) (n .a) (n .b) (lengthOf x) (cyclesOf x) form-fits a-fits b-fits size-fits))
+        ∙ ap first (sym as-long)
 
   -- by the tests of a mask and an address, and by what the decoder answers: only what was read has neither refusal nor fault
   through : (s t : Bool) (d : Decoded) → Reading x y d → readNumber (pick s (pick t (withTiming x d) (refused 5)) (refused 1)) % 2 ^ 16 ≡ 0
@@ -167,9 +170,12 @@ module _ (i : Instruction) (ok : inRange i ≡ true) where
   x-fits : getD s 0 0 < 256
   x-fits = first-below (getD s 0 0) (getD s 1 0) i (back (getD s 0 0) (getD s 1 0) i (record { fields = ok; bytes = two-at-most s short }))
 
+  counts : (w : ℕ) → w ≡ packedBytes 0 (length s) (getD s 0 0) (getD s 1 0) → countOf w ≡ length s
+  counts w e = count-out w (length s) (getD s 0 0) (getD s 1 0) e short x-fits
+
   stands : (w x y : ℕ) → w ≡ packedBytes 0 (length s) (getD s 0 0) (getD s 1 0) → take (countOf w) (x ∷ y ∷ []) ≡ take (countOf w) (firstOf w ∷ secondOf w ∷ []) → Reads x y i
   stands w x y e h =
-      let n : countOf w ≡ length s = count-out w (length s) (getD s 0 0) (getD s 1 0) e short x-fits in
+      let n = counts w e in
       let p : firstOf w ≡ getD s 0 0 = x-out w (length s) (getD s 0 0) (getD s 1 0) e short x-fits in
       let q : secondOf w ≡ getD s 1 0 = y-out w (length s) (getD s 0 0) (getD s 1 0) e short x-fits in
       let there : take (length s) (x ∷ y ∷ []) ≡ take (length s) (getD s 0 0 ∷ getD s 1 0 ∷ []) = rw (n, p, q) at h in
@@ -187,14 +193,14 @@ write-then-read form a b w mask address r e free size bytes inside holds f = by-
     small : y < 256
     small = bytes ((address + 1) % 4096)
 
-    by-range : (i : Instruction) (t : Bool) → named form a b ≡ one i → inRange i ≡ t → w ≡ writeNumber (fitting t (bytesOf i)) → Gives r (kept form a b)
+    by-range : (i : Instruction) (t : Bool) → named form a b ≡ one i → inRange i ≡ t → w ≡ writeNumber (fitting t (bytesOf i)) → Gives r (kept form a b) × (sizeOf r ≡ countOf w)
     by-range i false m ok g = absurd (omega arith)
     by-range i true m ok g =
         let reads = stands i ok w x y g holds in
         let read : r ≡ packedNamed (numbersOf i) (lengthOf x) (cyclesOf x) =
         f ∙ (λ k. readNumber (pick (eq-eqb (length mask) 4096 size k) (pick (lt-ltb address 4096 inside k) (withTiming x (back x y i reads k)) (refused 5)) (refused 1))) in
-        rw (read, ← named-kept form a b i m) (gives x y small i reads)
+        (rw (read, ← named-kept form a b i m) (gives x y small i reads), ap sizeOf read ∙ as-long x y small i reads ∙ sym (counts i ok w g))
 
-    by-name : (d : Meant) → named form a b ≡ d → Gives r (kept form a b)
+    by-name : (d : Meant) → named form a b ≡ d → Gives r (kept form a b) × (sizeOf r ≡ countOf w)
     by-name nothing m = absurd (omega (arith, e ∙ ap (λ (d : Meant). writeNumber (writingBy d)) m))
     by-name (one i) m = by-range i (inRange i) m refl (e ∙ ap (λ (d : Meant). writeNumber (writingBy d)) m)

@@ -27,11 +27,11 @@ pub record Gives (r : ℕ) (n : Named) : Type 0 where
   pub a : aOf r ≡ n .a
   pub b : bOf r ≡ n .b
 
--- what is written with no refusal is read back, where a mask has the bytes written, as the form and the operands that it has
+-- what is written with no refusal is read back, where a mask has the bytes written, as the form and the operands that it has, and as long
 abbrev pub WriteThenRead : Type 0
 WriteThenRead =
     (form a b w : ℕ) (mask : List ℕ) (address r : ℕ)
     → w ≡ writeNumber (writingOf form a b) → refusalOf w ≡ 0
     → length mask ≡ 4096 → Bytes mask → address < 4096
     → bytesAt mask address (countOf w) ≡ take (countOf w) (firstOf w ∷ secondOf w ∷ [])
-    → r ≡ readNumber (fetching mask address) → Gives r (kept form a b)
+    → r ≡ readNumber (fetching mask address) → Gives r (kept form a b) × (sizeOf r ≡ countOf w)

@@ -17,7 +17,7 @@ use Rattle.machine.specs.Table.{nops}
 use Rattle.machine.proofs.Table.{table}
 use Rattle.checker.specs.Chains.{Member, here}
 use Rattle.checker.specs.Marks.{Pair, pair, flowOf, flowAt, fault, successors, Reached}
-use Rattle.checker.specs.Verdicts.{Answers, Marked, rank}
+use Rattle.checker.specs.Verdicts.{Answers, Marked, rank, Safe, Lowest}
 use Rattle.checker.specs.declared.check.Verdict.{Verdict}
 use Rattle.checker.specs.declared.check.Verdict.the-variants.{Passed, Failed}
 use Rattle.checker.proofs.Chains.{reached-start, reached-next, reached-all}
@@ -82,9 +82,15 @@ ones =
     main a (suc (suc zero)) h k e = absurd (omega (arith, eqb-true (1 / 4 % 2) 1 e))
     main a (suc (suc (suc l))) h k e = absurd (omega arith)
 
+nops-safe : Safe nops
+nops-safe p r = nop-fault nops (p .address) (p .level) (nop-at (p .address))
+
+passes-3e : (old : List ℕ) → length old ≡ 4096 → Answers nops old (replicate 4096 1) Passed
+passes-3e old l = (record { mask-size = nops-length; marks-size = l; marked = ones }, nops-safe)
+
 pub every-3e : (old new : List ℕ) (v : Verdict) → length old ≡ 4096 → Answers nops old new v → (v ≡ Passed) × (new ≡ replicate 4096 1)
 every-3e old new v l w =
-    let e = answer-passed nops old new nops-length l v (λ p r. nop-fault nops (p .address) (p .level) (nop-at (p .address))) w in
+    let e = answer-passed nops old new nops-length l v nops-safe w in
     (e, same-marks nops new (replicate 4096 1) (subst (Answers nops old new) e w .0 .marked) ones)
 
 -- ---- a mask that fails is answered with its lowest forbidden pair
@@ -92,10 +98,12 @@ first-fault : (mask : List ℕ) → byteAt mask 0 ≡ 0x40 → byteAt mask 1 ≡
 unfolding fault flowAt decoded map
 first-fault mask e f = rw (e, f) refl
 
+lowest-40-15 : (mask : List ℕ) → byteAt mask 0 ≡ 0x40 → byteAt mask 1 ≡ 0x15 → Lowest mask 1 0 0
+lowest-40-15 mask e f = record { reached = reached-start; forbidden = first-fault mask e f; not-zero = λ z. omega arith; lowest = λ p r n. omega arith }
+
 pub mask-40-15 : (mask old new : List ℕ) (v : Verdict) → length mask ≡ 4096 → length old ≡ 4096 → byteAt mask 0 ≡ 0x40 → byteAt mask 1 ≡ 0x15 → Answers mask old new v → v ≡ Failed 1 0 0
 mask-40-15 mask old new v m l e f =
-    answer-failed mask old new m l 1 0 0 v
-    (record { reached = reached-start; forbidden = first-fault mask e f; not-zero = λ z. omega arith; lowest = λ p r n. omega arith })
+    answer-failed mask old new m l 1 0 0 v (lowest-40-15 mask e f)
 
 -- "F0 10 then 3E: fault 2 at 0, level 1": the subroutine at 010h runs on past FFFh to the CALL at 0
 module _ (mask : List ℕ) (call : byteAt mask 0 ≡ 0xf0) (to : byteAt mask 1 ≡ 0x10) (rest : (a : ℕ) → 2 ≤ a → a < 4096 → byteAt mask a ≡ 0x3e) where
@@ -137,16 +145,20 @@ module _ (mask : List ℕ) (call : byteAt mask 0 ≡ 0xf0) (to : byteAt mask 1 �
           second : 0 ≡ p .level
           second = omega arith
 
+  lowest-f0-10 : Lowest mask 2 0 1
+  lowest-f0-10 = record { reached = at-zero; forbidden = call-inside; not-zero = λ z. omega arith; lowest = λ p r n. lowest-one p n }
+
   pub mask-f0-10 : (old new : List ℕ) (v : Verdict) → length mask ≡ 4096 → length old ≡ 4096 → Answers mask old new v → v ≡ Failed 2 0 1
-  mask-f0-10 old new v m l =
-      answer-failed mask old new m l 2 0 1 v
-      (record { reached = at-zero; forbidden = call-inside; not-zero = λ z. omega arith; lowest = λ p r n. lowest-one p n })
+  mask-f0-10 old new v m l = answer-failed mask old new m l 2 0 1 v lowest-f0-10
 
 pub proved-table : ProvedTable
 proved-table =
     record {
       machine = table;
+      passes-3e = passes-3e;
       every-3e = every-3e;
+      lowest-40-15 = lowest-40-15;
       mask-40-15 = mask-40-15;
+      lowest-f0-10 = lowest-f0-10;
       mask-f0-10 = λ mask old new v m l e f g w. mask-f0-10 mask e f g old new v m l w;
     }
