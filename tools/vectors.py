@@ -174,10 +174,10 @@ class Case:
         self.answer('power-on', ref.power_on(options, image))
 
     def step(self):
-        assert ref.machine_ok(self.m)
         self.add(STEP)
         result = ref.step(self.mask, self.m)
-        note_step(self.m, result, self.mask)
+        if not isinstance(result, Refused):
+            note_step(self.m, result, self.mask)
         self.answer('step', result)
 
     def steps(self, n):
@@ -622,6 +622,7 @@ def refused():
     case.int(0)
     case.tmclk(9)
     case.res()
+    case.step()
     case.run(1, 4095)
     case.int(2)
     case.power_on(image=[16] * 166)
@@ -638,7 +639,7 @@ def refused():
         assert not ref.machine_ok(m)
         case.set(m)
         (lambda: case.run(2), lambda: case.pins(1, 2, 3), lambda: case.int(0),
-         lambda: case.tmclk(999), case.res)[k % 5]()
+         lambda: case.tmclk(999), case.res, case.step)[k % 6]()
     case.put(data=whole.data, pc=4096)
     case.run(2, 4095)
     case.pins(16, 0, 0)
@@ -813,7 +814,7 @@ def statistics(data, output):
            + ['INT falls on a faulted machine'])
     expect('refusals', [f'refusal {n} of power-on' for n in (2, 3, 4)]
            + ['refusal 1 of Run', 'refusal 3 of pins', 'refusal 3 of INT']
-           + [f'refusal 5 of {name}' for name in ('Run', 'pins', 'INT', 'TMCLK', 'RES')])
+           + [f'refusal 5 of {name}' for name in ('Run', 'pins', 'INT', 'TMCLK', 'RES', 'step')])
 
 
 def files():
