@@ -1,4 +1,4 @@
--- Document 01, "Marks": pairs, which of them are forbidden, their successors, and chains. Assumes nothing.
+-- Document 01, "Marks": pairs, which of them are forbidden, and their successors. Assumes nothing.
 use Prim.Native.Nat.{ℕ}
 use mathlib.Core.List.{List, [], _∷_, _++_}
 use lib.Dec.{eqb}
