@@ -72,9 +72,10 @@ enum { HT1130_RUN = 2, HT1130_PINS = 3, HT1130_INT = 4, HT1130_TMCLK = 5, HT1130
 /*
  * An event. RUN takes at most `count` steps of the mask, fewer when it halts or
  * faults; PINS sets PM, PS, PP to a, b, c; INT sets the pin to a; TMCLK counts
- * `count` rising edges; RES resets. What a kind does not name is not looked at,
- * the mask included. Returns 0, or refuses with 1, 3, 5, or 7 for another kind,
- * 1 included (5 goes before 7): power-on is ht1130_power_on.
+ * `count` rising edges on a running timer with the external clock, halted or
+ * not, and wakes nothing; RES resets. What a kind does not name is not looked
+ * at, the mask included. Returns 0, or refuses with 1, 3, 5, or 7 for another
+ * kind, 1 included (5 goes before 7): power-on is ht1130_power_on.
  */
 uint8_t ht1130_apply(ht1130_machine *machine, uint16_t kind, uint16_t count, uint8_t a, uint8_t b,
                      uint8_t c, const uint8_t *mask, size_t mask_len);

@@ -429,12 +429,12 @@ def event_int(m, level):
 
 
 def event_tmclk(m, count):
-    """Kind 5: 'on the external clock, running and not halted, the timer moves on by it
-    modulo 256, TF set if it passed 255'."""
+    """Kind 5: 'on the external clock, running .. the timer moves on by it modulo 256, TF set
+    if it passed 255'; document 02, wish 1: 'when halted too'."""
     if not machine_ok(m):
         return Refused(5)
     m = copy_machine(m)
-    if m.options.rate == EXTERNAL and m.running and not m.halted:
+    if m.options.rate == EXTERNAL and m.running:
         _timer_on(m, count)
     return m
 

@@ -353,8 +353,33 @@ def test_timer():
     hold('TMCLK 249', ref.event_tmclk(external, 249), timer=0, tf=1)
     hold('TMCLK 65,535', ref.event_tmclk(external, 65535), timer=6, tf=1)
     hold('TMCLK 0', ref.event_tmclk(replace(external, tf=1), 0), timer=7, tf=1)
-    for still in (replace(external, halted=1), replace(external, running=0), machine(running=1)):
-        same(ref.event_tmclk(still, 300), still, 'TMCLK without effect')
+    for still in (replace(external, running=0), machine(running=1)):
+        for m in (still, replace(still, halted=1), replace(still, fault=2)):
+            same(ref.event_tmclk(m, 300), m, 'TMCLK without effect')
+
+
+def test_pulses_asleep():
+    """Document 02, wish 1: 'when halted too, TF by the same rule. It still wakes nothing'."""
+    asleep = machine(replace(OPTIONS, rate=255, wake_pm=1), running=1, timer=200, halted=1, enable=1, pc=0x22)
+    same(ref.event_tmclk(asleep, 55), replace(asleep, timer=255), 'asleep, 55 pulses')
+    passed = ref.event_tmclk(asleep, 56)
+    same(passed, replace(asleep, timer=0, tf=1), 'asleep, 56 pulses')
+    same(ref.event_tmclk(asleep, 65535), replace(asleep, timer=199, tf=1), 'asleep, 65,535 pulses')
+    same(ref.run(mask(), passed, 9), passed, 'TF by pulses does not wake')
+    # A fault is no HALT, and pulses move that timer too.
+    faulted = replace(asleep, halted=0, fault=3)
+    same(ref.event_tmclk(faulted, 56), replace(faulted, timer=0, tf=1), 'faulted, 56 pulses')
+    # Woken by INT or by a pin: the held edge first, then TF, in main again after RETI.
+    program = mask((8, '2F'))
+    for name, woken in (('INT', ref.event_int(passed, 0)), ('PM', ref.event_pins(passed, 14, 15, 15))):
+        hold(name, woken, halted=0, held_edge=1, tf=1, pc=0x22)
+        m = ref.step(program, woken)
+        hold(f'{name}, the edge', m, pc=8, level=2, held_edge=0, tf=1, stack_address=0x22)
+        m = ref.run(program, m, 2)
+        hold(f'{name}, then TF', m, pc=4, level=2, held_edge=0, tf=0, stack_address=0x22)
+        # With interrupts off both stay.
+        m = ref.step(program, replace(woken, enable=0))
+        hold(f'{name}, interrupts off', m, pc=0x23, level=0, held_edge=1, tf=1)
 
 
 def test_wake():
@@ -442,6 +467,6 @@ def test_event_lists():
 
 for test in (test_table, test_proved_table, test_panel, test_refusals, test_power_on,
              test_effects, test_branches, test_subroutines, test_interrupts, test_timer,
-             test_wake, test_marks, test_event_lists):
+             test_pulses_asleep, test_wake, test_marks, test_event_lists):
     test()
 print(f'{checks} checks passed')

@@ -315,6 +315,15 @@ def pulses(rng):
     return out
 
 
+def shaft(rng):
+    """For `turbo`: pulses of TMCLK asleep and awake, and wakes by pins and by INT."""
+    out = power_on(rng.choice((255, 255, 255, 2, 13)), 4, *(rng.choice((0, 15, rng.randrange(16))) for _ in range(3))) + run(50)
+    for _ in range(rng.randrange(6, 30)):
+        out += rng.choice([tmclk(rng.choice((1, 55, 56, 256, rng.randrange(256), rng.randrange(65536)))),
+                           pins(*(rng.choice((0, 15)) for _ in range(3))), int_pin(rng.randrange(2)), run(rng.randrange(12)), run(50)])
+    return out
+
+
 def of_size(rng, size, records=None):
     """A script of that size: power-ons, INT and RES by chance, filled up with RES and INT."""
     out = [any_power_on(rng)] + (records or [])
@@ -354,6 +363,9 @@ def panel_cases(rng):
         yield f'timer at rate {rate}', TIMER_PROGRAM, power_on(rate) + run(6000) + tmclk(300) + run(6000)
     yield 'longest Run', TIMER_PROGRAM, power_on(3) + run(65535)
     yield from limits(rng)
+    for k in range(40):
+        program = make_panel_cases.turbo(rng.choice(('TIMER ON', 'TIMER ON', 'TIMER OFF')), rng.choice(('EI', 'DI')))
+        yield f'pulses of a shaft {k}', program, shaft(rng)
 
 
 def limits(rng):

@@ -75,6 +75,18 @@ HALT_WITH_TF = assemble({
     0x000: [('TIMER XXH', 0xFF), ('TIMER ON',), ('HALT',), ('TIMER OFF',), ('JTMR addr', 'set'),
             ('HALT',), 'set', ('MOV A,XH', 6), ('OUT PA,A',), ('HALT',)]})
 
+
+def turbo(timer, interrupts):
+    """Sleeps with the timer at C8h; once woken, shows the count at E0h and E1h and on PA whether TF was set, and sleeps again."""
+    return assemble({
+        0x000: [('JMP addr', 'main')],
+        0x020: ['main', ('TIMER XXH', 0xC8), (timer,), (interrupts,), ('MOV R1R0,XXH', 0x0, 0xE),
+                'sleep', ('HALT',), ('MOV A,TMRL',), ('MOV [R1R0],A',), ('INC Rn', 0), ('MOV A,TMRH',), ('MOV [R1R0],A',), ('DEC Rn', 0),
+                ('MOV A,XH', 0), ('JTMR addr', 'set'), ('JMP addr', 'show'), 'set', ('MOV A,XH', 1),
+                'show', ('OUT PA,A',), ('JMP addr', 'sleep')],
+        **HANDLERS})
+
+
 CALL_IN_CALL = assemble({0x000: [('CALL addr', 'one')], 0x010: ['one', ('CALL addr', 'one')]})
 RETURN = assemble({0x000: [('MOV A,XH', 9), ('OUT PA,A',), ('RET',)]})
 UNREADABLE = MASK[:2] + bytes.fromhex('4015') + MASK[4:]
@@ -102,6 +114,75 @@ def padded(size, last=b''):
     return START + middle + last
 
 
+def line(pc, cycles, level=0, halted=0, pa=15, shows=()):
+    """A report's line, typed by its fields; `shows` has the lit nibbles, as pairs of data address and value."""
+    display = bytearray(32)
+    for address, value in shows:
+        display[address - 0xE0] = value
+    return (bytes([44, 0, 16, 0, pc % 256, pc // 256]) + cycles.to_bytes(4, 'little')
+            + bytes([level, halted, 0, pa, 16, 0]) + display).hex().upper()
+
+
+# The two ways to wake `turbo`: options of the power-on, the falling edge, and the rise before the next one.
+BY_INT = dict(), int_pin(0), int_pin(1)
+BY_PIN = dict(wake_pp=8), pins(15, 15, 7), pins(15, 15, 15)
+
+
+def counted_asleep(wake):
+    """Pulses to 255, a wake; one pulse more, which sets TF, a wake. The last Runs end where the wake shows."""
+    options, fall, rise = wake
+    return power_on(rate=255, **options) + run(100) + tmclk(55) + fall, rise + tmclk(1) + run(9) + fall
+
+
+def counted_asleep_enabled(wake):
+    first, second = counted_asleep(wake)
+    return first + run(1) + run(5) + run(1) + run(99) + second + run(1) + run(5) + run(1) + run(5) + run(6)
+
+
+def counted_asleep_disabled(wake):
+    first, second = counted_asleep(wake)
+    return first + run(6) + run(99) + second + run(6) + run(4)
+
+
+# HALT stands at 026h, so 028h is where a wake goes on.
+COUNTED_ENABLED = [
+    line(0x000, 0), line(0x028, 10, halted=1), line(0x028, 10, halted=1),
+    line(0x028, 10),                                                            # woken
+    line(0x008, 12, level=2), line(0x028, 19, shows=[(0xE8, 1)]),               # the held edge
+    line(0x029, 20, shows=[(0xE8, 1)]),                                         # and no TF
+    line(0x028, 35, halted=1, pa=0), line(0x028, 35, halted=1, pa=0), line(0x028, 35, halted=1, pa=0),
+    line(0x028, 35, halted=1, pa=0),                                            # TF wakes nothing
+    line(0x028, 35, pa=0, shows=[(0xE0, 15), (0xE1, 15), (0xE8, 1)]),           # woken; the last count was FFh
+    line(0x008, 37, level=2, pa=0, shows=[(0xE0, 15), (0xE1, 15), (0xE8, 1)]),  # the held edge first
+    line(0x028, 44, pa=0, shows=[(0xE0, 15), (0xE1, 15), (0xE8, 2)]),
+    line(0x004, 46, level=2, pa=0, shows=[(0xE0, 15), (0xE1, 15), (0xE8, 2)]),  # then TF
+    line(0x028, 53, pa=0, shows=[(0xE0, 15), (0xE1, 15), (0xE4, 1), (0xE8, 2)]),
+    line(0x02E, 59, pa=0, shows=[(0xE4, 1), (0xE8, 2)])]                        # the count is 00h
+COUNTED_DISABLED = [
+    line(0x000, 0), line(0x028, 10, halted=1), line(0x028, 10, halted=1),
+    line(0x028, 10), line(0x02E, 16, shows=[(0xE0, 15), (0xE1, 15)]),           # woken; the count is FFh
+    line(0x028, 26, halted=1, pa=0), line(0x028, 26, halted=1, pa=0), line(0x028, 26, halted=1, pa=0),
+    line(0x028, 26, halted=1, pa=0),                                            # TF wakes nothing
+    line(0x028, 26, pa=0, shows=[(0xE0, 15), (0xE1, 15)]), line(0x02E, 32, pa=0),   # woken; the count is 00h
+    line(0x035, 37, pa=1)]                                                      # TF was set
+
+
+def idle_asleep(rate, *runs):
+    """Pulses that move nothing, and a wake by INT and, after another power-on, by a pin."""
+    return b''.join(power_on(rate=rate, **options) + run(100) + tmclk(300) + run(9) + fall + b''.join(map(run, runs))
+                    for options, fall, _ in (BY_INT, BY_PIN))
+
+
+# The count is C8h as before, and TF is not set.
+IDLE_ENABLED = 2 * [
+    line(0x000, 0), line(0x028, 10, halted=1), line(0x028, 10, halted=1), line(0x028, 10, halted=1), line(0x028, 10),
+    line(0x008, 12, level=2), line(0x028, 19, shows=[(0xE8, 1)]), line(0x02E, 25, shows=[(0xE0, 8), (0xE1, 12), (0xE8, 1)]),
+    line(0x026, 33, pa=0, shows=[(0xE0, 8), (0xE1, 12), (0xE8, 1)])]
+IDLE_DISABLED = 2 * [
+    line(0x000, 0), line(0x028, 10, halted=1), line(0x028, 10, halted=1), line(0x028, 10, halted=1), line(0x028, 10),
+    line(0x02E, 16, shows=[(0xE0, 8), (0xE1, 12)]), line(0x026, 24, pa=0, shows=[(0xE0, 8), (0xE1, 12)])]
+
+
 # What each case guards: tests/panel/README.md is made of it.
 GUARDS = {
     'example': "document 01's own example, bytes and lines as printed there",
@@ -115,6 +196,14 @@ GUARDS = {
     'halt-int-wake': 'INT wakes without a wake bit; a second low level is no edge; the held edge goes to 008h',
     'halt-int-wake-disabled': 'with interrupts off the wake goes on after HALT and the edge stays held',
     'halt-not-by-timer': 'TF and TMCLK wake nothing, nor an edge held before HALT',
+    'pulses-asleep-int-wake': 'pulses asleep that end at 255 and that pass it; woken by INT, the held edge goes first (008h), then TF (004h)',
+    'pulses-asleep-int-wake-disabled': 'the same with interrupts off: the program goes on after HALT, and JTMR finds TF',
+    'pulses-asleep-pin-wake': 'the same pulses, woken by a falling pin: the held edge, then TF',
+    'pulses-asleep-pin-wake-disabled': 'the same with interrupts off',
+    'pulses-asleep-internal-clock': 'pulses asleep move no timer on the internal clock; woken by INT and by a pin',
+    'pulses-asleep-internal-clock-disabled': 'the same with interrupts off',
+    'pulses-asleep-timer-stopped': 'pulses asleep move no stopped timer; woken by INT and by a pin',
+    'pulses-asleep-timer-stopped-disabled': 'the same with interrupts off',
     'round-the-end': 'an instruction whose second byte is the byte at 0',
     'fault-1': 'a second byte that breaks its pattern: fault 1, the PC stays, a later edge changes no fault; RES clears it',
     'fault-2': 'CALL in level 1: fault 2; pins and TMCLK on a faulted machine',
@@ -173,6 +262,14 @@ def cases():
     yield 'halt-not-by-timer', HALT_WITH_TF, (
         power_on(rate=0) + run(1) + int_pin(0) + run(50) + tmclk(300) + run(50) + int_pin(1) + run(50)
         + int_pin(0) + run(4) + run(9)), None
+    yield 'pulses-asleep-int-wake', turbo('TIMER ON', 'EI'), counted_asleep_enabled(BY_INT), COUNTED_ENABLED
+    yield 'pulses-asleep-int-wake-disabled', turbo('TIMER ON', 'DI'), counted_asleep_disabled(BY_INT), COUNTED_DISABLED
+    yield 'pulses-asleep-pin-wake', turbo('TIMER ON', 'EI'), counted_asleep_enabled(BY_PIN), COUNTED_ENABLED
+    yield 'pulses-asleep-pin-wake-disabled', turbo('TIMER ON', 'DI'), counted_asleep_disabled(BY_PIN), COUNTED_DISABLED
+    yield 'pulses-asleep-internal-clock', turbo('TIMER ON', 'EI'), idle_asleep(13, 1, 5, 6, 5), IDLE_ENABLED
+    yield 'pulses-asleep-internal-clock-disabled', turbo('TIMER ON', 'DI'), idle_asleep(13, 6, 5), IDLE_DISABLED
+    yield 'pulses-asleep-timer-stopped', turbo('TIMER OFF', 'EI'), idle_asleep(255, 1, 5, 6, 5), IDLE_ENABLED
+    yield 'pulses-asleep-timer-stopped-disabled', turbo('TIMER OFF', 'DI'), idle_asleep(255, 6, 5), IDLE_DISABLED
     yield 'round-the-end', ROUND_THE_END, power_on() + run(2) + run(1) + run(1) + run(1) + run(9), None
     yield 'fault-1', UNREADABLE, power_on() + run(65535) + int_pin(0) + run(1) + res() + run(2), None
     yield 'fault-2', CALL_IN_CALL, power_on() + run(1) + run(1) + pins(0, 0, 0) + tmclk(9) + run(9) + res(), None

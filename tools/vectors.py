@@ -208,6 +208,7 @@ class Case:
         self.add(TMCLK, two(n))
         result = ref.event_tmclk(self.m, n)
         note_overflow(self.m, result)
+        note_pulses(self.m, result)
         self.answer('TMCLK', result)
 
     def res(self):
@@ -288,6 +289,14 @@ def note_overflow(m, after):
     """The timer passed 255 where TF turns 1: no instruction sets it."""
     if not isinstance(after, Refused) and after.tf == 1 and m.tf == 0:
         seen[f'timer overflow at rate {m.options.rate}'] += 1
+
+
+def note_pulses(m, after):
+    """What rising edges of TMCLK meet asleep: they wake nothing."""
+    if not isinstance(after, Refused) and m.halted:
+        assert after == replace(m, timer=after.timer, tf=after.tf)
+        seen['pulses asleep set TF' if after.tf > m.tf else
+             'pulses asleep move the timer' if after != m else 'pulses asleep move nothing'] += 1
 
 
 def note_step(m, after, mask):
@@ -478,8 +487,8 @@ def timer():
             case.step()
     for rate, running, halted in ((255, 1, 0), (255, 0, 0), (255, 1, 1), (0, 1, 0), (13, 1, 0)):
         options = replace(random_options(), rate=rate)
-        moves = rate == ref.EXTERNAL and running and not halted
-        for count in (0, 1, 55, 56, 256, 65535) if moves else (56, 300):
+        awake = rate == ref.EXTERNAL and running and not halted     # asleep: pulses_asleep
+        for count in (0, 1, 55, 56, 256, 65535) if awake else (56, 300):
             case.set(replace(random_state(case.m, 0, 2), options=options, timer=200, tf=0,
                              running=running, halted=halted))
             case.tmclk(count)
@@ -752,6 +761,36 @@ def long_runs():
 
 
 # ---------------------------------------------------------------------------
+# Pulses asleep: document 02, wish 1
+# ---------------------------------------------------------------------------
+
+def pulses_asleep():
+    """TMCLK on a machine that is halted or faulted, on both clocks, with the timer running and
+    stopped. Then TF set by pulses asleep and a wake by INT or by a pin, with interrupts on and
+    off: the held edge goes before TF."""
+    mask = [NOP] * 4096
+    mask[8] = 0x2F                      # RETI
+    case = Case(mask)
+    case.power_on()
+    for rate, running in ((255, 1), (255, 0), (0, 1), (13, 1)):
+        for halted, fault in ((1, 0), (0, 3)):
+            for count in (0, 1, 55, 56, 256, 65535) if rate == 255 and running and halted else (300,):
+                m = random_state(case.m, draw.below(4096), draw.below(3))
+                case.set(replace(m, options=replace(m.options, rate=rate), timer=200, tf=0, held_edge=0,
+                                 running=running, halted=halted, fault=fault))
+                case.tmclk(count)
+    for enable in (1, 0):
+        for wake in (lambda: case.int(0), lambda: case.pins(15, 13, 15)):
+            m = random_state(case.m, draw.below(4096), 0)
+            case.set(replace(m, halted=1, enable=enable, held_edge=0, tf=0, timer=200, running=1, ps=15,
+                             int_pin=1, options=replace(m.options, rate=255, wake_ps=2)))
+            case.tmclk(56)
+            case.run(9)
+            wake()
+            case.steps(3 if enable else 1)
+
+
+# ---------------------------------------------------------------------------
 # The files
 # ---------------------------------------------------------------------------
 
@@ -809,6 +848,7 @@ def statistics(data, output):
     expect('Runs', ('step in a Run', 'interrupt in a Run', 'Run of all its steps'))
     expect('stopped', ('step when halted', 'step when faulted', 'Run when halted',
                        'Run when faulted', 'Run ended early'))
+    expect('pulses asleep', ('pulses asleep set TF', 'pulses asleep move the timer', 'pulses asleep move nothing'))
     expect('wakes', ('pins wakes', 'pins does not wake', 'INT wakes', 'INT does not wake'))
     expect('INT', [f'INT from {a} to {b}' for a in (0, 1) for b in (0, 1)]
            + ['INT falls on a faulted machine'])
@@ -820,7 +860,7 @@ def statistics(data, output):
 def files():
     """All that is stored, as a dict from paths to bytes. Once in a run: the cases are one list."""
     for part in (directed, subroutines, data_edges, arithmetic, timer, interrupts, pins_and_int,
-                 stopped, power_ons, refused, random_events, long_runs):
+                 stopped, power_ons, refused, random_events, long_runs, pulses_asleep):
         part()
     data = two(len(cases))
     for case in cases:

@@ -234,7 +234,7 @@ impl Machine {
     }
 
     fn clock(&mut self, edges: u16) {
-        if self.options.rate == EXTERNAL && self.running != 0 && self.halted == 0 {
+        if self.options.rate == EXTERNAL && self.running != 0 {
             self.advance(edges as u32);
         }
     }
@@ -1193,6 +1193,41 @@ mod tests {
         };
         m.apply(RUN, 2, 0, 0, 0, &[0x3E; MASK]).unwrap();
         assert_eq!((m.timer, m.tf), (0, 1));
+    }
+
+    #[test]
+    fn pulses_asleep_move_the_timer_and_wake_nothing() {
+        let asleep = Machine {
+            options: Options {
+                rate: EXTERNAL,
+                ..OPTIONS
+            },
+            timer: 200,
+            running: 1,
+            halted: 1,
+            enabled: 1,
+            pc: 0x22,
+            ..machine()
+        };
+        for (edges, timer, tf) in [(0, 200, 0), (55, 255, 0), (56, 0, 1), (65535, 199, 1)] {
+            let mut m = asleep;
+            m.apply(TMCLK, edges, 0, 0, 0, &[]).unwrap();
+            assert_eq!(
+                m,
+                Machine {
+                    timer,
+                    tf,
+                    ..asleep
+                }
+            );
+        }
+        let mut m = asleep;
+        m.apply(TMCLK, 56, 0, 0, 0, &[]).unwrap();
+        m.apply(INT, 0, 0, 0, 0, &[]).unwrap();
+        m.apply(RUN, 1, 0, 0, 0, &mask_at(8, &[0x2F])).unwrap();
+        assert_eq!((m.pc, m.level, m.tf), (8, 2, 1));
+        m.apply(RUN, 2, 0, 0, 0, &mask_at(8, &[0x2F])).unwrap();
+        assert_eq!((m.pc, m.level, m.tf), (4, 2, 0));
     }
 
     #[test]

@@ -1,5 +1,6 @@
 pub mod Answers
 pub mod Fill
 pub mod Lists
+pub mod Pulses
 pub mod Reports
 pub mod Table

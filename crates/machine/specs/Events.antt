@@ -1,4 +1,4 @@
--- The events, document 01, "One step, and events" and "Refused inputs". Assumes nothing.
+-- The events, document 01, "One step, and events" and "Refused inputs", and document 02, wish 1. Assumes nothing.
 use Prim.Native.Nat.{ℕ, _+_}
 use mathlib.Core.Path.{_≡_}
 use mathlib.Core.Bool.{Bool, true, not, _&&_}
@@ -56,9 +56,10 @@ pinned pm ps pp c = withPorts pm ps pp (pick (wakes pm ps pp c) (woken c) c)
 unfoldable pub interrupted : ℕ → Cpu → Cpu
 interrupted level c = withInt level (pick (eqb (c .pins .int) 1 && eqb level 0) (woken c) c)
 
--- "5 TMCLK: two-byte count of rising edges; on the external clock, running and not halted", as one condition
+-- "5 TMCLK: two-byte count of rising edges; on the external clock, running", as one condition. Document 02, wish 1, in place of "and not halted":
+-- "kind 5 moves a running, externally clocked timer when halted too"
 abbrev pub clocked : Cpu → Bool
-clocked c = eqb (c .options .rate) 255 && (eqb (c .timer .running) 1 && eqb (c .status .halted) 0)
+clocked c = eqb (c .options .rate) 255 && eqb (c .timer .running) 1
 
 -- "the timer moves on by it modulo 256, TF set if it passed 255"
 unfoldable pub counting : ℕ → Cpu → Cpu

@@ -2,5 +2,6 @@ pub mod Events
 pub mod Machine
 pub mod Power
 pub mod Property2
+pub mod Pulses
 pub mod Report
 pub mod Table

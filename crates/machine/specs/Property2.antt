@@ -1,5 +1,5 @@
--- Demand 2 over a whole list, from an accepted power-on: after any list of inputs every field and the display are those of document 01's rules. Each
--- Run may have a mask of its own, and a refused input is one of the list. Assumes nothing.
+-- Demand 2 over a whole list, from an accepted power-on: after any list of inputs every field and the display are those of document 01's rules, as
+-- document 02 changes them. Each Run may have a mask of its own, and a refused input is one of the list. Assumes nothing.
 use Prim.Native.Nat.{ℕ}
 use mathlib.Core.Path.{_≡_}
 use mathlib.Core.Bool.{true}

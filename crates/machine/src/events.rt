@@ -79,17 +79,11 @@ fn woken(mut c: Cpu) -> Cpu
     c
 }
 
-// Whether TMCLK moves the timer.
+// Whether TMCLK moves the timer, which it does in HALT too.
 fn clocked(c: Cpu) -> bool
     ensures { λ r. ⌜ r ≡ clocked c ⌝ }
 {
-    if c.options.rate != 255 {
-        return false;
-    }
-    if c.timer.running != 1 {
-        return false;
-    }
-    c.status.halted == 0
+    both(c.options.rate == 255, c.timer.running == 1)
 }
 
 fn set_ports(mut c: Cpu, pm: u8, ps: u8, pp: u8) -> Cpu

@@ -367,7 +367,8 @@ pub enum Event {
     },
     /// A new level at INT, 0 or 1.
     Int(u8),
-    /// So many rising edges at TMCLK.
+    /// So many rising edges at TMCLK. They move a running timer on the external
+    /// clock, halted or not, and wake nothing.
     Tmclk(u16),
     /// A reset.
     Res,

@@ -60,6 +60,46 @@ fn events() {
 }
 
 #[test]
+fn pulses_asleep() {
+    let options = Options {
+        rate: EXTERNAL_CLOCK,
+        wake_ps: 2,
+        ..Options::default()
+    };
+    // TIMER C8H, TIMER ON, EI, HALT; RETI at 8
+    let mut code = mask(&[0x47, 0xC8, 0x38, 0x2C, 0x37, 0x3E]);
+    code[8] = 0x2F;
+    let fall = Event::Pins {
+        pm: 15,
+        ps: 13,
+        pp: 15,
+    };
+    for wake in [Event::Int(0), fall] {
+        let mut m = powered(options);
+        ht1130::apply(&mut m, Event::Run(9), &code).unwrap();
+        assert_eq!((m.cpu.status.halted, m.cpu.timer.count), (1, 0xC8));
+        let mut asleep = m;
+        ht1130::apply(&mut m, Event::Tmclk(55), &[]).unwrap();
+        asleep.cpu.timer.count = 255;
+        assert_eq!(m, asleep);
+        // Past 255, and nothing else changes: no wake, no held edge.
+        ht1130::apply(&mut m, Event::Tmclk(1), &[]).unwrap();
+        asleep.cpu.timer.count = 0;
+        asleep.cpu.control.tf = 1;
+        assert_eq!(m, asleep);
+        ht1130::apply(&mut m, Event::Run(9), &code).unwrap();
+        assert_eq!(m, asleep);
+        // The held edge goes first, and TF after its RETI.
+        ht1130::apply(&mut m, wake, &[]).unwrap();
+        assert_eq!((m.cpu.status.halted, m.cpu.interrupts.held), (0, 1));
+        ht1130::apply(&mut m, Event::Run(1), &code).unwrap();
+        assert_eq!((m.cpu.control.pc, m.cpu.control.tf), (8, 1));
+        ht1130::apply(&mut m, Event::Run(2), &code).unwrap();
+        assert_eq!((m.cpu.control.pc, m.cpu.control.tf), (4, 0));
+    }
+}
+
+#[test]
 fn refusals() {
     let nops = mask(&[]);
     let mut m = powered(Options::default());

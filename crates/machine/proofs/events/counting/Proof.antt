@@ -13,9 +13,11 @@ use Rattle.machine.proofs.events.counting.Tie as tie
 returns : tie.Need-returns
 unfolding counting
 returns c =
-    let a = c .before .before .before .before .args in
-    c .timed .ensures ∙ ap (λ (k : Count). timed k (a .c)) (c .before .advance .ensures)
-    ∙ ap (λ (b : Bool). pick b (timed (counted (a .c .timer .count) (a .n)) (a .c)) (a .c)) (sym (c .before .before .if1 .taken) ∙ c .before .before .before .clocked .ensures)
+    let moved = c .before in
+    let tested = moved .before in
+    let a = tested .before .before .args in
+    c .timed .ensures ∙ ap (λ (k : Count). timed k (a .c)) (moved .advance .ensures)
+    ∙ ap (λ (b : Bool). pick b (timed (counted (a .c .timer .count) (a .n)) (a .c)) (a .c)) (sym (tested .if1 .taken) ∙ tested .before .clocked .ensures)
 
 returns-2 : tie.Need-returns-2
 unfolding counting
