@@ -1,4 +1,4 @@
-"""Reference model of the HT1130, written from documents 001 and 01.
+"""Reference model of the HT1130, written from documents 001, 01 and 02.
 
 It follows document 01 in its order. Each function cites the sentence it
 states. Functions take a machine and hand back a new one, or a Refused; the

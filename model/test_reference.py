@@ -365,6 +365,7 @@ def test_pulses_asleep():
     passed = ref.event_tmclk(asleep, 56)
     same(passed, replace(asleep, timer=0, tf=1), 'asleep, 56 pulses')
     same(ref.event_tmclk(asleep, 65535), replace(asleep, timer=199, tf=1), 'asleep, 65,535 pulses')
+    same(ref.event_tmclk(passed, 3), replace(passed, timer=3), 'asleep, TF stays set')
     same(ref.run(mask(), passed, 9), passed, 'TF by pulses does not wake')
     # A fault is no HALT, and pulses move that timer too.
     faulted = replace(asleep, halted=0, fault=3)

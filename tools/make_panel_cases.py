@@ -129,9 +129,9 @@ BY_PIN = dict(wake_pp=8), pins(15, 15, 7), pins(15, 15, 15)
 
 
 def counted_asleep(wake):
-    """Pulses to 255, a wake; one pulse more, which sets TF, a wake. The last Runs end where the wake shows."""
+    """Pulses to 255, a wake; one pulse more, which sets TF, three that leave it set, a wake."""
     options, fall, rise = wake
-    return power_on(rate=255, **options) + run(100) + tmclk(55) + fall, rise + tmclk(1) + run(9) + fall
+    return power_on(rate=255, **options) + run(100) + tmclk(55) + fall, rise + tmclk(1) + tmclk(3) + run(9) + fall
 
 
 def counted_asleep_enabled(wake):
@@ -150,21 +150,20 @@ COUNTED_ENABLED = [
     line(0x028, 10),                                                            # woken
     line(0x008, 12, level=2), line(0x028, 19, shows=[(0xE8, 1)]),               # the held edge
     line(0x029, 20, shows=[(0xE8, 1)]),                                         # and no TF
-    line(0x028, 35, halted=1, pa=0), line(0x028, 35, halted=1, pa=0), line(0x028, 35, halted=1, pa=0),
-    line(0x028, 35, halted=1, pa=0),                                            # TF wakes nothing
+    *4 * [line(0x028, 35, halted=1, pa=0)], line(0x028, 35, halted=1, pa=0),    # asleep again; TF wakes nothing
     line(0x028, 35, pa=0, shows=[(0xE0, 15), (0xE1, 15), (0xE8, 1)]),           # woken; the last count was FFh
     line(0x008, 37, level=2, pa=0, shows=[(0xE0, 15), (0xE1, 15), (0xE8, 1)]),  # the held edge first
     line(0x028, 44, pa=0, shows=[(0xE0, 15), (0xE1, 15), (0xE8, 2)]),
     line(0x004, 46, level=2, pa=0, shows=[(0xE0, 15), (0xE1, 15), (0xE8, 2)]),  # then TF
     line(0x028, 53, pa=0, shows=[(0xE0, 15), (0xE1, 15), (0xE4, 1), (0xE8, 2)]),
-    line(0x02E, 59, pa=0, shows=[(0xE4, 1), (0xE8, 2)])]                        # the count is 00h
+    line(0x02E, 59, pa=0, shows=[(0xE0, 3), (0xE4, 1), (0xE8, 2)])]             # the count is 03h
 COUNTED_DISABLED = [
     line(0x000, 0), line(0x028, 10, halted=1), line(0x028, 10, halted=1),
     line(0x028, 10), line(0x02E, 16, shows=[(0xE0, 15), (0xE1, 15)]),           # woken; the count is FFh
-    line(0x028, 26, halted=1, pa=0), line(0x028, 26, halted=1, pa=0), line(0x028, 26, halted=1, pa=0),
-    line(0x028, 26, halted=1, pa=0),                                            # TF wakes nothing
-    line(0x028, 26, pa=0, shows=[(0xE0, 15), (0xE1, 15)]), line(0x02E, 32, pa=0),   # woken; the count is 00h
-    line(0x035, 37, pa=1)]                                                      # TF was set
+    *4 * [line(0x028, 26, halted=1, pa=0)], line(0x028, 26, halted=1, pa=0),    # asleep again; TF wakes nothing
+    line(0x028, 26, pa=0, shows=[(0xE0, 15), (0xE1, 15)]),                      # woken; the last count was FFh
+    line(0x02E, 32, pa=0, shows=[(0xE0, 3)]),                                   # the count is 03h
+    line(0x035, 37, pa=1, shows=[(0xE0, 3)])]                                   # TF was set
 
 
 def idle_asleep(rate, *runs):
@@ -195,8 +194,8 @@ GUARDS = {
     'halt-pin-wake': 'wake bits: only a falling bit whose wake bit is 1 wakes, and only when halted; the edge is then taken',
     'halt-int-wake': 'INT wakes without a wake bit; a second low level is no edge; the held edge goes to 008h',
     'halt-int-wake-disabled': 'with interrupts off the wake goes on after HALT and the edge stays held',
-    'halt-not-by-timer': 'TF and TMCLK wake nothing, nor an edge held before HALT',
-    'pulses-asleep-int-wake': 'pulses asleep that end at 255 and that pass it; woken by INT, the held edge goes first (008h), then TF (004h)',
+    'halt-not-by-timer': 'TF wakes nothing, nor TMCLK on the internal clock, nor an edge held before HALT',
+    'pulses-asleep-int-wake': 'pulses asleep that end at 255, that pass it, and more with TF set: they wake nothing; woken by INT, the held edge goes first (008h), then TF (004h)',
     'pulses-asleep-int-wake-disabled': 'the same with interrupts off: the program goes on after HALT, and JTMR finds TF',
     'pulses-asleep-pin-wake': 'the same pulses, woken by a falling pin: the held edge, then TF',
     'pulses-asleep-pin-wake-disabled': 'the same with interrupts off',

@@ -487,7 +487,7 @@ def timer():
             case.step()
     for rate, running, halted in ((255, 1, 0), (255, 0, 0), (255, 1, 1), (0, 1, 0), (13, 1, 0)):
         options = replace(random_options(), rate=rate)
-        awake = rate == ref.EXTERNAL and running and not halted     # asleep: pulses_asleep
+        awake = rate == ref.EXTERNAL and running and not halted     # more counts asleep: pulses_asleep
         for count in (0, 1, 55, 56, 256, 65535) if awake else (56, 300):
             case.set(replace(random_state(case.m, 0, 2), options=options, timer=200, tf=0,
                              running=running, halted=halted))
@@ -785,6 +785,7 @@ def pulses_asleep():
             case.set(replace(m, halted=1, enable=enable, held_edge=0, tf=0, timer=200, running=1, ps=15,
                              int_pin=1, options=replace(m.options, rate=255, wake_ps=2)))
             case.tmclk(56)
+            case.tmclk(3)               # TF stays set
             case.run(9)
             wake()
             case.steps(3 if enable else 1)

@@ -563,7 +563,7 @@ fn any_event(prng: &mut Prng, steps: u16) -> (u16, u16, u8, u8, u8) {
         _ => 2 + prng.below(5) as u16,
     };
     let count = if kind == plain::TMCLK {
-        prng.next() as u16
+        script::pulses(prng)
     } else {
         prng.below(steps as u64 + 1) as u16
     };

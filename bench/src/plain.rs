@@ -1,5 +1,5 @@
-//! A plain HT1130, written from document 01 and the data sheet alone. It knows
-//! nothing of the proved library: the two are compared.
+//! A plain HT1130, written from the data sheet, document 01 and document 02's
+//! requests alone. It knows nothing of the proved library: the two are compared.
 
 pub const MASK: usize = 4096;
 pub const IMAGE: usize = 166;
@@ -1223,6 +1223,8 @@ mod tests {
         }
         let mut m = asleep;
         m.apply(TMCLK, 56, 0, 0, 0, &[]).unwrap();
+        m.apply(TMCLK, 3, 0, 0, 0, &[]).unwrap();
+        assert_eq!((m.timer, m.tf, m.halted, m.held), (3, 1, 1, 0));
         m.apply(INT, 0, 0, 0, 0, &[]).unwrap();
         m.apply(RUN, 1, 0, 0, 0, &mask_at(8, &[0x2F])).unwrap();
         assert_eq!((m.pc, m.level, m.tf), (8, 2, 1));

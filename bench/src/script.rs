@@ -25,6 +25,12 @@ pub fn power_on(prng: &mut Prng) -> Vec<u8> {
     record(POWER_ON, &payload)
 }
 
+/// A count of rising edges; half of them under 256.
+pub fn pulses(prng: &mut Prng) -> u16 {
+    let bound = [256, 65536][prng.below(2) as usize];
+    prng.below(bound) as u16
+}
+
 /// A record other than power-on; Run takes at most `steps`.
 fn event(prng: &mut Prng, steps: u16) -> Vec<u8> {
     match prng.below(8) {
@@ -34,7 +40,7 @@ fn event(prng: &mut Prng, steps: u16) -> Vec<u8> {
             &[prng.byte() & 15, prng.byte() & 15, prng.byte() & 15],
         ),
         5 => record(INT, &[prng.byte() & 1]),
-        6 => record(TMCLK, &(prng.next() as u16).to_le_bytes()),
+        6 => record(TMCLK, &pulses(prng).to_le_bytes()),
         _ => record(RES, &[]),
     }
 }

@@ -22,8 +22,8 @@ pub record Given (mask old marks : List ℕ) (options : Options) (image : List �
   pub powering : start ≡ powerOn options image before
   pub accepted : start .refusal ≡ 0
 
--- what holds of the machine after the list: it is "in every field, the machine that this document's rules give from that power-on, the mask
--- and these events alone; its fault is 0, and the pair of its PC and level is one that the checker marked"
+-- what holds of the machine after the list: it is "in every field, the machine that this document's rules", as document 02 changes them, "give from
+-- that power-on, the mask and these events alone; its fault is 0, and the pair of its PC and level is one that the checker marked"
 pub record Holds (mask marks : List ℕ) (options : Options) (image : List ℕ) (calls : List Call) (last : Machine) : Type 0 where
   pub state : last ≡ after calls (powered options image)
   pub no-fault : last .cpu .status .fault ≡ 0

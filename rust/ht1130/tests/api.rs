@@ -63,12 +63,11 @@ fn events() {
 fn pulses_asleep() {
     let options = Options {
         rate: EXTERNAL_CLOCK,
-        wake_ps: 2,
+        ps: 2,
         ..Options::default()
     };
     // TIMER C8H, TIMER ON, EI, HALT; RETI at 8
-    let mut code = mask(&[0x47, 0xC8, 0x38, 0x2C, 0x37, 0x3E]);
-    code[8] = 0x2F;
+    let code = mask(&[(0, &[0x47, 0xC8, 0x38, 0x2C, 0x37, 0x3E]), (8, &[0x2F])]);
     let fall = Event::Pins {
         pm: 15,
         ps: 13,
@@ -86,6 +85,10 @@ fn pulses_asleep() {
         ht1130::apply(&mut m, Event::Tmclk(1), &[]).unwrap();
         asleep.cpu.timer.count = 0;
         asleep.cpu.control.tf = 1;
+        assert_eq!(m, asleep);
+        // TF stays set where more pulses do not pass it again.
+        ht1130::apply(&mut m, Event::Tmclk(3), &[]).unwrap();
+        asleep.cpu.timer.count = 3;
         assert_eq!(m, asleep);
         ht1130::apply(&mut m, Event::Run(9), &code).unwrap();
         assert_eq!(m, asleep);
