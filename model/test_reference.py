@@ -466,8 +466,7 @@ def test_event_lists():
     same(min(levels) > 20, True, 'all levels met')
 
 
-for test in (test_table, test_proved_table, test_panel, test_refusals, test_power_on,
-             test_effects, test_branches, test_subroutines, test_interrupts, test_timer,
-             test_pulses_asleep, test_wake, test_marks, test_event_lists):
-    test()
+for name, test in list(globals().items()):
+    if name.startswith('test_'):
+        test()
 print(f'{checks} checks passed')

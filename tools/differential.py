@@ -388,15 +388,24 @@ def limits(rng):
     yield 'payload of 65,535', mask, some + record(2, b'', length=65535)
 
 
-def note(lines):
+def kinds(script):
+    """The kinds of an accepted script's records."""
+    at = 0
+    while at < len(script):
+        yield reference.word(script[at + 2:at + 4])
+        at += 4 + reference.word(script[at:at + 2])
+
+
+def note(lines, script):
     """Notes what a case met."""
     if lines[0].startswith('refused'):
         met[lines[0].partition(' at ')[0]] += 1
         met['refused at an offset'] += not lines[0].endswith(' at 0')
         return
     met['accepted'] += 1
-    for line in lines:
+    for line, kind in zip(lines, kinds(script), strict=True):
         report = bytes.fromhex(line)
+        met['TMCLK asleep'] += kind == 5 and report[11] == 1
         met[f'level {report[10]}'] += 1
         met[f'halted {report[11]}'] += 1
         met[f'fault {report[12]}'] += 1
@@ -406,14 +415,14 @@ def note(lines):
 
 MUST_MEET = ([f'refused {n}' for n in (1, 3, 4, 6, 7, 8)] + [f'level {n}' for n in range(3)]
              + [f'fault {n}' for n in range(4)] + ['halted 0', 'halted 1', 'sound', 'display', 'accepted',
-                                                   'refused at an offset'])
+                                                   'refused at an offset', 'TMCLK asleep'])
 
 
 def random_panel_cases():
     count = 0
     for name, mask, script in panel_cases(random.Random(1130)):
         lines = reference.panel(mask or b'', script or b'')
-        note(lines)
+        note(lines, script)
         compare(f'panel, {name}', [PANEL], {'mask.bin': mask, 'script.bin': script},
                 ''.join(line + '\n' for line in lines).encode())
         count += 1
