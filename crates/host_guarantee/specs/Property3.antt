@@ -1,6 +1,6 @@
--- Property 3 of document 01 for a host that links both libraries and lends one machine record: "Each gets the machine that the one before
--- returned or left in the lent record". `ht1130_check` of ht1130_tools promises `Checks .. r`, and 0 is the answer of a mask that passed; the calls
--- on the record are those of ht1130, a `Lending`. Assumes nothing.
+-- Property 3, by document 01's rules as document 02 changes them, for a host that links both libraries and lends one machine record: "Each gets the
+-- machine that the one before returned or left in the lent record". `ht1130_check` of ht1130_tools promises `Checks .. r`, and 0 is the answer of a
+-- mask that passed; the calls on the record are those of ht1130, a `Lending`. Assumes nothing.
 use Prim.Native.Nat.{ℕ}
 use mathlib.Core.Path.{_≡_}
 use mathlib.Core.List.{List}

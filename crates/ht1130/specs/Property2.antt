@@ -1,6 +1,6 @@
--- Property 2 of document 01 for a host that lends one machine record: "Each gets the machine that the one before returned or left in the lent
--- record". `ht1130_power_on` promises `left r exit ≡ powerOn ..` and `ht1130_apply` promises `left r exit ≡ hosted ..`, and a `Lending` is a list
--- of such calls, each on the record that the one before left. Assumes nothing.
+-- Property 2, by document 01's rules as document 02 changes them, for a host that lends one machine record: "Each gets the machine that the one
+-- before returned or left in the lent record". `ht1130_power_on` promises `left r exit ≡ powerOn ..` and `ht1130_apply` promises
+-- `left r exit ≡ hosted ..`, and a `Lending` is a list of such calls, each on the record that the one before left. Assumes nothing.
 use Prim.Native.Nat.{ℕ}
 use mathlib.Core.Path.{_≡_}
 use mathlib.Core.List.{List, [], _∷_}
