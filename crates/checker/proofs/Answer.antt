@@ -53,7 +53,7 @@ module _ (mask seen : List ℕ) (s : Found pairs (nextCodes mask) seen) where
   of-rank : (p : Pair) → Reached mask p → fault mask (pairOf (rank p)) ≡ 0 → fault mask p ≡ 0
   of-rank p r e = sym (ap (fault mask) (pair-rank p (reached-level mask p r))) ∙ e
 
-  lowest : (f a l : ℕ) → First mask seen f a l → Lowest mask f a l
+  pub lowest : (f a l : ℕ) → First mask seen f a l → Lowest mask f a l
   lowest f a l j =
       record {
         reached = at-pair a l (j .level) (j .found);
@@ -66,9 +66,12 @@ module _ (mask seen : List ℕ) (s : Found pairs (nextCodes mask) seen) where
       go p r n (yes h) = h
       go p r n (no h) = absurd (n (of-rank p r (j .clean (rank p) (omega arith) (flagged p r .1))))
 
+  pub safe : ((k : ℕ) → k < pairs → getD seen k 0 ≡ 1 → fault mask (pairOf k) ≡ 0) → Safe mask
+  safe j q r = of-rank q r (j (rank q) (flagged q r .0) (flagged q r .1))
+
   pub answered : (old marks : List ℕ) (r : Verdict) → length mask ≡ 4096 → length old ≡ 4096 → Packed seen marks → Judged mask seen r → Answers mask old marks r
   answered old marks Passed e f p j =
-      (record { mask-size = e; marks-size = f; marked = marked marks p }, λ q r. of-rank q r (j (rank q) (flagged q r .0) (flagged q r .1)))
+      (record { mask-size = e; marks-size = f; marked = marked marks p }, safe j)
   answered old marks (Failed g a l) e f p j = (record { mask-size = e; marks-size = f; marked = marked marks p }, lowest g a l j)
   answered old marks BadMask e f p j = absurd j
   answered old marks BadMarks e f p j = absurd j
@@ -104,16 +107,19 @@ same-marks mask new other m n = ext-getD 0 new other (m .size ∙ sym (n .size))
         ∙ rw (bit a 0 h (omega arith), bit a 1 h (omega arith), bit a 2 h (omega arith)) refl
         ∙ sym (of-bits (getD other a 0) (n .rest a h))
 
-same-lowest : (mask : List ℕ) (f a l g b m : ℕ) → Lowest mask f a l → Lowest mask g b m → Failed f a l ≡ Failed g b m
-same-lowest mask f a l g b m v w =
+pub same-pair : (mask : List ℕ) (f a l g b m : ℕ) → Lowest mask f a l → Lowest mask g b m → (a ≡ b) × (l ≡ m)
+same-pair mask f a l g b m v w =
     let h : l < levels = reached-level mask (pair a l) (v .reached) in
     let k : m < levels = reached-level mask (pair b m) (w .reached) in
     let below = v .lowest (pair b m) (w .reached) (λ z. w .not-zero (sym (w .forbidden) ∙ z)) in
     let above = w .lowest (pair a l) (v .reached) (λ z. v .not-zero (sym (v .forbidden) ∙ z)) in
-    let p : a ≡ b = omega arith in
-    let q : l ≡ m = omega arith in
-    let r : f ≡ g = sym (v .forbidden) ∙ rw (p, q) (w .forbidden) in
-    rw (p, q, r) refl
+    (omega arith, omega arith)
+
+same-lowest : (mask : List ℕ) (f a l g b m : ℕ) → Lowest mask f a l → Lowest mask g b m → Failed f a l ≡ Failed g b m
+same-lowest mask f a l g b m v w =
+    let e = same-pair mask f a l g b m v w in
+    let r : f ≡ g = sym (v .forbidden) ∙ rw (e .0, e .1) (w .forbidden) in
+    rw (e .0, e .1, r) refl
 
 -- what a mask and marks of the right lengths are answered, by what is reached
 module _ (mask old new : List ℕ) (m : length mask ≡ 4096) (o : length old ≡ 4096) where

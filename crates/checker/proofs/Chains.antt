@@ -1,10 +1,12 @@
 -- Chains over any successor function, and what they reach. The start is reached, and so is each successor of what is reached, since a chain
 -- can be made longer at its end. What holds of the start and passes to successors holds of all that is reached, by induction along the
 -- chain. Where elements have codes, chains of elements are chains of their codes. Assumes nothing.
-use Prim.Native.Nat.{ℕ}
+use Prim.Native.Nat.{ℕ, suc, _≤_}
+use native.Mathlib.Omega.{arith}
 use mathlib.Core.Path.{_≡_, refl, sym, ap, subst, _∙_}
 use mathlib.Core.List.{List, [], _∷_, map}
-use Rattle.checker.specs.Chains.{Member, here, there, Chain, one, more, Reaches}
+use lib.ListN.{length}
+use Rattle.checker.specs.Chains.{Member, here, there, Chain, one, more, Reaches, Shortest}
 use Rattle.checker.specs.Walk.{All}
 
 -- ---- members
@@ -28,6 +30,10 @@ module _ {A : Type 0} where
   of-map : (f : A → ℕ) {k : ℕ} (ps : List A) → Member k (map f ps) → (q : A) × Member q ps × (k ≡ f q)
   of-map f (p ∷ ps) here = (p, here, refl)
   of-map f (p ∷ ps) (there m) = let r = of-map f ps m in (r .0, there (r .1), r .2)
+
+  pub map-length : {B : Type 0} (f : A → B) (ps : List A) → length (map f ps) ≡ length ps
+  map-length f [] = refl
+  map-length f (p ∷ ps) = ap suc (map-length f ps)
 
 -- ---- chains
 module _ {A : Type 0} {next : A → List A} where
@@ -55,20 +61,43 @@ module _ {A : Type 0} (next : A → List A) (start : A) (code : A → ℕ) (at :
   abbrev Codes : ℕ → List ℕ
   Codes k = map code (next (at k))
 
+  -- a chain of codes is a chain of what has them, and back
+  pub chain-at : {k m : ℕ} {ks : List ℕ} → In (at k) → Chain Codes k ks m → Chain next (at k) (map at ks) (at m)
+  chain-at i one = one
+  chain-at {k} i (more {q = m} n c) =
+      let q = of-map code (next (at k)) n in
+      let j : In (q .0) = keeps (at k) (q .0) i (q .1) in
+      let e : at m ≡ q .0 = ap at (q .2) ∙ back (q .0) j in
+      more (subst (λ (x : A). Member x (next (at k))) (sym e) (q .1)) (chain-at (subst In (sym e) j) c)
+
+  pub chain-code : {p q : A} {ps : List A} → In p → Chain next p ps q → In q × Chain Codes (code p) (map code ps) (code q)
+  chain-code i one = (i, one)
+  chain-code {p} i (more {q = q} m c) =
+      let r = chain-code (keeps p q i m) c in
+      (r .0, more (subst (λ (x : A). Member (code q) (map code (next x))) (sym (back p i)) (to-map code m)) (r .1))
+
+  -- the start's code names the start
+  pub chain-start : {k : ℕ} {ks : List ℕ} → Chain Codes (code start) ks k → Chain next start (map at ks) (at k)
+  chain-start {k} {ks} c =
+      subst (λ (s : A). Chain next s (map at ks) (at k)) (back start begins) (chain-at (subst In (sym (back start begins)) begins) c)
+
   pub of-code : (k : ℕ) → Reaches Codes (code start) k → Reaches next start (at k)
-  of-code k r =
-      reached-all (λ (k : ℕ). In (at k) × Reaches next start (at k)) (rw (back start begins) (begins, reached-start)) step k r .1
-    where
-      step : (k m : ℕ) → In (at k) × Reaches next start (at k) → Member m (Codes k) → In (at m) × Reaches next start (at m)
-      step k m h n =
-          let q = of-map code (next (at k)) n in
-          let i : In (q .0) = keeps (at k) (q .0) (h .0) (q .1) in
-          let e : at m ≡ q .0 = ap at (q .2) ∙ back (q .0) i in
-          (subst In (sym e) i, subst (Reaches next start) (sym e) (reached-next (h .1) (q .1)))
+  of-code k r = record { chain = map at (r .chain); links = chain-start (r .links) }
 
   pub to-code : (p : A) → Reaches next start p → In p × Reaches Codes (code start) (code p)
-  to-code = reached-all (λ (p : A). In p × Reaches Codes (code start) (code p)) (begins, reached-start) step
-    where
-      step : (p q : A) → In p × Reaches Codes (code start) (code p) → Member q (next p) → In q × Reaches Codes (code start) (code q)
-      step p q h m =
-          (keeps p q (h .0) m, reached-next (h .1) (subst (λ (x : A). Member (code q) (map code (next x))) (sym (back p (h .0))) (to-map code m)))
+  to-code p r = let c = chain-code begins (r .links) in (c .0, record { chain = map code (r .chain); links = c .1 })
+
+  -- a shortest chain of codes is one of what has them, and back
+  pub shortest-at : {p : A} {ks : List ℕ} → In p → Shortest Codes (code start) ks (code p) → Shortest next start (map at ks) p
+  shortest-at {p} {ks} i s =
+      record {
+        links = subst (Chain next start (map at ks)) (back p i) (chain-start (s .links));
+        least = λ other d. omega (arith, map-length at ks, map-length code other, s .least (map code other) (chain-code begins d .1));
+      }
+
+  pub shortest-code : {p : A} {ps : List A} → In p → Shortest next start ps p → Shortest Codes (code start) (map code ps) (code p)
+  shortest-code {p} {ps} i s =
+      record {
+        links = chain-code begins (s .links) .1;
+        least = λ other d. omega (arith, map-length code ps, map-length at other, s .least (map at other) (subst (Chain next start (map at other)) (back p i) (chain-start d)));
+      }

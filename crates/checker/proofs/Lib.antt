@@ -5,3 +5,8 @@ pub mod Successors
 pub mod Count
 pub mod Turn
 pub mod Answer
+pub mod Back
+pub mod Distance
+pub mod Once
+pub mod Trace
+pub mod Ways

@@ -4,7 +4,7 @@ use Prim.Native.Nat.{ℕ, _+_, _*_, _/_, _%_, _<_}
 use native.Mathlib.Omega.{arith}
 use mathlib.Core.Path.{_≡_, refl}
 use mathlib.Core.Bool.{Bool, true}
-use mathlib.Core.List.{List, []}
+use mathlib.Core.List.{List, [], map}
 use lib.Dec.{eqb}
 use borrow.Author.Tests.{ltb-true}
 use Rattle.isa.specs.Choice.{pick}
@@ -17,11 +17,11 @@ use Rattle.isa.specs.declared.Instruction.{Instruction}
 use Rattle.rom.specs.Fetching.{Bytes, byteAt, readAt, movedFrom}
 use Rattle.checker.specs.declared.flow.Flow.{Flow}
 use Rattle.checker.specs.declared.flow.Flow.the-variants.{Unread, On, Enable, Jump, To, Sub, Back}
-use Rattle.checker.specs.Chains.{Member, Reaches}
+use Rattle.checker.specs.Chains.{Member, Reaches, Shortest}
 use Rattle.checker.specs.Marks.{addresses, levels, Pair, pair, flowBy, flowOf, flowRead, flowAt, handed, fault, successors, Reached}
 use Rattle.checker.specs.Verdicts.{rank}
 use Rattle.checker.specs.Walk.{All, Small, pairs, pairOf, nextCodes}
-use Rattle.checker.proofs.Chains.{all-member, all-of, all-map, reached-all, of-code, to-code}
+use Rattle.checker.proofs.Chains.{all-member, all-of, all-map, reached-all, of-code, to-code, shortest-at, shortest-code}
 
 -- ---- what a flow hands on
 -- the target of a jump or a call is an address
@@ -104,6 +104,12 @@ module _ (mask : List ℕ) where
 
   pub reached-code : (p : Pair) → Reached mask p → InLevels p × Reaches (nextCodes mask) 0 (rank p)
   reached-code = to-code (successors mask) (pair 0 0) rank pairOf InLevels (omega arith) next-level pair-rank
+
+  pub code-shortest : (p : Pair) {ks : List ℕ} → InLevels p → Shortest (nextCodes mask) 0 ks (rank p) → Shortest (successors mask) (pair 0 0) (map pairOf ks) p
+  code-shortest p h = shortest-at (successors mask) (pair 0 0) rank pairOf InLevels (omega arith) next-level pair-rank h
+
+  pub shortest-codes : (p : Pair) {ps : List Pair} → InLevels p → Shortest (successors mask) (pair 0 0) ps p → Shortest (nextCodes mask) 0 (map rank ps) (rank p)
+  shortest-codes p h = shortest-code (successors mask) (pair 0 0) rank pairOf InLevels (omega arith) next-level pair-rank h
 
   -- ---- ranges
   module _ (bytes : Bytes mask) where

@@ -4,12 +4,12 @@
 -- nothing.
 use Prim.Native.Nat.{ℕ, suc, _+_, _<_, _≤_}
 use native.Mathlib.Omega.{arith}
-use native.Mathlib.Decide.{ℕ-discrete}
+use native.Mathlib.Decide.{ℕ-discrete, decLt}
 use mathlib.Core.Path.{_≡_, refl, sym, ap, subst, _∙_}
 use mathlib.Core.List.{List, [], _∷_}
 use lib.ListN.{length, getD, set, length-set}
 use lib.Seq.{getD-set-same, getD-set-other}
-use Rattle.checker.specs.Chains.{Member, Reaches}
+use Rattle.checker.specs.Chains.{Member, here, there, Reaches}
 use Rattle.checker.specs.Walk.{All, Small, Work, work, pushed, pushedAll, zeros, Room, Found}
 use Rattle.checker.proofs.Chains.{all-member, all-of, reached-start, reached-next, reached-all}
 use Rattle.checker.proofs.Count.{zeros-set, after-set, found-also, push-cases, room-left, room-new}
@@ -102,6 +102,13 @@ module _ (n : ℕ) (next : ℕ → List ℕ) where
         full : (getD (w .seen) c 0 ≡ 0 → ⊥) → getD (w .seen) c 0 ≤ 1 → getD (w .seen) c 0 ≡ 1
         full m l = omega arith
 
+    -- the place that a push takes holds its code
+    push-fresh : (j : ℕ) → w .tail ≤ j → j < pushed w c .tail → getD (pushed w c .queue) j 0 ≡ c
+    push-fresh j l = push-cases (λ (v : Work). j < v .tail → getD (v .queue) j 0 ≡ c) w c new (λ m b. absurd (omega arith))
+      where
+        new : getD (w .seen) c 0 ≡ 0 → j < w .tail + 1 → getD (set (w .queue) (w .tail) c) j 0 ≡ c
+        new e b = let p : j ≡ w .tail = omega arith in ap (λ (j : ℕ). getD (set (w .queue) (w .tail) c) j 0) p ∙ getD-set-same (w .queue) (w .tail) c 0 (end-here e)
+
   -- ---- a list of pushes
   abbrev Next : ℕ → Type 0
   Next c = (c < n) × Reached c
@@ -110,17 +117,23 @@ module _ (n : ℕ) (next : ℕ → List ℕ) where
     pub core : Core w
     pub grows : Grows v w
     pub all : All (λ (c : ℕ). getD (w .seen) c 0 ≡ 1) cs
+    pub fresh : (j : ℕ) → v .tail ≤ j → j < w .tail → Member (getD (w .queue) j 0) cs
 
   push-list : (w : Work) (cs : List ℕ) → Core w → All Next cs → Pushed w cs (pushedAll w cs)
   unfolding pushedAll
-  push-list w [] k h = record { core = k; grows = grows-same w; all = tt }
+  push-list w [] k h = record { core = k; grows = grows-same w; all = tt; fresh = λ j l b. absurd (omega arith) }
   push-list w (c ∷ cs) k h =
       let d = push-list (pushed w c) cs (push-core w c k (h .0 .0) (h .0 .1)) (h .1) in
       record {
         core = d .core;
         grows = grows-on (push-grows w c k (h .0 .0)) (d .grows);
         all = (d .grows .seen c (push-found w c k (h .0 .0)), d .all);
+        fresh = λ j l b. go (pushedAll (pushed w c) cs) d j l b (decLt j (pushed w c .tail));
       }
+    where
+      go : (v : Work) → Pushed (pushed w c) cs v → (j : ℕ) → w .tail ≤ j → j < v .tail → Dec (j < pushed w c .tail) → Member (getD (v .queue) j 0) (c ∷ cs)
+      go v d j l b (yes m) = subst (λ (q : ℕ). Member q (c ∷ cs)) (sym (d .grows .queue j m ∙ push-fresh w c k (h .0 .0) j l m)) here
+      go v d j l b (no m) = there (d .fresh j (omega arith) b)
 
   -- ---- the loop
   pub record Walking (w : Work) (head : ℕ) : Type 0 where
@@ -152,10 +165,16 @@ module _ (n : ℕ) (next : ℕ → List ℕ) where
         }
 
     module _ (small : (k : ℕ) → Small n (next k)) where
+      -- the pushes of a turn
+      pub pushes : (w : Work) (head : ℕ) → Walking w head → head < w .tail → Pushed w (next (getD (w .queue) head 0)) (pushedAll w (next (getD (w .queue) head 0)))
+      pushes w head i h =
+          let c = getD (w .queue) head 0 in
+          push-list w (next c) (i .core) (all-of Next (next c) (λ q m. (all-member (λ (k : ℕ). k < n) m (small c), reached-next (i .core .held head h) m)))
+
       pub turn : (w : Work) (head : ℕ) → Walking w head → head < w .tail → Walking (pushedAll w (next (getD (w .queue) head 0))) (head + 1)
       turn w head i h =
           let c = getD (w .queue) head 0 in
-          let d = push-list w (next c) (i .core) (all-of Next (next c) (λ q m. (all-member (λ (k : ℕ). k < n) m (small c), reached-next (i .core .held head h) m))) in
+          let d = pushes w head i h in
           record {
             core = d .core;
             before = omega (arith, d .grows .tail);

@@ -1,4 +1,6 @@
 pub mod Chains
 pub mod Marks
+pub mod Trail
 pub mod Verdicts
 pub mod Walk
+pub mod Ways

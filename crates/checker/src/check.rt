@@ -33,7 +33,7 @@ fn pack(seen: &[u8; 12288], marks: &mut [u8])
 }
 
 // The first flagged code whose pair is forbidden.
-fn judge(mask: &[u8], seen: &[u8; 12288]) -> Verdict
+pub(crate) fn judge(mask: &[u8], seen: &[u8; 12288]) -> Verdict
     ensures { λ r. ⌜ Judged (now (mask .entry)) (now (seen .entry)) r ⌝ }
 {
     let mut code: u16 = 0;

@@ -3,3 +3,4 @@ pub mod check;
 pub mod flow;
 mod next;
 mod walk;
+pub mod way;

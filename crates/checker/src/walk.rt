@@ -24,7 +24,12 @@ fn push(seen: &mut [u8; 12288], queue: &mut [u16; 12288], tail: u16, code: u16) 
 }
 
 // Each of these codes that is not found yet goes to the queue's end.
-fn push_all(seen: &mut [u8; 12288], queue: &mut [u16; 12288], tail: u16, codes: Codes) -> u16
+pub(crate) fn push_all(
+    seen: &mut [u8; 12288],
+    queue: &mut [u16; 12288],
+    tail: u16,
+    codes: Codes,
+) -> u16
     requires { ⌜ Small pairs (codesOf codes) ⌝ }
     requires { ⌜ Room pairs (now seen) tail ⌝ }
     ensures { λ r.

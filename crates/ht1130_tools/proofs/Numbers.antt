@@ -1,13 +1,20 @@
--- What the number of a verdict says: 0 is passed alone, since a fault is not 0; and `ht1130_check` has one answer. Assumes nothing.
+-- What the number of a verdict says: 0 is passed alone, since a fault is not 0; `ht1130_check` has one answer, and `ht1130_way` one number, which
+-- for a list that holds a way through every pair is not 11. Assumes nothing.
 use Prim.Native.Nat.{ℕ}
 use native.Mathlib.Omega.{arith}
 use mathlib.Core.Path.{_≡_, sym, ap, _∙_}
 use mathlib.Core.List.{List}
+use lib.ListN.{length}
 use Rattle.checker.specs.Verdicts.{Answers}
 use Rattle.checker.specs.declared.check.Verdict.{Verdict}
 use Rattle.checker.specs.declared.check.Verdict.the-variants.{Passed, Failed, BadMask, BadMarks}
+use Rattle.checker.specs.Ways.{WayAnswers}
+use Rattle.checker.specs.declared.way.Listing.{Listing}
+use Rattle.checker.specs.declared.way.Listing.the-variants.{Listed, MaskPasses, BadList}
+use Rattle.checker.specs.declared.way.Listing.the-variants.{BadMask as NoMask}
 use Rattle.checker.proofs.Answer.{answers-determine}
-use Rattle.ht1130_tools.specs.Numbers.{Checks, ChecksDetermine, verdictNumber}
+use Rattle.checker.proofs.Ways.{way-determines, never-too-short}
+use Rattle.ht1130_tools.specs.Numbers.{Checks, ChecksDetermine, verdictNumber, Ways, WaysDetermine, WayLengthDoes, wayNumber}
 
 pub passed : (mask old marks : List ℕ) → Checks mask old marks 0 → Answers mask old marks Passed
 passed mask old marks c = go (c .verdict) (c .answers) (c .number)
@@ -22,3 +29,16 @@ pub checks-determine : ChecksDetermine
 checks-determine mask old new other r q c d =
     let same = answers-determine mask old new other (c .verdict) (d .verdict) (c .answers) (d .answers) in
     (c .number ∙ ap verdictNumber (same .0) ∙ sym (d .number), same .1)
+
+pub ways-determine : WaysDetermine
+ways-determine mask old new other r q x y =
+    x .number ∙ ap wayNumber (way-determines mask old new other (x .listing) (y .listing) (x .answers) (y .answers)) ∙ sym (y .number)
+
+pub way-length-does : WayLengthDoes
+way-length-does mask old new r bytes h w e = go (w .listing) (w .answers) (sym (w .number) ∙ e)
+  where
+    go : (v : Listing) → WayAnswers mask old new v → wayNumber v ≡ 11 → ⊥
+    go (Listed n) a e = omega (arith, e)
+    go NoMask a e = omega (arith, e)
+    go MaskPasses a e = omega (arith, e)
+    go BadList a e = never-too-short mask old bytes h (a .0)

@@ -1,11 +1,17 @@
 -- The answers as numbers of eight bytes, which are this interface's own: the refusal in byte 0, and what else there is above it. Assumes
 -- nothing.
-use Prim.Native.Nat.{ℕ, _+_, _*_, _^_}
+use Prim.Native.Nat.{ℕ, _+_, _*_, _^_, _≤_}
 use mathlib.Core.Path.{_≡_}
 use mathlib.Core.List.{List}
+use lib.ListN.{length}
+use Rattle.rom.specs.Fetching.{Bytes}
 use Rattle.checker.specs.Verdicts.{Answers, numberOf}
 use Rattle.checker.specs.declared.check.Verdict.{Verdict}
 use Rattle.checker.specs.declared.check.Verdict.the-variants.{Passed, Failed, BadMask, BadMarks}
+use Rattle.checker.specs.Ways.{WayAnswers, wayRefusal}
+use Rattle.checker.specs.declared.way.Listing.{Listing}
+use Rattle.checker.specs.declared.way.Listing.the-variants.{Listed, MaskPasses, BadList}
+use Rattle.checker.specs.declared.way.Listing.the-variants.{BadMask as NoMask}
 use Rattle.script.specs.Reports.{Applied}
 use Rattle.script.specs.declared.Checked.{Checked}
 
@@ -26,6 +32,32 @@ pub record Checks (mask old new : List ℕ) (r : ℕ) : Type 0 where
 -- the number and the marks depend on the mask and the marks at entry alone
 abbrev pub ChecksDetermine : Type 0
 ChecksDetermine = (mask old new other : List ℕ) (r q : ℕ) → Checks mask old new r → Checks mask old other q → (r ≡ q) × (new ≡ other)
+
+-- document 02, wish 2: "the answer is its count of pairs", in bytes 4 and 5. A refusal is its number, "10 if the mask passes, after 1; 11 if the
+-- list is too short, after 10"
+abbrev pub wayNumber : Listing → ℕ
+wayNumber (Listed n) = n * 2 ^ 32
+wayNumber NoMask = wayRefusal NoMask
+wayNumber MaskPasses = wayRefusal MaskPasses
+wayNumber BadList = wayRefusal BadList
+
+-- what `ht1130_way` leaves: an answer for the mask and the list at entry and at exit, and its number. "Which of several is free": the bytes listed
+-- are some shortest chain's
+pub record Ways (mask old new : List ℕ) (r : ℕ) : Type 0 where
+  pub listing : Listing
+  pub answers : WayAnswers mask old new listing
+  pub number : r ≡ wayNumber listing
+
+-- the number depends on the mask and the list at entry alone
+abbrev pub WaysDetermine : Type 0
+WaysDetermine = (mask old new other : List ℕ) (r q : ℕ) → Ways mask old new r → Ways mask old other q → r ≡ q
+
+-- HT1130_WAY, three bytes for each of 12,288 pairs: a list of so many bytes is never too short
+abbrev pub wayLength : ℕ
+wayLength = 36864
+
+abbrev pub WayLengthDoes : Type 0
+WayLengthDoes = (mask old new : List ℕ) (r : ℕ) → Bytes mask → wayLength ≤ length old → Ways mask old new r → r ≡ wayRefusal BadList → ⊥
 
 -- "one line `refused N at P`": N in byte 0, P in bytes 4 and 5
 abbrev pub scriptNumber : Checked → ℕ

@@ -1,9 +1,11 @@
-// The checker's verdict as a number.
+// The checker's verdict, and the way to what it names, as numbers.
 ghost use mathlib.Core.Path.{_≡_};
 ghost use Prim.Native.Nat.{_+_, _*_, _^_};
-ghost use Rattle.ht1130_tools.specs.Numbers.{Checks, verdictNumber};
+ghost use Rattle.ht1130_tools.specs.Numbers.{Checks, Ways, verdictNumber, wayNumber};
 use checker::check::Verdict;
 use checker::check::check;
+use checker::way::Listing;
+use checker::way::way;
 
 // Bytes 1, 2, and 4 with 5.
 fn failed(fault: u8, address: u16, level: u8) -> u64
@@ -28,4 +30,22 @@ pub extern "C" fn ht1130_check(mask: &[u8], marks: &mut [u8]) -> u64
     ensures { λ r. ⌜ Checks (now (mask .entry)) (now (marks .entry)) (now (marks .exit)) r ⌝ }
 {
     packed(check(mask, marks))
+}
+
+fn counted(listing: Listing) -> u64
+    ensures { λ r. ⌜ r ≡ wayNumber listing ⌝ }
+{
+    match listing {
+        Listing::Listed(count) => count as u64 * 0x100000000,
+        Listing::BadMask => 1,
+        Listing::MaskPasses => 10,
+        Listing::BadList => 11,
+    }
+}
+
+#[no_mangle]
+pub extern "C" fn ht1130_way(mask: &[u8], list: &mut [u8]) -> u64
+    ensures { λ r. ⌜ Ways (now (mask .entry)) (now (list .entry)) (now (list .exit)) r ⌝ }
+{
+    counted(way(mask, list))
 }

@@ -1,0 +1,139 @@
+-- From the queue to the answer: the way back from where the named pair's code first stands is a shortest chain of codes, so of pairs. And the
+-- answer is the only one: the named pair is, and shortest chains to it are as long. Assumes nothing.
+use Prim.Native.Nat.{ℕ, suc, _+_, _*_, _<_, _≤_}
+use native.Mathlib.Omega.{arith}
+use mathlib.Core.Path.{_≡_, refl, sym, ap, subst, _∙_}
+use mathlib.Core.List.{List, [], _∷_, _++_, map}
+use lib.ListN.{length, getD, drop}
+use types.Run.{OneOf, miss}
+use denote.Enum.Declared.{tagOf}
+use Rattle.rom.specs.Fetching.{Bytes}
+use Rattle.checker.specs.Chains.{Chain, Shortest}
+use Rattle.checker.specs.Marks.{addresses, levels, Pair, pair, successors}
+use Rattle.checker.specs.Verdicts.{rank, Lowest, Safe}
+use Rattle.checker.specs.Walk.{pairs, pairOf, nextCodes, Found, First, Judged}
+use Rattle.checker.specs.Ways.{Way, Lists, TooShort, WayAnswers, WayDetermines, WayFits, NeverTooShort}
+use Rattle.checker.specs.Trail.{Stands, StandsFirst, Traced, Falling, Counted, Up, stay, pairsAt, Ended, ListedTo}
+use Rattle.checker.specs.declared.check.Verdict.{Verdict}
+use Rattle.checker.specs.declared.check.Verdict.the-variants.{Passed, Failed, BadMarks}
+use Rattle.checker.specs.declared.check.Verdict.the-variants.{BadMask as VerdictBadMask}
+use Rattle.checker.specs.declared.way.Listing.{Listing}
+use Rattle.checker.specs.declared.way.Listing.the-variants.{Listed, BadMask, MaskPasses, BadList}
+use Rattle.checker.proofs.check.Verdict.{the-type}
+use Rattle.checker.proofs.Chains.{map-length}
+use Rattle.checker.proofs.Reach.{reached-level, code-shortest, shortest-codes, codes-small}
+use Rattle.checker.proofs.Answer.{lowest, safe, same-pair}
+use Rattle.checker.proofs.Back.{up-from}
+use Rattle.checker.proofs.Distance.{shortest}
+use Rattle.checker.proofs.Once.{few-of-shortest}
+
+-- ---- the answer
+module _ (mask seen queue before : List ℕ) (s : Found pairs (nextCodes mask) seen) (t : Traced (nextCodes mask) seen queue before) where
+  -- no forbidden pair: the keys of the other arm, places in the enum, are all but 1, Failed
+  pub passes : (v : Verdict) → Judged mask seen v → OneOf (0 ∷ 2 ∷ 3 ∷ []) (tagOf the-type v) → Safe mask
+  passes Passed j h = safe mask seen s j
+  passes (Failed f a l) j h = absurd (miss (0 ∷ 2 ∷ 3 ∷ []) (tagOf the-type (Failed f a l)) tt h)
+  passes VerdictBadMask j h = absurd j
+  passes BadMarks j h = absurd j
+
+  module _ (f a l : ℕ) (j : First mask seen f a l) where
+    abbrev code : ℕ
+    code = rank (pair a l)
+
+    pub standing : Stands pairs queue code
+    standing =
+        let p = t .stands code (j .found) in
+        record { at = p .at; below = omega (arith, p .below, t .places); holds = p .holds }
+
+    below : (at : ℕ) → StandsFirst queue code at → at < t .tail
+    below at h = let p = t .stands code (j .found) in omega (arith, h .first (p .at) (p .holds), p .below)
+
+    pub falling : (at : ℕ) → StandsFirst queue code at → Falling before at
+    falling at h i z k = t .trail .earlier i z (omega (arith, below at h))
+
+    way-back : (js : List ℕ) (count end : ℕ) → StandsFirst queue code end → Counted before end count → Up before 0 js end → count ≡ length js → Way mask (pairsAt queue js)
+    way-back js count end h n u e =
+        record {
+          f = f;
+          a = a;
+          l = l;
+          named = lowest mask seen s f a l j;
+          shortest = code-shortest mask (pair a l) (j .level) (shortest (nextCodes mask) queue before (t .tail) (t .trail) (t .some) (below end h) u n e h);
+        }
+
+    pairs-length : (js : List ℕ) → length (pairsAt queue js) ≡ length js
+    pairs-length js = map-length pairOf (map (λ (j : ℕ). getD queue j 0) js) ∙ map-length (λ (j : ℕ). getD queue j 0) js
+
+    pub answered : (old new : List ℕ) (r : Listing) → length mask ≡ 4096 → ListedTo queue before code old new r → WayAnswers mask old new r
+    answered old new (Listed n) e x =
+        let p = x .listings in
+        record {
+          mask-size = e;
+          chain = pairsAt queue (p .places);
+          way = way-back (p .places) n (x .ended .end) (x .ended .first) (x .ended .counted) (p .up) (p .counted);
+          counted = p .counted ∙ sym (pairs-length (p .places));
+          fits = x .fits;
+          bytes = p .bytes;
+        }
+    answered old new BadMask e x = absurd x
+    answered old new MaskPasses e x = absurd x
+    answered old new BadList e (x, kept) =
+        let u = up-from (x .ended .counted) stay in
+        let n : x .count ≡ length (u .0) = omega (arith, u .2) in (
+          record {
+            mask-size = e;
+            chain = pairsAt queue (u .0);
+            way = way-back (u .0) (x .count) (x .ended .end) (x .ended .first) (x .ended .counted) (u .1) n;
+            short = omega (arith, x .short, pairs-length (u .0));
+          },
+          kept,
+        )
+
+-- ---- the only answer
+same-count : (mask : List ℕ) (c d : List Pair) → Way mask c → Way mask d → length c ≡ length d
+same-count mask c d v w =
+    let e = same-pair mask (v .f) (v .a) (v .l) (w .f) (w .a) (w .l) (v .named) (w .named) in
+    let p : pair (v .a) (v .l) ≡ pair (w .a) (w .l) = rw (e .0, e .1) refl in
+    omega (
+      arith,
+      v .shortest .least d (subst (Chain (successors mask) (pair 0 0) d) (sym p) (w .shortest .links)),
+      w .shortest .least c (subst (Chain (successors mask) (pair 0 0) c) p (v .shortest .links)),
+    )
+
+-- a mask with a way does not pass
+not-safe : (mask : List ℕ) (c : List Pair) → Way mask c → Safe mask → ⊥
+not-safe mask c v s = v .named .not-zero (sym (v .named .forbidden) ∙ s (pair (v .a) (v .l)) (v .named .reached))
+
+pub way-determines : WayDetermines
+way-determines mask old new other v w x y = go v w x y
+  where
+    go : (v w : Listing) → WayAnswers mask old new v → WayAnswers mask old other w → v ≡ w
+    go (Listed n) (Listed m) x y = ap Listed (x .counted ∙ same-count mask (x .chain) (y .chain) (x .way) (y .way) ∙ sym (y .counted))
+    go (Listed n) BadMask x y = absurd (y .0 (x .mask-size))
+    go (Listed n) MaskPasses x y = absurd (not-safe mask (x .chain) (x .way) (y .1))
+    go (Listed n) BadList x y = absurd (omega (arith, x .fits, x .counted, same-count mask (x .chain) (y .0 .chain) (x .way) (y .0 .way), y .0 .short))
+    go BadMask (Listed m) x y = absurd (x .0 (y .mask-size))
+    go BadMask BadMask x y = refl
+    go BadMask MaskPasses x y = absurd (x .0 (y .0))
+    go BadMask BadList x y = absurd (x .0 (y .0 .mask-size))
+    go MaskPasses (Listed m) x y = absurd (not-safe mask (y .chain) (y .way) (x .1))
+    go MaskPasses BadMask x y = absurd (y .0 (x .0))
+    go MaskPasses MaskPasses x y = refl
+    go MaskPasses BadList x y = absurd (not-safe mask (y .0 .chain) (y .0 .way) (x .1))
+    go BadList (Listed m) x y = absurd (omega (arith, y .fits, y .counted, same-count mask (x .0 .chain) (y .chain) (x .0 .way) (y .way), x .0 .short))
+    go BadList BadMask x y = absurd (y .0 (x .0 .mask-size))
+    go BadList MaskPasses x y = absurd (not-safe mask (x .0 .chain) (x .0 .way) (y .1))
+    go BadList BadList x y = refl
+
+-- ---- the length that always does
+pub way-fits : WayFits
+way-fits mask bytes chain w =
+    let p = pair (w .a) (w .l) in
+    omega (
+      arith,
+      map-length rank chain,
+      few-of-shortest pairs (nextCodes mask) (codes-small mask bytes) {p = 0} (omega arith) (shortest-codes mask p (reached-level mask p (w .named .reached)) (w .shortest)),
+    )
+
+pub never-too-short : NeverTooShort
+never-too-short mask old bytes h s = omega (arith, way-fits mask bytes (s .chain) (s .way), s .short)

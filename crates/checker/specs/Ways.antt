@@ -1,0 +1,68 @@
+-- Document 02, wish 2, "The way to a forbidden place": what is listed, and what each answer says. "Which of several is free", so a listed chain
+-- is held to a relation; the answer and the count are determined. Assumes nothing.
+use Prim.Native.Nat.{ℕ, _*_, _/_, _%_, _<_, _≤_}
+use mathlib.Core.Path.{_≡_}
+use mathlib.Core.List.{List, [], _∷_, _++_}
+use lib.ListN.{length, drop}
+use Rattle.rom.specs.Fetching.{Bytes}
+use Rattle.checker.specs.Chains.{Shortest}
+use Rattle.checker.specs.Marks.{addresses, levels, Pair, pair, successors}
+use Rattle.checker.specs.Verdicts.{Lowest, Safe}
+use Rattle.checker.specs.declared.way.Listing.{Listing}
+use Rattle.checker.specs.declared.way.Listing.the-variants.{Listed, BadMask, MaskPasses, BadList}
+
+-- "three bytes a pair (address low byte first, level)"
+unfoldable pub listed : List Pair → List ℕ
+listed [] = []
+listed (p ∷ ps) = p .address % 256 ∷ p .address / 256 ∷ p .level ∷ listed ps
+
+-- "a chain from address 0, level 0 to the pair that the checker named. No such chain has fewer pairs"
+pub record Way (mask : List ℕ) (chain : List Pair) : Type 0 where
+  pub f : ℕ
+  pub a : ℕ
+  pub l : ℕ
+  pub named : Lowest mask f a l
+  pub shortest : Shortest (successors mask) (pair 0 0) chain (pair a l)
+
+-- "It is written into a lent list ..; bytes after it stay, and the answer is its count of pairs"
+pub record Lists (mask old new : List ℕ) (count : ℕ) : Type 0 where
+  pub mask-size : length mask ≡ 4096
+  pub chain : List Pair
+  pub way : Way mask chain
+  pub counted : count ≡ length chain
+  pub fits : 3 * count ≤ length old
+  pub bytes : new ≡ listed chain ++ drop (3 * count) old
+
+-- "11 if the list is too short": for a shortest chain
+pub record TooShort (mask old : List ℕ) : Type 0 where
+  pub mask-size : length mask ≡ 4096
+  pub chain : List Pair
+  pub way : Way mask chain
+  pub short : length old < 3 * length chain
+
+-- what each answer says of the mask, and of the list at entry and at exit: "10 if the mask passes, after 1; 11 if the list is too short,
+-- after 10", and then the list is as it was
+abbrev pub WayAnswers : List ℕ → List ℕ → List ℕ → Listing → Type 0
+WayAnswers mask old new (Listed n) = Lists mask old new n
+WayAnswers mask old new BadMask = (length mask ≡ 4096 → ⊥) × (new ≡ old)
+WayAnswers mask old new MaskPasses = (length mask ≡ 4096) × Safe mask × (new ≡ old)
+WayAnswers mask old new BadList = TooShort mask old × (new ≡ old)
+
+-- the paper's number of each answer, 0 for an answer that is not refused
+abbrev pub wayRefusal : Listing → ℕ
+wayRefusal (Listed n) = 0
+wayRefusal BadMask = 1
+wayRefusal MaskPasses = 10
+wayRefusal BadList = 11
+
+-- the answer, its count with it, depends on the mask and the list at entry alone
+abbrev pub WayDetermines : Type 0
+WayDetermines =
+    (mask old new other : List ℕ) (v w : Listing) → WayAnswers mask old new v → WayAnswers mask old other w → v ≡ w
+
+-- a shortest chain has each pair once, so at most 12,288 pairs; a list of three bytes for each is never too short
+abbrev pub WayFits : Type 0
+WayFits = (mask : List ℕ) → Bytes mask → (chain : List Pair) → Way mask chain → length chain ≤ addresses * levels
+
+abbrev pub NeverTooShort : Type 0
+NeverTooShort = (mask old : List ℕ) → Bytes mask → 3 * (addresses * levels) ≤ length old → TooShort mask old → ⊥
