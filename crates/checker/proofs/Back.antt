@@ -2,6 +2,7 @@
 -- Assumes nothing.
 use Prim.Native.Nat.{ℕ, zero, suc, _+_, _-_, _*_, _<_, _≤_}
 use native.Mathlib.Omega.{arith}
+use native.Mathlib.Decide.{decLe}
 use native.Mathlib.Numerals.{add-one}
 use mathlib.Core.Path.{_≡_, refl, sym, ap, subst, _∙_}
 use mathlib.Core.List.{List, [], _∷_, _++_}
@@ -9,26 +10,35 @@ use lib.ListN.{length, getD, drop, take, set, length-set}
 use lib.Seq.{set-split, drop-at, length-take-le}
 use Rattle.checker.specs.Walk.{pairOf}
 use Rattle.checker.specs.Ways.{listed}
-use Rattle.checker.specs.Trail.{Counted, origin, onward, Up, stay, climb}
+use Rattle.checker.specs.Trail.{Before, Counted, origin, onward, Up, climb}
 
 -- ---- counts
-module _ {before : List ℕ} where
-  pub counted-some : {j c : ℕ} → Counted before j c → 0 < c
+module _ {starts : List ℕ} where
+  same-before : {g h j : ℕ} → Before starts g j → Before starts h j → g ≡ h
+  same-before {g} {h} {j} b c = go (decLe g h) (decLe h g)
+    where
+      go : Dec (g ≤ h) → Dec (h ≤ g) → g ≡ h
+      go (yes k) (yes l) = omega arith
+      go (yes k) (no l) = absurd (omega (arith, c .begun, b .last h (omega arith) (c .earlier)))
+      go (no k) l = absurd (omega (arith, b .begun, c .last g (omega arith) (b .earlier)))
+
+  pub counted-some : {j c : ℕ} → Counted starts j c → 0 < c
   counted-some origin = omega arith
   counted-some (onward l d) = omega arith
 
-  pub counted-origin : {j c : ℕ} → Counted before j c → j ≡ 0 → c ≡ 1
+  pub counted-origin : {j c : ℕ} → Counted starts j c → j ≡ 0 → c ≡ 1
   counted-origin origin e = refl
-  counted-origin (onward l d) e = absurd (omega arith)
+  counted-origin (onward l d) e = let h = l .earlier in absurd (omega arith)
 
-  pub counted-back : {j c : ℕ} → Counted before j c → 0 < j → Counted before (getD before j 0) (c - 1)
-  counted-back origin h = absurd (omega arith)
-  counted-back (onward {j = j} {c = c} l d) h = let e : c ≡ suc c - 1 = omega arith in subst (Counted before (getD before j 0)) e d
+  pub counted-back : {h j c : ℕ} → Counted starts j c → Before starts h j → Counted starts h (c - 1)
+  counted-back origin b = let l = b .earlier in absurd (omega arith)
+  counted-back {h} (onward {c = c} l d) b =
+      let e : c ≡ suc c - 1 = omega arith in subst (Counted starts h) e (subst (λ (g : ℕ). Counted starts g c) (same-before l b) d)
 
   -- as many places as are counted lead from place 0
-  pub up-from : {i c k : ℕ} {js : List ℕ} → Counted before i c → Up before i js k → (ks : List ℕ) × Up before 0 ks k × (suc (length ks) ≡ c + length js)
+  pub up-from : {i c k : ℕ} {js : List ℕ} → Counted starts i c → Up starts i js k → (ks : List ℕ) × Up starts 0 ks k × (suc (length ks) ≡ c + length js)
   up-from {js = js} origin u = (js, u, omega arith)
-  up-from (onward l d) u = let r = up-from d (climb l refl u) in (r .0, r .1, omega (arith, r .2))
+  up-from (onward l d) u = let r = up-from d (climb l u) in (r .0, r .1, omega (arith, r .2))
 
 -- ---- bytes
 drop-set : (xs : List ℕ) (i v : ℕ) → i < length xs → drop i (set xs i v) ≡ v ∷ drop (i + 1) xs

@@ -13,7 +13,7 @@ use Rattle.checker.specs.Marks.{addresses, levels, Pair, pair, successor
 use Rattle.checker.specs.Verdicts.{rank, Lowest, Safe}
 use Rattle.checker.specs.Walk.{pairs, pairOf, nextCodes, Found, First, Judged}
 use Rattle.checker.specs.Ways.{Way, Lists, TooShort, WayAnswers, WayDetermines, WayFits, NeverTooShort}
-use Rattle.checker.specs.Trail.{Stands, StandsFirst, Traced, Falling, Counted, Up, stay, pairsAt, Ended, ListedTo}
+use Rattle.checker.specs.Trail.{Stands, StandsFirst, Traced, Counted, Up, stay, pairsAt, Ended, ListedTo}
 use Rattle.checker.specs.declared.check.Verdict.{Verdict}
 use Rattle.checker.specs.declared.check.Verdict.the-variants.{Passed, Failed, BadMarks}
 use Rattle.checker.specs.declared.check.Verdict.the-variants.{BadMask as VerdictBadMask}
@@ -28,7 +28,7 @@ use Rattle.checker.proofs.Distance.{shortest}
 use Rattle.checker.proofs.Once.{few-of-shortest}
 
 -- ---- the answer
-module _ (mask seen queue before : List ℕ) (s : Found pairs (nextCodes mask) seen) (t : Traced (nextCodes mask) seen queue before) where
+module _ (mask seen queue starts : List ℕ) (s : Found pairs (nextCodes mask) seen) (t : Traced (nextCodes mask) seen queue starts) where
   -- no forbidden pair: the keys of the other arm, places in the enum, are all but 1, Failed
   pub passes : (v : Verdict) → Judged mask seen v → OneOf (0 ∷ 2 ∷ 3 ∷ []) (tagOf the-type v) → Safe mask
   passes Passed j h = safe mask seen s j
@@ -48,23 +48,20 @@ module _ (mask seen queue before : List ℕ) (s : Found pairs (nextCodes mask) s
     below : (at : ℕ) → StandsFirst queue code at → at < t .tail
     below at h = let p = t .stands code (j .found) in omega (arith, h .first (p .at) (p .holds), p .below)
 
-    pub falling : (at : ℕ) → StandsFirst queue code at → Falling before at
-    falling at h i z k = t .trail .earlier i z (omega (arith, below at h))
-
-    way-back : (js : List ℕ) (count end : ℕ) → StandsFirst queue code end → Counted before end count → Up before 0 js end → count ≡ length js → Way mask (pairsAt queue js)
+    way-back : (js : List ℕ) (count end : ℕ) → StandsFirst queue code end → Counted starts end count → Up starts 0 js end → count ≡ length js → Way mask (pairsAt queue js)
     way-back js count end h n u e =
         record {
           f = f;
           a = a;
           l = l;
           named = lowest mask seen s f a l j;
-          shortest = code-shortest mask (pair a l) (j .level) (shortest (nextCodes mask) queue before (t .tail) (t .trail) (t .some) (below end h) u n e h);
+          shortest = code-shortest mask (pair a l) (j .level) (shortest (nextCodes mask) queue starts (t .tail) (t .trail) (t .some) (below end h) u n e h);
         }
 
     pairs-length : (js : List ℕ) → length (pairsAt queue js) ≡ length js
     pairs-length js = map-length pairOf (map (λ (j : ℕ). getD queue j 0) js) ∙ map-length (λ (j : ℕ). getD queue j 0) js
 
-    pub answered : (old new : List ℕ) (r : Listing) → length mask ≡ 4096 → ListedTo queue before code old new r → WayAnswers mask old new r
+    pub answered : (old new : List ℕ) (r : Listing) → length mask ≡ 4096 → ListedTo queue starts code old new r → WayAnswers mask old new r
     answered old new (Listed n) e x =
         let p = x .listings in
         record {

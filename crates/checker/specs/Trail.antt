@@ -1,5 +1,5 @@
--- The walk that remembers the way, as the private functions state it, over any successor function on codes: for each place of the queue the
--- place before it, that of the code whose successor it was first found as. No promise of an exported function cites it. Assumes nothing.
+-- What the walk remembers, and the way back, as the private functions state it, over any successor function on codes. `starts` has for each
+-- place of the queue how many codes were found when its turn came. No promise of an exported function cites it. Assumes nothing.
 use Prim.Native.Nat.{ℕ, suc, _*_, _+_, _<_, _≤_}
 use mathlib.Core.Path.{_≡_}
 use mathlib.Core.List.{List, [], _∷_, _++_, map}
@@ -10,12 +10,6 @@ use Rattle.checker.specs.Walk.{pairs, pairOf}
 use Rattle.checker.specs.Ways.{listed}
 use Rattle.checker.specs.declared.way.Listing.{Listing}
 use Rattle.checker.specs.declared.way.Listing.the-variants.{Listed, BadMask, MaskPasses, BadList}
-
--- the places from one to another are noted as after `head`
-pub record Noted (old : List ℕ) (start end head : ℕ) (new : List ℕ) : Type 0 where
-  pub size : length new ≡ length old
-  pub kept : (k : ℕ) → k < start → getD new k 0 ≡ getD old k 0
-  pub noted : (k : ℕ) → start ≤ k → k < end → getD new k 0 ≡ head
 
 -- where a code stands, among n places
 pub record Stands (n : ℕ) (queue : List ℕ) (code : ℕ) : Type 0 where
@@ -28,71 +22,74 @@ pub record StandsFirst (queue : List ℕ) (code at : ℕ) : Type 0 where
   pub holds : getD queue at 0 ≡ code
   pub first : (j : ℕ) → getD queue j 0 ≡ code → at ≤ j
 
--- a successor of what stands at place i stands at a place whose place before is i or earlier
-pub record Near (queue before : List ℕ) (tail i code : ℕ) : Type 0 where
+-- a successor of what stands at place h was found in the turn of h, or before
+pub record Near (queue starts : List ℕ) (head tail h code : ℕ) : Type 0 where
   pub stands : Stands tail queue code
-  pub no-later : getD before (stands .at) 0 ≤ i
+  pub soon : (i : ℕ) → h < i → i < head → stands .at < getD starts i 0
 
--- the queue is in the order of distance: what stands before a place comes earlier, rises with the place, and has its code as a successor
-pub record Trail (next : ℕ → List ℕ) (queue before : List ℕ) (head tail : ℕ) : Type 0 where
+-- the queue is in the order of distance: a turn comes after all that stands before it, later turns start later, and what was found in a turn
+-- are successors
+pub record Trail (next : ℕ → List ℕ) (queue starts : List ℕ) (head tail : ℕ) : Type 0 where
   pub start : getD queue 0 0 ≡ 0
-  pub origin : getD before 0 0 ≡ 0
-  pub earlier : (j : ℕ) → 0 < j → j < tail → getD before j 0 < j
-  pub turned : (j : ℕ) → 0 < j → j < tail → getD before j 0 < head
-  pub rises : (i j : ℕ) → i ≤ j → j < tail → getD before i 0 ≤ getD before j 0
-  pub linked : (j : ℕ) → 0 < j → j < tail → Member (getD queue j 0) (next (getD queue (getD before j 0) 0))
-  pub near : (i : ℕ) → i < head → (q : ℕ) → Member q (next (getD queue i 0)) → Near queue before tail i q
+  pub opens : getD starts 0 0 ≤ 1
+  pub later : (h : ℕ) → h < head → h < getD starts h 0
+  pub rises : (h i : ℕ) → h ≤ i → i < head → getD starts h 0 ≤ getD starts i 0
+  pub linked : (h j : ℕ) → h < head → j < tail → getD starts h 0 ≤ j → ((i : ℕ) → h < i → i < head → j < getD starts i 0)
+      → Member (getD queue j 0) (next (getD queue h 0))
+  pub near : (h : ℕ) → h < head → (q : ℕ) → Member q (next (getD queue h 0)) → Near queue starts head tail h q
 
--- what the walk leaves: each found code stands among the places that were turned to
-pub record Traced (next : ℕ → List ℕ) (seen queue before : List ℕ) : Type 0 where
+-- what the walk leaves: each found code stands among the places that had their turn
+pub record Traced (next : ℕ → List ℕ) (seen queue starts : List ℕ) : Type 0 where
   pub tail : ℕ
   pub some : 0 < tail
   pub places : tail ≤ pairs
   pub stands : (k : ℕ) → getD seen k 0 ≡ 1 → Stands tail queue k
-  pub trail : Trail next queue before tail tail
+  pub trail : Trail next queue starts tail tail
 
--- the place before each place up to an end is an earlier one
-abbrev pub Falling : List ℕ → ℕ → Type 0
-Falling before end = (j : ℕ) → 0 < j → j ≤ end → getD before j 0 < j
+-- the place before place j: the one in whose turn j was found, the last that started at j or before
+pub record Before (starts : List ℕ) (h j : ℕ) : Type 0 where
+  pub earlier : h < j
+  pub begun : getD starts h 0 ≤ j
+  pub last : (i : ℕ) → h < i → i < j → j < getD starts i 0
 
 -- how many places there are from place 0 on to a place, by the places before
-pub data Counted (before : List ℕ) : ℕ → ℕ → Type 0 where
-  origin : Counted before 0 1
-  onward : {j c : ℕ} → 0 < j → Counted before (getD before j 0) c → Counted before j (suc c)
+pub data Counted (starts : List ℕ) : ℕ → ℕ → Type 0 where
+  origin : Counted starts 0 1
+  onward : {h j c : ℕ} → Before starts h j → Counted starts h c → Counted starts j (suc c)
 
 -- the places from one to another
-pub data Up (before : List ℕ) : ℕ → List ℕ → ℕ → Type 0 where
-  stay : {k : ℕ} → Up before k (k ∷ []) k
-  climb : {i j k : ℕ} {js : List ℕ} → 0 < j → i ≡ getD before j 0 → Up before j js k → Up before i (i ∷ js) k
+pub data Up (starts : List ℕ) : ℕ → List ℕ → ℕ → Type 0 where
+  stay : {k : ℕ} → Up starts k (k ∷ []) k
+  climb : {i j k : ℕ} {js : List ℕ} → Before starts i j → Up starts j js k → Up starts i (i ∷ js) k
 
 abbrev pub pairsAt : List ℕ → List ℕ → List Pair
 pairsAt queue js = map pairOf (map (λ (j : ℕ). getD queue j 0) js)
 
 -- the pairs at the places from 0 to an end are listed
-pub record Listings (queue before : List ℕ) (end count : ℕ) (old new : List ℕ) : Type 0 where
+pub record Listings (queue starts : List ℕ) (end count : ℕ) (old new : List ℕ) : Type 0 where
   pub places : List ℕ
-  pub up : Up before 0 places end
+  pub up : Up starts 0 places end
   pub counted : count ≡ length places
   pub bytes : new ≡ listed (pairsAt queue places) ++ drop (3 * count) old
 
 -- what is listed of the way to a code
-pub record Ended (queue before : List ℕ) (code count : ℕ) : Type 0 where
+pub record Ended (queue starts : List ℕ) (code count : ℕ) : Type 0 where
   pub end : ℕ
   pub first : StandsFirst queue code end
-  pub counted : Counted before end count
+  pub counted : Counted starts end count
 
-pub record ListsTo (queue before : List ℕ) (code count : ℕ) (old new : List ℕ) : Type 0 where
-  pub ended : Ended queue before code count
+pub record ListsTo (queue starts : List ℕ) (code count : ℕ) (old new : List ℕ) : Type 0 where
+  pub ended : Ended queue starts code count
   pub fits : 3 * count ≤ length old
-  pub listings : Listings queue before (ended .end) count old new
+  pub listings : Listings queue starts (ended .end) count old new
 
-pub record ShortOf (queue before : List ℕ) (code : ℕ) (old : List ℕ) : Type 0 where
+pub record ShortOf (queue starts : List ℕ) (code : ℕ) (old : List ℕ) : Type 0 where
   pub count : ℕ
-  pub ended : Ended queue before code count
+  pub ended : Ended queue starts code count
   pub short : length old < 3 * count
 
 abbrev pub ListedTo : List ℕ → List ℕ → ℕ → List ℕ → List ℕ → Listing → Type 0
-ListedTo queue before code old new (Listed n) = ListsTo queue before code n old new
-ListedTo queue before code old new BadMask = ⊥
-ListedTo queue before code old new MaskPasses = ⊥
-ListedTo queue before code old new BadList = ShortOf queue before code old × (new ≡ old)
+ListedTo queue starts code old new (Listed n) = ListsTo queue starts code n old new
+ListedTo queue starts code old new BadMask = ⊥
+ListedTo queue starts code old new MaskPasses = ⊥
+ListedTo queue starts code old new BadList = ShortOf queue starts code old × (new ≡ old)

@@ -5,7 +5,7 @@ ghost use lib.ListN.{getD, length};
 ghost use Rattle.checker.specs.Verdicts.{Answers, checkRefusal, numberOf};
 ghost use Rattle.checker.specs.Walk.{Judged, Packed};
 use crate::next::fault_of;
-use crate::walk::reach;
+use crate::walk::walk;
 
 pub enum Verdict {
     // No reached pair is forbidden.
@@ -61,7 +61,10 @@ pub fn check(mask: &[u8], marks: &mut [u8]) -> Verdict
     if marks.len() != 4096 {
         return Verdict::BadMarks;
     }
-    let seen = reach(mask);
+    let mut seen = [0u8; 12288];
+    let mut queue = [0u16; 12288];
+    let mut starts = [0u16; 12288];
+    walk(mask, &mut seen, &mut queue, &mut starts);
     pack(&seen, marks);
     judge(mask, &seen)
 }

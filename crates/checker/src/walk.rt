@@ -1,6 +1,8 @@
 // The walk over the pairs that chains from the start reach, each taken once, in the order in which they were found.
 ghost use mathlib.Core.Path.{_≡_};
 ghost use Prim.Native.Nat.{_<_};
+ghost use lib.ListN.{replicate};
+ghost use Rattle.checker.specs.Trail.{Traced};
 ghost use Rattle.checker.specs.Walk.{Found, Room, Small, codesOf, nextCodes, pairs, pushed, pushedAll, work};
 use crate::next::Codes;
 use crate::next::next_codes;
@@ -24,12 +26,7 @@ fn push(seen: &mut [u8; 12288], queue: &mut [u16; 12288], tail: u16, code: u16) 
 }
 
 // Each of these codes that is not found yet goes to the queue's end.
-pub(crate) fn push_all(
-    seen: &mut [u8; 12288],
-    queue: &mut [u16; 12288],
-    tail: u16,
-    codes: Codes,
-) -> u16
+fn push_all(seen: &mut [u8; 12288], queue: &mut [u16; 12288], tail: u16, codes: Codes) -> u16
     requires { ⌜ Small pairs (codesOf codes) ⌝ }
     requires { ⌜ Room pairs (now seen) tail ⌝ }
     ensures { λ r.
@@ -50,21 +47,27 @@ pub(crate) fn push_all(
     }
 }
 
-// A flag for each code: 1 where chains from the start, code 0, reach its pair.
-pub(crate) fn reach(mask: &[u8]) -> [u8; 12288]
-    ensures { λ r. ⌜ Found pairs (nextCodes (now (mask .entry))) r ⌝ }
+// The walk. A flag for each code, 1 where chains from the start, code 0, reach its pair; the codes found, in their order; and for each of their
+// places how many were found when its turn came, which is all that the way back needs.
+pub(crate) fn walk(
+    mask: &[u8],
+    seen: &mut [u8; 12288],
+    queue: &mut [u16; 12288],
+    starts: &mut [u16; 12288],
+)
+    requires { ⌜ (now seen ≡ replicate pairs 0) × (now queue ≡ replicate pairs 0) × (now starts ≡ replicate pairs 0) ⌝ }
+    ensures { λ r. ⌜ Found pairs (nextCodes (now (mask .entry))) (now (seen .exit)) ⌝ }
+    ensures { λ r. ⌜ Traced (nextCodes (now (mask .entry))) (now (seen .exit)) (now (queue .exit)) (now (starts .exit)) ⌝ }
 {
     let entries = list();
-    let mut seen = [0u8; 12288];
-    let mut queue = [0u16; 12288];
     seen[0] = 1;
     let mut head: u16 = 0;
     let mut tail: u16 = 1;
     while head < tail {
         let at = head as usize;
+        starts[at] = tail;
         let codes = next_codes(mask, &entries, queue[at]);
-        tail = push_all(&mut seen, &mut queue, tail, codes);
+        tail = push_all(seen, queue, tail, codes);
         head += 1;
     }
-    seen
 }

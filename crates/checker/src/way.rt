@@ -1,16 +1,14 @@
 // The way to a forbidden place: a shortest chain from address 0, level 0 to the pair that the checker names.
 ghost use mathlib.Core.Path.{_≡_};
-ghost use Prim.Native.Nat.{ℕ, _*_, _+_, _<_, _≤_};
 ghost use mathlib.Core.List.{[], _∷_, _++_};
-ghost use lib.ListN.{drop, length, replicate};
-ghost use Rattle.checker.specs.Trail.{Counted, Falling, ListedTo, Listings, Noted, Stands, StandsFirst, Traced};
-ghost use Rattle.checker.specs.Walk.{Found, nextCodes, pairOf, pairs};
+ghost use Prim.Native.Nat.{_*_, _+_, _<_, _≤_};
+ghost use lib.ListN.{drop, getD, length};
+ghost use Rattle.checker.specs.Trail.{Before, Counted, ListedTo, Listings, Stands, StandsFirst};
+ghost use Rattle.checker.specs.Walk.{pairOf, pairs};
 ghost use Rattle.checker.specs.Ways.{WayAnswers, listed};
 use crate::check::Verdict;
 use crate::check::judge;
-use crate::next::next_codes;
-use crate::walk::push_all;
-use rom::timing::list;
+use crate::walk::walk;
 
 pub enum Listing {
     // A shortest chain is listed. Its count of pairs.
@@ -21,39 +19,6 @@ pub enum Listing {
     MaskPasses,
     // Refusal 11: the list is too short.
     BadList,
-}
-
-// The places from `start` to `end` come after the place `head`.
-fn note(before: &mut [u16; 12288], start: u16, end: u16, head: u16)
-    requires { ⌜ (end ≤ pairs) × (length (now before) ≡ pairs) ⌝ }
-    ensures { λ r. ⌜ Noted (now (before .entry)) start end head (now (before .exit)) ⌝ }
-{
-    let mut place = start;
-    while place < end {
-        let at = place as usize;
-        before[at] = head;
-        place += 1;
-    }
-}
-
-// The checker's walk, which also notes for each place of the queue the place before it.
-fn trace(mask: &[u8], seen: &mut [u8; 12288], queue: &mut [u16; 12288], before: &mut [u16; 12288])
-    requires { ⌜ (now seen ≡ replicate pairs 0) × (now queue ≡ replicate pairs 0) × (now before ≡ replicate pairs 0) ⌝ }
-    ensures { λ r. ⌜ Found pairs (nextCodes (now (mask .entry))) (now (seen .exit)) ⌝ }
-    ensures { λ r. ⌜ Traced (nextCodes (now (mask .entry))) (now (seen .exit)) (now (queue .exit)) (now (before .exit)) ⌝ }
-{
-    let entries = list();
-    seen[0] = 1;
-    let mut head: u16 = 0;
-    let mut tail: u16 = 1;
-    while head < tail {
-        let at = head as usize;
-        let codes = next_codes(mask, &entries, queue[at]);
-        let end = push_all(seen, queue, tail, codes);
-        note(before, tail, end, head);
-        tail = end;
-        head += 1;
-    }
 }
 
 // The first place of a code that stands in the queue.
@@ -72,16 +37,27 @@ fn place_of(queue: &[u16; 12288], code: u16) -> u16
     place
 }
 
+// The place before a place after the first. Going back from place to place, each place is passed once.
+fn place_before(starts: &[u16; 12288], place: u16) -> u16
+    requires { ⌜ (0 < place) × (place < pairs) × (getD (now starts) 0 0 ≤ 1) ⌝ }
+    ensures { λ r. ⌜ Before (now (starts .entry)) r place ⌝ }
+{
+    let mut at = place - 1;
+    while place < starts[at as usize] {
+        at -= 1;
+    }
+    at
+}
+
 // How many places there are from place 0 on to this one.
-fn count_to(before: &[u16; 12288], end: u16) -> u16
-    requires { ⌜ (end < pairs) × Falling (now before) end ⌝ }
-    ensures { λ r. ⌜ (r ≤ pairs) × Counted (now (before .entry)) end r ⌝ }
+fn count_to(starts: &[u16; 12288], end: u16) -> u16
+    requires { ⌜ (end < pairs) × (getD (now starts) 0 0 ≤ 1) ⌝ }
+    ensures { λ r. ⌜ (r ≤ pairs) × Counted (now (starts .entry)) end r ⌝ }
 {
     let mut place = end;
     let mut count: u16 = 1;
     while place != 0 {
-        let at = place as usize;
-        place = before[at];
+        place = place_before(starts, place);
         count += 1;
     }
     count
@@ -100,34 +76,33 @@ fn put(list: &mut [u8], at: usize, code: u16)
 }
 
 // The pairs at the places from 0 to `end`, from the last one back.
-fn put_all(list: &mut [u8], queue: &[u16; 12288], before: &[u16; 12288], end: u16, count: u16)
-    requires { ⌜ (end < pairs) × Falling (now before) end × Counted (now before) end count × (3 * count ≤ length (now list)) ⌝ }
+fn put_all(list: &mut [u8], queue: &[u16; 12288], starts: &[u16; 12288], end: u16, count: u16)
+    requires { ⌜ (end < pairs) × (getD (now starts) 0 0 ≤ 1) × Counted (now starts) end count × (3 * count ≤ length (now list)) ⌝ }
     ensures { λ r.
-        ⌜ Listings (now (queue .entry)) (now (before .entry)) end count (now (list .entry)) (now (list .exit)) ⌝ }
+        ⌜ Listings (now (queue .entry)) (now (starts .entry)) end count (now (list .entry)) (now (list .exit)) ⌝ }
 {
     let mut place = end;
     let mut left = (count as usize - 1) * 3;
     put(list, left, queue[place as usize]);
     while place != 0 {
-        place = before[place as usize];
+        place = place_before(starts, place);
         left -= 3;
         put(list, left, queue[place as usize]);
     }
 }
 
 // The way to a code that stands in the queue, if the list has room for it.
-fn list_to(list: &mut [u8], queue: &[u16; 12288], before: &[u16; 12288], code: u16) -> Listing
-    requires { ⌜ Stands pairs (now queue) code ⌝ }
-    requires { ⌜ ((at : ℕ) → StandsFirst (now queue) code at → Falling (now before) at) ⌝ }
+fn list_to(list: &mut [u8], queue: &[u16; 12288], starts: &[u16; 12288], code: u16) -> Listing
+    requires { ⌜ Stands pairs (now queue) code × (getD (now starts) 0 0 ≤ 1) ⌝ }
     ensures { λ r.
-        ⌜ ListedTo (now (queue .entry)) (now (before .entry)) code (now (list .entry)) (now (list .exit)) r ⌝ }
+        ⌜ ListedTo (now (queue .entry)) (now (starts .entry)) code (now (list .entry)) (now (list .exit)) r ⌝ }
 {
     let end = place_of(queue, code);
-    let count = count_to(before, end);
+    let count = count_to(starts, end);
     if list.len() < count as usize * 3 {
         return Listing::BadList;
     }
-    put_all(list, queue, before, end, count);
+    put_all(list, queue, starts, end, count);
     Listing::Listed(count)
 }
 
@@ -140,10 +115,10 @@ pub fn way(mask: &[u8], list: &mut [u8]) -> Listing
     }
     let mut seen = [0u8; 12288];
     let mut queue = [0u16; 12288];
-    let mut before = [0u16; 12288];
-    trace(mask, &mut seen, &mut queue, &mut before);
+    let mut starts = [0u16; 12288];
+    walk(mask, &mut seen, &mut queue, &mut starts);
     let Verdict::Failed(_, address, level) = judge(mask, &seen) else {
         return Listing::MaskPasses;
     };
-    list_to(list, &queue, &before, address * 3 + level as u16)
+    list_to(list, &queue, &starts, address * 3 + level as u16)
 }

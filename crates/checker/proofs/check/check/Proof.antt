@@ -28,11 +28,12 @@ returns-2 c = (search needs, rw (eq-eqb _ 4096 (c .before .if1 .left), ne-eqb _ 
 
 returns-3 : tie.Need-returns-3
 returns-3 c =
-    let r = c .before .before .before .before .before .before .before in
-    let s = r .before .before .before .before .before .args in (
-      answered (s .mask .now) (r .reach .result) (r .reach .ensures) (s .marks .now) (c .before .before .before .before .pack .last .1 .0) (c .judge .result) (r .before .before .if1 .left) (r .before .if2 .left) (c .before .before .before .before .pack .ensures) (c .judge .ensures),
-      judged (s .mask .now) (r .reach .result) (c .judge .result) (c .judge .ensures)
-          ∙ rw (eq-eqb _ 4096 (r .before .before .if1 .left), eq-eqb _ 4096 (r .before .if2 .left)) refl,
+    let w = c .before .before .before .before .before .before .before in
+    let t = w .before .before .before .before in
+    let s = t .before .before .before .before .args in
+    let seen = w .walk .last .1 .0 in (
+      answered (s .mask .now) seen (w .walk .ensures .0) (s .marks .now) (c .before .before .before .before .pack .last .1 .0) (c .judge .result) (t .before .if1 .left) (t .if2 .left) (c .before .before .before .before .pack .ensures) (c .judge .ensures),
+      judged (s .mask .now) seen (c .judge .result) (c .judge .ensures) ∙ rw (eq-eqb _ 4096 (t .before .if1 .left), eq-eqb _ 4096 (t .if2 .left)) refl,
     )
 
 pub check-spec : {M : Type 1} → statement M

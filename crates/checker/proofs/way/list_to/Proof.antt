@@ -8,9 +8,7 @@ use Rattle.checker.proofs.way.list_to.Statement.{statement}
 use Rattle.checker.proofs.way.list_to.Tie as tie
 
 count-to-requires : tie.Need-count-to-requires
-count-to-requires c κs =
-    let s = c .before .before in
-    (c .place-of .ensures .0, s .pre .1 (c .place-of .result) (c .place-of .ensures .1))
+count-to-requires c κs = (c .place-of .ensures .0, c .before .before .pre .1)
 
 returns : tie.Need-returns
 returns c =
@@ -23,7 +21,7 @@ put-all-requires c κs =
     let p = c .before .before .before .place-of in
     let n = c .before .before .count-to in
     let s = c .before .before .before .before .before in
-    (p .ensures .0, s .pre .1 (p .result) (p .ensures .1), n .ensures .1, omega (arith, c .before .if1 .left))
+    (p .ensures .0, s .pre .1, n .ensures .1, omega (arith, c .before .if1 .left))
 
 returns-2 : tie.Need-returns-2
 returns-2 c =
