@@ -1,22 +1,24 @@
--- From the flags to the answer: the marks hold the flags as bits, and the first flagged code that is forbidden is the lowest reached pair
+-- From the flags to the answer: the marks hold the flags as bits, and the lowest flagged code that is forbidden is the lowest reached pair
 -- that is, since a pair's code is its rank. And the answer is the only one: bytes with the same three bits are equal, and so are two lowest
 -- pairs. Assumes nothing.
 use Prim.Native.Nat.{ℕ, zero, suc, _+_, _*_, _/_, _%_, _^_, _<_, _≤_}
 use native.Mathlib.Omega.{arith}
-use native.Mathlib.Decide.{decLe}
+use native.Mathlib.Decide.{ℕ-discrete}
 use mathlib.Core.Path.{_≡_, refl, sym, ap, subst, _∙_}
 use mathlib.Core.Bool.{Bool, true, false}
 use mathlib.Core.List.{List}
-use lib.Dec.{eqb}
+use lib.Dec.{eqb, ltb}
 use lib.ListN.{length, getD}
 use lib.Seq.{ext-getD}
-use borrow.Author.Tests.{eq-eqb, eqb-true, eqb-false}
+use borrow.Author.Tests.{eq-eqb, eqb-true, eqb-false, ltb-true, ltb-false}
 use Rattle.checker.specs.Marks.{addresses, levels, Pair, pair, fault, Reached}
-use Rattle.checker.specs.Verdicts.{Marked, rank, Lowest, Safe, Written, Answers, AnswersDetermine}
-use Rattle.checker.specs.Walk.{pairs, pairOf, nextCodes, Found, markOf, Packed, First, Judged}
+use Rattle.checker.specs.Verdicts.{Marked, rank, Lowest, Safe, Written, Answers, AnswersDetermine, numberOf}
+use Rattle.checker.specs.Walk.{pairs, pairOf, nextCodes, Found, markOf, Packed, Names, verdictOf}
+use Rattle.checker.specs.declared.walk.Named.{Named}
 use Rattle.checker.specs.declared.check.Verdict.{Verdict}
 use Rattle.checker.specs.declared.check.Verdict.the-variants.{Passed, Failed, BadMask, BadMarks}
-use Rattle.checker.proofs.Reach.{pair-rank, code-reached, reached-code, reached-level}
+use Rattle.checker.proofs.Reach.{pair-rank, rank-pair, code-reached, reached-code, reached-level}
+use Rattle.isa.specs.Choice.{pick}
 
 -- the bit of a level in a mark byte is its flag
 flag : (seen : List ℕ) → ((k : ℕ) → getD seen k 0 ≤ 1) → (a l : ℕ) → l < levels → markOf seen a / 2 ^ l % 2 ≡ getD seen (a * levels + l) 0
@@ -49,32 +51,41 @@ module _ (mask seen : List ℕ) (s : Found pairs (nextCodes mask) seen) where
       told : (a l : ℕ) → a < addresses → l < levels → getD marks a 0 / 2 ^ l % 2 ≡ getD seen (a * levels + l) 0
       told a l h k = ap (λ (n : ℕ). n / 2 ^ l % 2) (p .byte a h) ∙ flag seen (s .flags) a l k
 
-  -- no fault at the code of a reached pair is no fault at the pair
-  of-rank : (p : Pair) → Reached mask p → fault mask (pairOf (rank p)) ≡ 0 → fault mask p ≡ 0
-  of-rank p r e = sym (ap (fault mask) (pair-rank p (reached-level mask p r))) ∙ e
+  module _ (m : Named) (n : Names mask seen m) where
+    -- a reached pair that is forbidden is no lower than the named one
+    not-lower : (p : Pair) → Reached mask p → (fault mask p ≡ 0 → ⊥) → m .code ≤ rank p
+    not-lower p r z = n .lowest (rank p) (flagged p r .1) (λ y. z (sym (ap (fault mask) (pair-rank p (reached-level mask p r))) ∙ y))
 
-  pub lowest : (f a l : ℕ) → First mask seen f a l → Lowest mask f a l
-  lowest f a l j =
-      record {
-        reached = at-pair a l (j .level) (j .found);
-        forbidden = j .forbidden;
-        not-zero = j .not-zero;
-        lowest = λ p r n. go p r n (decLe (rank (pair a l)) (rank p));
-      }
-    where
-      go : (p : Pair) → Reached mask p → (fault mask p ≡ 0 → ⊥) → Dec (rank (pair a l) ≤ rank p) → rank (pair a l) ≤ rank p
-      go p r n (yes h) = h
-      go p r n (no h) = absurd (n (of-rank p r (j .clean (rank p) (omega arith) (flagged p r .1))))
+    pub lowest : m .code < pairs → Lowest mask (m .fault) (m .code / levels) (m .code % levels)
+    lowest h =
+        record {
+          reached = code-reached mask (m .code) (s .sound (m .code) (n .found h));
+          forbidden = n .forbidden h;
+          not-zero = n .not-zero h;
+          lowest = λ p r z. subst (λ (k : ℕ). k ≤ rank p) (sym (rank-pair (m .code))) (not-lower p r z);
+        }
 
-  pub safe : ((k : ℕ) → k < pairs → getD seen k 0 ≡ 1 → fault mask (pairOf k) ≡ 0) → Safe mask
-  safe j q r = of-rank q r (j (rank q) (flagged q r .0) (flagged q r .1))
+    pub safe : pairs ≤ m .code → Safe mask
+    safe h p r = go (ℕ-discrete (fault mask p) 0)
+      where
+        go : Dec (fault mask p ≡ 0) → fault mask p ≡ 0
+        go (yes e) = e
+        go (no z) = absurd (omega (arith, not-lower p r z, flagged p r .0))
 
-  pub answered : (old marks : List ℕ) (r : Verdict) → length mask ≡ 4096 → length old ≡ 4096 → Packed seen marks → Judged mask seen r → Answers mask old marks r
-  answered old marks Passed e f p j =
-      (record { mask-size = e; marks-size = f; marked = marked marks p }, safe j)
-  answered old marks (Failed g a l) e f p j = (record { mask-size = e; marks-size = f; marked = marked marks p }, lowest g a l j)
-  answered old marks BadMask e f p j = absurd j
-  answered old marks BadMarks e f p j = absurd j
+    pub answered : (old marks : List ℕ) → length mask ≡ 4096 → length old ≡ 4096 → Packed seen marks → Answers mask old marks (verdictOf m)
+    answered old marks e f p = go (ltb (m .code) pairs) refl
+      where
+        go : (b : Bool) → ltb (m .code) pairs ≡ b → Answers mask old marks (pick b (Failed (m .fault) (m .code / levels) (m .code % levels)) Passed)
+        go true t = (record { mask-size = e; marks-size = f; marked = marked marks p }, lowest (ltb-true (m .code) pairs t))
+        go false t = (record { mask-size = e; marks-size = f; marked = marked marks p }, safe (ltb-false (m .code) pairs t))
+
+-- a verdict is not refused
+pub not-refused : (m : Named) → numberOf (verdictOf m) ≡ 0
+not-refused m = go (ltb (m .code) pairs)
+  where
+    go : (b : Bool) → numberOf (pick b (Failed (m .fault) (m .code / levels) (m .code % levels)) Passed) ≡ 0
+    go true = refl
+    go false = refl
 
 -- ---- the only answer
 -- a bit that is 1 in both or in neither

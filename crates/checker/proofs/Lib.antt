@@ -4,6 +4,7 @@ pub mod Reach
 pub mod Successors
 pub mod Count
 pub mod Turn
+pub mod Naming
 pub mod Answer
 pub mod Back
 pub mod Distance

@@ -130,3 +130,9 @@ module _ (n : ℕ) (next : ℕ → List ℕ) where
             room = λ h m. by-turn w v b head t l d (λ (x : ℕ). x ≤ v .tail) h m (λ k. omega (arith, t .room h k, d .grows .tail)) (λ f. d .grows .tail);
             trail = traced w v b head t l d;
           }
+
+      -- what stood before a turn stands after it
+      pub turn-same : (w v : Work) (b : List ℕ) (head : ℕ) → v ≡ pushedAll w (next (getD (w .queue) head 0)) → Tracing w b head → head < w .tail
+          → (j : ℕ) → j < head + 1 → getD (v .queue) j 0 ≡ getD (w .queue) j 0
+      turn-same w v b head e t l j h =
+          subst (Pushed n next w (next (getD (w .queue) head 0))) (sym e) (pushes n next some small w head (t .walking) l) .grows .queue j (omega arith)

@@ -1,67 +1,55 @@
 -- From the queue to the answer: the way back from where the named pair's code first stands is a shortest chain of codes, so of pairs. And the
 -- answer is the only one: the named pair is, and shortest chains to it are as long. Assumes nothing.
-use Prim.Native.Nat.{ℕ, suc, _+_, _*_, _<_, _≤_}
+use Prim.Native.Nat.{ℕ, suc, _+_, _*_, _/_, _%_, _<_, _≤_}
 use native.Mathlib.Omega.{arith}
 use mathlib.Core.Path.{_≡_, refl, sym, ap, subst, _∙_}
 use mathlib.Core.List.{List, [], _∷_, _++_, map}
 use lib.ListN.{length, getD, drop}
-use types.Run.{OneOf, miss}
-use denote.Enum.Declared.{tagOf}
 use Rattle.rom.specs.Fetching.{Bytes}
 use Rattle.checker.specs.Chains.{Chain, Shortest}
 use Rattle.checker.specs.Marks.{addresses, levels, Pair, pair, successors}
 use Rattle.checker.specs.Verdicts.{rank, Lowest, Safe}
-use Rattle.checker.specs.Walk.{pairs, pairOf, nextCodes, Found, First, Judged}
+use Rattle.checker.specs.Walk.{pairs, pairOf, nextCodes, Found, Names}
 use Rattle.checker.specs.Ways.{Way, Lists, TooShort, WayAnswers, WayDetermines, WayFits, NeverTooShort}
 use Rattle.checker.specs.Trail.{Stands, StandsFirst, Traced, Counted, Up, stay, pairsAt, Ended, ListedTo}
-use Rattle.checker.specs.declared.check.Verdict.{Verdict}
-use Rattle.checker.specs.declared.check.Verdict.the-variants.{Passed, Failed, BadMarks}
-use Rattle.checker.specs.declared.check.Verdict.the-variants.{BadMask as VerdictBadMask}
 use Rattle.checker.specs.declared.way.Listing.{Listing}
 use Rattle.checker.specs.declared.way.Listing.the-variants.{Listed, BadMask, MaskPasses, BadList}
-use Rattle.checker.proofs.check.Verdict.{the-type}
+use Rattle.checker.specs.declared.walk.Named.{Named}
 use Rattle.checker.proofs.Chains.{map-length}
-use Rattle.checker.proofs.Reach.{reached-level, code-shortest, shortest-codes, codes-small}
-use Rattle.checker.proofs.Answer.{lowest, safe, same-pair}
+use Rattle.checker.proofs.Reach.{rank-pair, reached-level, code-shortest, shortest-codes, codes-small}
+use Rattle.checker.proofs.Answer.{lowest, same-pair}
 use Rattle.checker.proofs.Back.{up-from}
 use Rattle.checker.proofs.Distance.{shortest}
 use Rattle.checker.proofs.Once.{few-of-shortest}
 
 -- ---- the answer
 module _ (mask seen queue starts : List ℕ) (s : Found pairs (nextCodes mask) seen) (t : Traced (nextCodes mask) seen queue starts) where
-  -- no forbidden pair: the keys of the other arm, places in the enum, are all but 1, Failed
-  pub passes : (v : Verdict) → Judged mask seen v → OneOf (0 ∷ 2 ∷ 3 ∷ []) (tagOf the-type v) → Safe mask
-  passes Passed j h = safe mask seen s j
-  passes (Failed f a l) j h = absurd (miss (0 ∷ 2 ∷ 3 ∷ []) (tagOf the-type (Failed f a l)) tt h)
-  passes VerdictBadMask j h = absurd j
-  passes BadMarks j h = absurd j
-
-  module _ (f a l : ℕ) (j : First mask seen f a l) where
-    abbrev code : ℕ
-    code = rank (pair a l)
-
-    pub standing : Stands pairs queue code
+  module _ (m : Named) (n : Names mask seen m) (h : m .code < pairs) where
+    pub standing : Stands pairs queue (m .code)
     standing =
-        let p = t .stands code (j .found) in
+        let p = t .stands (m .code) (n .found h) in
         record { at = p .at; below = omega (arith, p .below, t .places); holds = p .holds }
 
-    below : (at : ℕ) → StandsFirst queue code at → at < t .tail
-    below at h = let p = t .stands code (j .found) in omega (arith, h .first (p .at) (p .holds), p .below)
+    below : (at : ℕ) → StandsFirst queue (m .code) at → at < t .tail
+    below at f = let p = t .stands (m .code) (n .found h) in omega (arith, f .first (p .at) (p .holds), p .below)
 
-    way-back : (js : List ℕ) (count end : ℕ) → StandsFirst queue code end → Counted starts end count → Up starts 0 js end → count ≡ length js → Way mask (pairsAt queue js)
-    way-back js count end h n u e =
+    way-back : (js : List ℕ) (count end : ℕ) → StandsFirst queue (m .code) end → Counted starts end count → Up starts 0 js end → count ≡ length js → Way mask (pairsAt queue js)
+    way-back js count end f c u e =
         record {
-          f = f;
-          a = a;
-          l = l;
-          named = lowest mask seen s f a l j;
-          shortest = code-shortest mask (pair a l) (j .level) (shortest (nextCodes mask) queue starts (t .tail) (t .trail) (t .some) (below end h) u n e h);
+          f = m .fault;
+          a = m .code / levels;
+          l = m .code % levels;
+          named = lowest mask seen s m n h;
+          shortest =
+              code-shortest mask (pairOf (m .code)) (omega arith)
+              (subst (Shortest (nextCodes mask) 0 (map (λ (j : ℕ). getD queue j 0) js)) (sym (rank-pair (m .code)))
+              (shortest (nextCodes mask) queue starts (t .tail) (t .trail) (t .some) (below end f) u c e f));
         }
 
     pairs-length : (js : List ℕ) → length (pairsAt queue js) ≡ length js
     pairs-length js = map-length pairOf (map (λ (j : ℕ). getD queue j 0) js) ∙ map-length (λ (j : ℕ). getD queue j 0) js
 
-    pub answered : (old new : List ℕ) (r : Listing) → length mask ≡ 4096 → ListedTo queue starts code old new r → WayAnswers mask old new r
+    pub answered : (old new : List ℕ) (r : Listing) → length mask ≡ 4096 → ListedTo queue starts (m .code) old new r → WayAnswers mask old new r
     answered old new (Listed n) e x =
         let p = x .listings in
         record {

@@ -4,7 +4,7 @@
 use Prim.Native.Nat.{ℕ, zero, suc, _+_, _*_, _/_, _%_, _<_, _≤_}
 use mathlib.Core.Path.{_≡_}
 use mathlib.Core.List.{List, [], _∷_, map}
-use lib.Dec.{eqb}
+use lib.Dec.{eqb, ltb}
 use lib.ListN.{length, getD, set}
 use Rattle.isa.specs.Choice.{pick}
 use Rattle.checker.specs.Chains.{Reaches}
@@ -13,7 +13,8 @@ use Rattle.checker.specs.Verdicts.{rank}
 use Rattle.checker.specs.declared.check.Verdict.{Verdict}
 use Rattle.checker.specs.declared.check.Verdict.the-variants.{Passed, Failed, BadMask, BadMarks}
 use Rattle.checker.specs.declared.next.Codes.{Codes}
-use Rattle.checker.specs.declared.next.Codes.the-variants.{Nothing, One, Two, Three}
+use Rattle.checker.specs.declared.next.Codes.the-variants.{Forbidden, Nothing, One, Two, Three}
+use Rattle.checker.specs.declared.walk.Named.{Named}
 
 -- each of a list
 abbrev pub All : {A : Type 0} → (A → Type 0) → List A → Type 0
@@ -72,10 +73,31 @@ abbrev pub nextCodes : List ℕ → ℕ → List ℕ
 nextCodes mask c = map rank (successors mask (pairOf c))
 
 abbrev pub codesOf : Codes → List ℕ
+codesOf (Forbidden f) = []
 codesOf Nothing = []
 codesOf (One a) = a ∷ []
 codesOf (Two a b) = a ∷ b ∷ []
 codesOf (Three a b c) = a ∷ b ∷ c ∷ []
+
+-- the fault of a code's pair
+abbrev pub faultAt : List ℕ → ℕ → ℕ
+faultAt mask c = fault mask (pairOf c)
+
+-- what a pair's codes say of its fault
+abbrev pub Faults : Codes → ℕ → Type 0
+Faults (Forbidden f) g = (g ≡ f) × (g ≡ 0 → ⊥)
+Faults Nothing g = g ≡ 0
+Faults (One a) g = g ≡ 0
+Faults (Two a b) g = g ≡ 0
+Faults (Three a b c) g = g ≡ 0
+
+-- the lower of what is named so far and a code, if it is forbidden
+abbrev pub lowered : Named → ℕ → Codes → Named
+lowered n c (Forbidden f) = pick (ltb c (n .code)) (record { code = c; fault = f }) n
+lowered n c Nothing = n
+lowered n c (One a) = n
+lowered n c (Two a b) = n
+lowered n c (Three a b d) = n
 
 -- the mark byte of each address, from the flags of its three levels
 abbrev pub markOf : List ℕ → ℕ → ℕ
@@ -85,17 +107,12 @@ pub record Packed (seen marks : List ℕ) : Type 0 where
   pub size : length marks ≡ addresses
   pub byte : (a : ℕ) → a < addresses → getD marks a 0 ≡ markOf seen a
 
--- the first forbidden one
-pub record First (mask seen : List ℕ) (f a l : ℕ) : Type 0 where
-  pub address : a < addresses
-  pub level : l < levels
-  pub found : getD seen (rank (pair a l)) 0 ≡ 1
-  pub forbidden : fault mask (pair a l) ≡ f
-  pub not-zero : f ≡ 0 → ⊥
-  pub clean : (k : ℕ) → k < rank (pair a l) → getD seen k 0 ≡ 1 → fault mask (pairOf k) ≡ 0
+-- what is named once the walk is over: the lowest found code that is forbidden, with its fault, or `pairs` where there is none
+pub record Names (mask seen : List ℕ) (n : Named) : Type 0 where
+  pub found : n .code < pairs → getD seen (n .code) 0 ≡ 1
+  pub forbidden : n .code < pairs → faultAt mask (n .code) ≡ n .fault
+  pub not-zero : n .code < pairs → n .fault ≡ 0 → ⊥
+  pub lowest : (k : ℕ) → getD seen k 0 ≡ 1 → (faultAt mask k ≡ 0 → ⊥) → n .code ≤ k
 
-abbrev pub Judged : List ℕ → List ℕ → Verdict → Type 0
-Judged mask seen Passed = (k : ℕ) → k < pairs → getD seen k 0 ≡ 1 → fault mask (pairOf k) ≡ 0
-Judged mask seen (Failed f a l) = First mask seen f a l
-Judged mask seen BadMask = ⊥
-Judged mask seen BadMarks = ⊥
+abbrev pub verdictOf : Named → Verdict
+verdictOf n = pick (ltb (n .code) pairs) (Failed (n .fault) (n .code / levels) (n .code % levels)) Passed

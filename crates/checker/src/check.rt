@@ -3,8 +3,8 @@ ghost use mathlib.Core.Path.{_≡_};
 ghost use Prim.Native.Nat.{ℕ, _≤_};
 ghost use lib.ListN.{getD, length};
 ghost use Rattle.checker.specs.Verdicts.{Answers, checkRefusal, numberOf};
-ghost use Rattle.checker.specs.Walk.{Judged, Packed};
-use crate::next::fault_of;
+ghost use Rattle.checker.specs.Walk.{Packed, verdictOf};
+use crate::walk::Named;
 use crate::walk::walk;
 
 pub enum Verdict {
@@ -32,22 +32,14 @@ fn pack(seen: &[u8; 12288], marks: &mut [u8])
     }
 }
 
-// The first flagged code whose pair is forbidden.
-pub(crate) fn judge(mask: &[u8], seen: &[u8; 12288]) -> Verdict
-    ensures { λ r. ⌜ Judged (now (mask .entry)) (now (seen .entry)) r ⌝ }
+fn judge(named: Named) -> Verdict
+    ensures { λ r. ⌜ r ≡ verdictOf named ⌝ }
 {
-    let mut code: u16 = 0;
-    while code < 12288 {
-        let at = code as usize;
-        if seen[at] == 1 {
-            let fault = fault_of(mask, code);
-            if fault != 0 {
-                return Verdict::Failed(fault, code / 3, (code % 3) as u8);
-            }
-        }
-        code += 1;
+    if named.code < 12288 {
+        Verdict::Failed(named.fault, named.code / 3, (named.code % 3) as u8)
+    } else {
+        Verdict::Passed
     }
-    Verdict::Passed
 }
 
 // Marks the pairs that chains from address 0, level 0 reach, and says whether one of them is forbidden.
@@ -64,7 +56,7 @@ pub fn check(mask: &[u8], marks: &mut [u8]) -> Verdict
     let mut seen = [0u8; 12288];
     let mut queue = [0u16; 12288];
     let mut starts = [0u16; 12288];
-    walk(mask, &mut seen, &mut queue, &mut starts);
+    let named = walk(mask, &mut seen, &mut queue, &mut starts);
     pack(&seen, marks);
-    judge(mask, &seen)
+    judge(named)
 }

@@ -3,7 +3,7 @@ ghost use mathlib.Core.Path.{_≡_};
 ghost use Prim.Native.Nat.{_<_};
 ghost use lib.ListN.{replicate};
 ghost use Rattle.checker.specs.Trail.{Traced};
-ghost use Rattle.checker.specs.Walk.{Found, Room, Small, codesOf, nextCodes, pairs, pushed, pushedAll, work};
+ghost use Rattle.checker.specs.Walk.{Found, Names, Room, Small, codesOf, lowered, nextCodes, pairs, pushed, pushedAll, work};
 use crate::next::Codes;
 use crate::next::next_codes;
 use rom::timing::list;
@@ -33,6 +33,7 @@ fn push_all(seen: &mut [u8; 12288], queue: &mut [u16; 12288], tail: u16, codes: 
         ⌜ work (now (seen .exit)) (now (queue .exit)) r ≡ pushedAll (work (now (seen .entry)) (now (queue .entry)) tail) (codesOf codes) ⌝ }
 {
     match codes {
+        Codes::Forbidden(_) => tail,
         Codes::Nothing => tail,
         Codes::One(a) => push(seen, queue, tail, a),
         Codes::Two(a, b) => {
@@ -47,27 +48,63 @@ fn push_all(seen: &mut [u8; 12288], queue: &mut [u16; 12288], tail: u16, codes: 
     }
 }
 
-// The walk. A flag for each code, 1 where chains from the start, code 0, reach its pair; the codes found, in their order; and for each of their
-// places how many were found when its turn came, which is all that the way back needs.
+// A forbidden code and its fault; code 12,288 where there is none.
+pub struct Named {
+    pub code: u16,
+    pub fault: u8,
+}
+
+// The lower of what is named and this code, if it is forbidden.
+fn lower(named: Named, code: u16, codes: Codes) -> Named
+    ensures { λ r. ⌜ r ≡ lowered named code codes ⌝ }
+{
+    match codes {
+        Codes::Forbidden(fault) => {
+            if code < named.code {
+                Named {
+                    code: code,
+                    fault: fault,
+                }
+            } else {
+                named
+            }
+        }
+        Codes::Nothing => named,
+        Codes::One(_) => named,
+        Codes::Two(_, _) => named,
+        Codes::Three(_, _, _) => named,
+    }
+}
+
+// The walk. It leaves a flag for each code, 1 where chains from the start, code 0, reach its pair; the codes found, in their order; and for each
+// of their places how many were found when its turn came, which is all that the way back needs. It returns the lowest forbidden code.
 pub(crate) fn walk(
     mask: &[u8],
     seen: &mut [u8; 12288],
     queue: &mut [u16; 12288],
     starts: &mut [u16; 12288],
-)
+) -> Named
     requires { ⌜ (now seen ≡ replicate pairs 0) × (now queue ≡ replicate pairs 0) × (now starts ≡ replicate pairs 0) ⌝ }
     ensures { λ r. ⌜ Found pairs (nextCodes (now (mask .entry))) (now (seen .exit)) ⌝ }
     ensures { λ r. ⌜ Traced (nextCodes (now (mask .entry))) (now (seen .exit)) (now (queue .exit)) (now (starts .exit)) ⌝ }
+    ensures { λ r. ⌜ Names (now (mask .entry)) (now (seen .exit)) r ⌝ }
 {
     let entries = list();
     seen[0] = 1;
     let mut head: u16 = 0;
     let mut tail: u16 = 1;
+    let mut named = Named {
+        code: 12288,
+        fault: 0,
+    };
     while head < tail {
         let at = head as usize;
         starts[at] = tail;
-        let codes = next_codes(mask, &entries, queue[at]);
+        let code = queue[at];
+        let codes = next_codes(mask, &entries, code);
+        named = lower(named, code, codes);
         tail = push_all(seen, queue, tail, codes);
         head += 1;
     }
+    named
 }

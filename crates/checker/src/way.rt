@@ -6,8 +6,6 @@ ghost use lib.ListN.{drop, getD, length};
 ghost use Rattle.checker.specs.Trail.{Before, Counted, ListedTo, Listings, Stands, StandsFirst};
 ghost use Rattle.checker.specs.Walk.{pairOf, pairs};
 ghost use Rattle.checker.specs.Ways.{WayAnswers, listed};
-use crate::check::Verdict;
-use crate::check::judge;
 use crate::walk::walk;
 
 pub enum Listing {
@@ -116,9 +114,9 @@ pub fn way(mask: &[u8], list: &mut [u8]) -> Listing
     let mut seen = [0u8; 12288];
     let mut queue = [0u16; 12288];
     let mut starts = [0u16; 12288];
-    walk(mask, &mut seen, &mut queue, &mut starts);
-    let Verdict::Failed(_, address, level) = judge(mask, &seen) else {
-        return Listing::MaskPasses;
-    };
-    list_to(list, &queue, &starts, address * 3 + level as u16)
+    let named = walk(mask, &mut seen, &mut queue, &mut starts);
+    if named.code < 12288 {
+        return list_to(list, &queue, &starts, named.code);
+    }
+    Listing::MaskPasses
 }

@@ -1,7 +1,7 @@
 -- `checker::next::next_codes` meets its contract: an arm knows the flow, at which the definition computes, and a target that was read is an
 -- address, so that its code fits. Assumes nothing.
-use Prim.Native.Nat.{ℕ, _+_, _*_, _/_, _%_}
-use mathlib.Core.Path.{_≡_, refl, ap, _∙_}
+use Prim.Native.Nat.{ℕ, suc, _+_, _*_, _/_, _%_}
+use mathlib.Core.Path.{_≡_, refl, sym, ap, _∙_}
 use mathlib.Core.Bool.{Bool, true, false}
 use mathlib.Core.List.{[], _∷_, map}
 use native.Mathlib.Omega.{arith}
@@ -15,10 +15,10 @@ use Rattle.checker.specs.declared.flow.Flow.{Flow}
 use Rattle.checker.specs.declared.flow.Flow.the-variants.{Unread, On, Enable, Jump, To, Sub, Back}
 use Rattle.checker.specs.Marks.{levels, faultIn}
 use Rattle.checker.specs.Verdicts.{rank}
-use Rattle.checker.specs.Walk.{nextCodes}
+use Rattle.checker.specs.Walk.{nextCodes, faultAt}
 use Rattle.checker.proofs.Fetched.{length-in}
 use Rattle.checker.proofs.Reach.{Targets}
-use Rattle.checker.proofs.Successors.{handed-on, next-flow, next-targets}
+use Rattle.checker.proofs.Successors.{handed-on, fault-flow, next-flow, next-targets}
 use borrow.Author.Needs.{needs}
 use Rattle.checker.proofs.next.next_codes.Statement.{statement}
 use Rattle.checker.proofs.next.next_codes.Tie as tie
@@ -32,6 +32,17 @@ at-flow c g e =
     next-flow (s .args .mask .now) (s .args .code) (c .flow-at .result) g (c .flow-at .ensures) e (c .before .moved-by .result)
     (c .before .moved-by .ensures
     ∙ ap (λ (n : ℕ). movedBy n (s .args .code / levels)) (length-in (s .args .list .now) (first .result) (s .pre) ∙ ap lengthOf (first .ensures)))
+
+fault-at : (c : tie.After-flow-at) (g : Flow) → c .flow-at .result ≡ g
+    → faultAt (c .before .before .before .before .before .args .mask .now) (c .before .before .before .before .before .args .code)
+    ≡ faultIn g (c .before .before .before .before .before .args .code % levels)
+fault-at c g e =
+    let s = c .before .before .before .before .before in
+    sym (fault-flow (s .args .mask .now) (s .args .code) (c .flow-at .result) g (c .flow-at .ensures) e)
+
+-- a fault that is a number from 1 on
+forbids : (f : ℕ) {g : ℕ} → g ≡ suc f → (g ≡ suc f) × (g ≡ 0 → ⊥)
+forbids f e = (e, λ z. omega arith)
 
 target : (c : tie.After-flow-at) (g : Flow) → c .flow-at .result ≡ g → Targets g
 target c g e =
@@ -55,6 +66,13 @@ back l = go (eqb (faultIn Back l) 0)
     go true = refl
     go false = refl
 
+-- the faults by level
+in-main : {A : Type 0} (x y : A) (l : ℕ) → l ≡ 0 → pick (eqb l 0) x y ≡ x
+in-main x y l e = rw (eq-eqb l 0 e) refl
+
+above : {A : Type 0} (x y : A) (l : ℕ) → (l ≡ 0 → ⊥) → pick (eqb l 0) x y ≡ y
+above x y l n = rw (ne-eqb l 0 n) refl
+
 mul-t22 : tie.Need-mul-t22
 mul-t22 c = let t = c .before .before .flow .given in let h = target (c .before .before .before .before) (Jump (t .0 .0)) (t .1) in omega arith
 
@@ -69,35 +87,59 @@ add-t35 c = let t = c .before .before .before .flow3 .given in let h = target (c
 
 -- no instruction
 returns : tie.Need-returns
-returns c = at-flow (c .before .before) Unread (c .enum-told .given .1)
+returns c = let f = c .before .before in let e = c .enum-told .given .1 in (at-flow f Unread e, forbids 0 (fault-at f Unread e))
 
 -- goes on
 returns-2 : tie.Need-returns-2
-returns-2 c = at-flow (c .before .before) On (c .enum-told2 .given .1)
+returns-2 c = let f = c .before .before in let e = c .enum-told2 .given .1 in (at-flow f On e, fault-at f On e)
 
 -- EI
 returns-3 : tie.Need-returns-3
-returns-3 c = at-flow (c .before .before) Enable (c .enum-told3 .given .1)
+returns-3 c = let f = c .before .before in let e = c .enum-told3 .given .1 in (at-flow f Enable e, fault-at f Enable e)
 
 -- JMP
 returns-4 : tie.Need-returns-4
-returns-4 c = let t = c .before .before .flow .given in at-flow (c .before .before .before .before) (Jump (t .0 .0)) (t .1)
+returns-4 c =
+    let f = c .before .before .before .before in
+    let t = c .before .before .flow .given in
+    (at-flow f (Jump (t .0 .0)) (t .1), fault-at f (Jump (t .0 .0)) (t .1))
 
 -- a branch
 returns-5 : tie.Need-returns-5
-returns-5 c = let t = c .before .before .flow2 .given in at-flow (c .before .before .before .before) (To (t .0 .0)) (t .1)
+returns-5 c =
+    let f = c .before .before .before .before in
+    let t = c .before .before .flow2 .given in
+    (at-flow f (To (t .0 .0)) (t .1), fault-at f (To (t .0 .0)) (t .1))
 
 -- CALL in level 0
 returns-6 : tie.Need-returns-6
-returns-6 c = let t = c .before .before .before .flow3 .given in sub-main (t .0 .0) _ _ (c .before .if1 .taken) ∙ at-flow (c .before .before .before .before .before) (Sub (t .0 .0)) (t .1)
+returns-6 c =
+    let f = c .before .before .before .before .before in
+    let t = c .before .before .before .flow3 .given in
+    let h = c .before .if1 .taken in
+    (sub-main (t .0 .0) _ _ h ∙ at-flow f (Sub (t .0 .0)) (t .1), fault-at f (Sub (t .0 .0)) (t .1) ∙ in-main 0 2 _ h)
 
 -- CALL above it
 returns-7 : tie.Need-returns-7
-returns-7 c = let t = c .before .before .flow3 .given in sub-other (t .0 .0) _ _ (c .if1 .left) ∙ at-flow (c .before .before .before .before) (Sub (t .0 .0)) (t .1)
+returns-7 c =
+    let f = c .before .before .before .before in
+    let t = c .before .before .flow3 .given in
+    let h = c .if1 .left in
+    (sub-other (t .0 .0) _ _ h ∙ at-flow f (Sub (t .0 .0)) (t .1), forbids 1 (fault-at f (Sub (t .0 .0)) (t .1) ∙ above 0 2 _ h))
 
--- RET and RETI
+-- RET and RETI in level 0
 returns-8 : tie.Need-returns-8
-returns-8 c = back (c .before .before .before .before .before .before .before .args .code % levels) ∙ at-flow (c .before .before) Back (c .enum-told4 .given .1)
+returns-8 c =
+    let f = c .before .before .before in
+    let e = c .before .enum-told4 .given .1 in
+    (back (c .before .before .before .before .before .before .before .before .args .code % levels) ∙ at-flow f Back e, forbids 2 (fault-at f Back e ∙ in-main 3 0 _ (c .if2 .taken)))
+
+-- RET and RETI above it
+returns-9 : tie.Need-returns-9
+returns-9 c =
+    let f = c .before .before .before in
+    let e = c .before .enum-told4 .given .1 in
+    (back (c .before .before .before .before .before .before .before .before .args .code % levels) ∙ at-flow f Back e, fault-at f Back e ∙ above 3 0 _ (c .if2 .left))
 
 pub next-codes-spec : {M : Type 1} → statement M
 next-codes-spec =
@@ -107,4 +149,4 @@ next-codes-spec =
     (λ c. search needs) (λ c. search needs) (λ c. search needs) (λ c. search needs) (λ c. search needs) (λ c. search needs)
     (λ c. search needs) mul-t22 add-t23 (λ c. search needs) (λ c. search needs) (λ c. search needs) (λ c. search needs)
     (λ c. search needs) (λ c. search needs) (λ c. search needs) (λ c. search needs) mul-t34 add-t35 (λ c. search needs)
-    (λ c. search needs) returns returns-2 returns-3 returns-4 returns-5 returns-6 returns-7 returns-8)
+    (λ c. search needs) returns returns-2 returns-3 returns-4 returns-5 returns-6 returns-7 returns-8 returns-9)

@@ -1,9 +1,10 @@
 -- `checker::walk::push_all` meets its contract: an arm knows the codes, and a push keeps the room. Assumes nothing.
 use Prim.Native.Nat.{ℕ, _<_}
-use mathlib.Core.Path.{_≡_, sym, ap, subst, _∙_}
+use mathlib.Core.Path.{_≡_, refl, sym, ap, subst, _∙_}
+use mathlib.Core.List.{[]}
 use Rattle.checker.specs.Walk.{Work, work, pushed, pushedAll, Room, Small, pairs, codesOf}
 use Rattle.checker.specs.declared.next.Codes.{Codes}
-use Rattle.checker.specs.declared.next.Codes.the-variants.{Nothing, One, Two, Three}
+use Rattle.checker.specs.declared.next.Codes.the-variants.{Forbidden, Nothing, One, Two, Three}
 use Rattle.checker.proofs.Count.{room-pushed}
 use borrow.Author.Needs.{needs}
 use Rattle.checker.proofs.walk.push_all.Statement.{statement}
@@ -18,9 +19,9 @@ room-after : (v w : Work) (c : ℕ) → w ≡ pushed v c → Room pairs (v .seen
 room-after v w c e r h = subst (λ (u : Work). Room pairs (u .seen) (u .tail)) (sym e) (room-pushed v c r h)
 
 -- pushes in a row
-none-pushed : (w : Work) (s : Codes) → s ≡ Nothing → w ≡ pushedAll w (codesOf s)
+none-pushed : (w : Work) (s d : Codes) → s ≡ d → codesOf d ≡ [] → w ≡ pushedAll w (codesOf s)
 unfolding pushedAll
-none-pushed w s e = ap (λ (d : Codes). pushedAll w (codesOf d)) (sym e)
+none-pushed w s d e f = sym (ap (λ (d : Codes). pushedAll w (codesOf d)) e ∙ ap (pushedAll w) f)
 
 one-pushed : (w u : Work) (s : Codes) (a : ℕ) → s ≡ One a → u ≡ pushed w a → u ≡ pushedAll w (codesOf s)
 unfolding pushedAll
@@ -88,22 +89,30 @@ push-requires-6 c κs =
     let r = room-after (work (a .seen .now) (a .queue .now) (a .tail)) (work (p4 .last .0) (p4 .last .1 .0) (p4 .result)) (k .0 .0) (p4 .ensures) (s .pre .1) (h .0) in
     (h .1 .1 .0, room-after (work (p4 .last .0) (p4 .last .1 .0) (p4 .result)) (work (p5 .last .0) (p5 .last .1 .0) (p5 .result)) (k .0 .1 .0) (p5 .ensures) r (h .1 .0))
 
+-- a forbidden pair
 returns : tie.Need-returns
 returns c =
     let s = c .before .before in
     let a = s .args in
-    none-pushed (work (a .seen .now) (a .queue .now) (a .tail)) (a .codes) (c .enum-told .given .1)
+    none-pushed (work (a .seen .now) (a .queue .now) (a .tail)) (a .codes) (Forbidden (c .enum-told .given .0 .0)) (c .enum-told .given .1) refl
 
+-- a return
 returns-2 : tie.Need-returns-2
 returns-2 c =
+    let s = c .before .before in
+    let a = s .args in
+    none-pushed (work (a .seen .now) (a .queue .now) (a .tail)) (a .codes) Nothing (c .enum-told2 .given .1) refl
+
+returns-3 : tie.Need-returns-3
+returns-3 c =
     let s = c .before .before .before .before .before .before in
     let a = s .args in
     let k = c .before .before .before .before .codes .given in
     let p = c .push in
     one-pushed (work (a .seen .now) (a .queue .now) (a .tail)) (work (p .last .0) (p .last .1 .0) (p .result)) (a .codes) (k .0 .0) (k .1) (p .ensures)
 
-returns-3 : tie.Need-returns-3
-returns-3 c =
+returns-4 : tie.Need-returns-4
+returns-4 c =
     let s = c .before .before .before .before .before .before .before .before .before in
     let a = s .args in
     let k = c .before .before .before .before .before .before .before .codes2 .given in
@@ -111,8 +120,8 @@ returns-3 c =
     let p3 = c .push3 in
     two-pushed (work (a .seen .now) (a .queue .now) (a .tail)) (work (p2 .last .0) (p2 .last .1 .0) (p2 .result)) (work (p3 .last .0) (p3 .last .1 .0) (p3 .result)) (a .codes) (k .0 .0) (k .0 .1 .0) (k .1) (p2 .ensures) (p3 .ensures)
 
-returns-4 : tie.Need-returns-4
-returns-4 c =
+returns-5 : tie.Need-returns-5
+returns-5 c =
     let s = c .before .before .before .before .before .before .before .before .before .before .before .before in
     let a = s .args in
     let k = c .before .before .before .before .before .before .before .before .before .before .codes3 .given in
@@ -125,5 +134,5 @@ pub push-all-spec : {M : Type 1} → statement M
 push-all-spec =
     tie.close
     (tie.spec
-    (λ c. search needs) (λ c. search needs) push-requires (λ c. search needs) push-requires-2 push-requires-3 (λ c. search needs)
-    push-requires-4 push-requires-5 push-requires-6 returns returns-2 returns-3 returns-4)
+    (λ c. search needs) (λ c. search needs) (λ c. search needs) push-requires (λ c. search needs) push-requires-2 push-requires-3
+    (λ c. search needs) push-requires-4 push-requires-5 push-requires-6 returns returns-2 returns-3 returns-4 returns-5)
