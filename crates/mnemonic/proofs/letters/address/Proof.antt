@@ -1,6 +1,7 @@
 -- `mnemonic::letters::address` meets its contract: the digits by what `digit` promises, then the law for the branch. Assumes nothing.
-use mathlib.Core.Path.{_≡_}
-use mathlib.Core.List.{[], _∷_}
+use Prim.Native.Nat.{ℕ}
+use mathlib.Core.Path.{_≡_, ap₂}
+use mathlib.Core.List.{List, [], _∷_}
 use borrow.Author.Needs.{needs}
 use Rattle.mnemonic.specs.Held.{upTo}
 use Rattle.mnemonic.specs.Spelling.{digits}
@@ -10,7 +11,7 @@ use Rattle.mnemonic.proofs.letters.address.Tie as tie
 
 -- the digits as they were made
 made : (c : tie.After-digit3) → c .before .before .digit .result ∷ c .before .digit2 .result ∷ c .digit3 .result ∷ [] ≡ digits 3 (c .before .before .before .args .x)
-made c = cc
+made c = ap₂ (λ (a : ℕ) (s : List ℕ). a ∷ s) (c .before .before .digit .ensures) (ap₂ (λ (b c : ℕ). b ∷ c ∷ []) (c .before .digit2 .ensures) (c .digit3 .ensures))
 
 returns : tie.Need-returns
 returns c = bare (upTo (c .before .before .before .before .before .before .args .front)) (made (c .before .before .before)) (c .before .before .if1 .taken) (c .joined .ensures)

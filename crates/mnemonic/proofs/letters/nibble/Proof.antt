@@ -1,5 +1,6 @@
 -- `mnemonic::letters::nibble` meets its contract: the digits by what `digit` promises, then the law for the branch. Assumes nothing.
-use mathlib.Core.Path.{_≡_}
+use Prim.Native.Nat.{ℕ}
+use mathlib.Core.Path.{_≡_, ap}
 use mathlib.Core.List.{[], _∷_}
 use borrow.Author.Needs.{needs}
 use Rattle.mnemonic.specs.Held.{upTo}
@@ -10,7 +11,7 @@ use Rattle.mnemonic.proofs.letters.nibble.Tie as tie
 
 -- the digits as they were made
 made : (c : tie.After-digit) → c .digit .result ∷ [] ≡ digits 1 (c .before .args .x)
-made c = cc
+made c = ap (λ (a : ℕ). a ∷ []) (c .digit .ensures)
 
 returns : tie.Need-returns
 returns c = bare (upTo (c .before .before .before .before .args .front)) (made (c .before .before .before)) (c .before .before .if1 .taken) (c .joined .ensures)
