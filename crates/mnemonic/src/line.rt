@@ -1,11 +1,8 @@
 // The text of an instruction, and an instruction at an address.
-ghost use Prim.Native.Nat.{_%_};
-ghost use mathlib.Core.List.{_∷_, _++_};
 ghost use mathlib.Core.Path.{_≡_};
+ghost use Rattle.mnemonic.specs.Held.{Holds};
 ghost use Rattle.mnemonic.specs.Line.{textOf};
 ghost use Rattle.mnemonic.specs.Placing.{placedAt};
-ghost use Rattle.mnemonic.specs.Held.{Holds};
-ghost use Rattle.mnemonic.specs.Spelling.{codes, digit, number};
 use crate::Text;
 use crate::fronts;
 use crate::letters::address;
@@ -23,14 +20,12 @@ use isa::Port;
 use isa::ProgramAddress;
 
 // JAn: the bit's number is a digit of the first word.
-fn bit_branch(n: u8, at: u16) -> Text
-    ensures { λ r. ⌜ Holds r ((codes "JA" ++ (digit (n % 16) ∷ codes " ")) ++ number 3 at) ⌝ }
+fn bit_branch(n: u8, target: ProgramAddress) -> Text
+    ensures { λ r. ⌜ Holds r (textOf (Instruction.Branch target (Condition.Ja n))) ⌝ }
 {
     let d = digit(n as u16);
-    address(
-        [b'J', b'A', d, b' ', 0, 0, 0, 0, 0, 0, 0, 0, 0, 0, 0, 0],
-        at,
-    )
+    let front = [b'J', b'A', d, b' ', 0, 0, 0, 0, 0, 0, 0, 0, 0, 0, 0, 0];
+    address(front, target.0)
 }
 
 // A conditional branch.
@@ -39,7 +34,7 @@ fn branch(condition: Condition, target: ProgramAddress) -> Text
 {
     let at = target.0;
     match condition {
-        Condition::Ja(n) => bit_branch(n, at),
+        Condition::Ja(n) => bit_branch(n, target),
         Condition::JnzR0 => address(fronts::JNZ_R0, at),
         Condition::JnzR1 => address(fronts::JNZ_R1, at),
         Condition::JnzR4 => address(fronts::JNZ_R4, at),

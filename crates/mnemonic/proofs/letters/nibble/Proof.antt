@@ -14,10 +14,14 @@ made : (c : tie.After-digit) → c .digit .result ∷ [] ≡ digits 1 (c .before
 made c = ap (λ (a : ℕ). a ∷ []) (c .digit .ensures)
 
 returns : tie.Need-returns
-returns c = bare (upTo (c .before .before .before .before .args .front)) (made (c .before .before .before)) (c .before .before .if1 .taken) (c .joined .ensures)
+returns c =
+    let front = upTo (c .before .before .before .before .args .front) in
+    bare front (made (c .before .before .before)) (c .before .before .if1 .taken) (c .joined .ensures)
 
 returns-2 : tie.Need-returns-2
-returns-2 c = zeroed (upTo (c .before .before .before .before .args .front)) (made (c .before .before .before)) (c .before .before .if1 .left) (c .joined2 .ensures)
+returns-2 c =
+    let front = upTo (c .before .before .before .before .args .front) in
+    zeroed front (made (c .before .before .before)) (c .before .before .if1 .left) (c .joined2 .ensures)
 
 pub nibble-spec : {M : Type 1} → statement M
 nibble-spec =
