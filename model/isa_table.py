@@ -213,6 +213,12 @@ def write(instruction):
     return bytes(int(text[i:i + 8], 2) for i in range(0, len(text), 8))
 
 
+def number(value, width):
+    """An operand of so many bits, as text: upper-case hexadecimal ending in H, with a 0 before a letter."""
+    digits = f'{value:0{(width + 3) // 4}X}H'
+    return '0' + digits if digits[0].isalpha() else digits
+
+
 def text(instruction):
     """The mnemonic with its operands filled in."""
     code, out = instruction.code, instruction.code.mnemonic
@@ -221,28 +227,37 @@ def text(instruction):
     data = []
     for (letter, _, width), value in zip(field_runs(code.pattern), instruction.fields):
         if letter == 'a':
-            out = out.replace('addr', f'{value:03X}H')
+            out = out.replace('addr', number(value, 12))
         elif letter == 'd':
-            data.append(f'{value:0{width // 4}X}')
+            data.append((value, width))
         elif out == 'SOUND n':
-            out = f'SOUND {value:X}H'
+            out = 'SOUND ' + number(value, width)
         else:
             out = out.replace('Rn', f'R{value}').replace('JAn', f'JA{value}')
     if data:
         # Two nibbles: the second byte's is the high one.
-        digits = ''.join(reversed(data)) + 'H'
-        out = out.replace('XXH', digits) if 'XXH' in out else out.replace('XH', digits)
+        value = sum(nibble << (4 * place) for place, (nibble, _) in enumerate(data))
+        operand = number(value, sum(width for _, width in data))
+        out = out.replace('XXH', operand) if 'XXH' in out else out.replace('XH', operand)
     return out
 
 
+def placed(instruction, moved):
+    """The instruction where the moved address is this: a field of 11 address bits takes bit 11 from it."""
+    runs = field_runs(instruction.code.pattern)
+    whole = [value + (moved & 0x800) if (letter, width) == ('a', 11) else value
+             for (letter, _, width), value in zip(runs, instruction.fields)]
+    return Instruction(instruction.code, tuple(whole))
+
+
 def line(first, second):
-    """One line of the printed table."""
+    """One line of the printed table. A branch is shown where the moved address is 16 times the second byte."""
     instruction = read(first, second)
     length, cycles = LENGTH_CYCLES[first]
     if instruction is None:
         reading, written = 'unreadable', '-'
     else:
-        reading = text(instruction)
+        reading = text(placed(instruction, 16 * second))
         written = ' '.join(f'{b:02X}' for b in write(instruction))
     return f'{first:02X} {second:02X} {reading} {length} {cycles} {written}'
 

@@ -64,19 +64,20 @@ def test_table():
             assert isa.write(i) == both[:i.code.length]
     # 35h: 256; HALT: 255; 40-46h, 5dh, 6dh: 240 each.
     same(unread, 256 + 255 + (7 + 32) * 240, 'unreadable byte pairs')
-    same(isa.line(0x40, 0x0F), '40 0F ADD A,FH 2 2 40 0F', 'ADD A')
+    same(isa.line(0x40, 0x0F), '40 0F ADD A,0FH 2 2 40 0F', 'ADD A')
     same(isa.line(0x40, 0x10), '40 10 unreadable 2 2 -', 'ADD A, second byte 10h')
     same(isa.line(0x35, 0x00), '35 00 unreadable 0 0 -', '35h')
     same(isa.line(0x37, 0x3E), '37 3E HALT 2 2 37 3E', 'HALT')
     same(isa.line(0x37, 0x0F), '37 0F unreadable 2 2 -', 'HALT, second byte 0Fh')
-    same(isa.line(0x53, 0x0F), '53 0F MOV R1R0,F3H 2 2 53 0F', 'MOV R1R0')
+    same(isa.line(0x53, 0x0F), '53 0F MOV R1R0,0F3H 2 2 53 0F', 'MOV R1R0')
     same(isa.line(0x16, 0xFF), '16 FF INC R3 1 1 16', 'INC R3')
-    same(isa.line(0x9F, 0xFF), '9F FF JA3 7FFH 2 2 9F FF', 'JA3')
+    same(isa.line(0x9F, 0xFF), '9F FF JA3 0FFFH 2 2 9F FF', 'JA3 in the upper half')
+    same(isa.line(0x9F, 0x3E), '9F 3E JA3 73EH 2 2 9F 3E', 'JA3 in the lower half')
     same(isa.line(0xD8, 0x0F), 'D8 0F JNZ R4,00FH 2 2 D8 0F', 'JNZ R4')
     same(isa.line(0xE1, 0xFF), 'E1 FF JMP 1FFH 2 2 E1 FF', 'JMP')
     same(isa.line(0x4C, 0x00), '4C 00 READ R4A 1 2 4C', 'READ R4A')
     same(isa.line(0x34, 0x00), '34 00 IN A,PP 1 1 34', 'IN A,PP')
-    same(isa.line(0x45, 0x0F), '45 0F SOUND FH 2 2 45 0F', 'SOUND n')
+    same(isa.line(0x45, 0x0F), '45 0F SOUND 0FH 2 2 45 0F', 'SOUND n')
     same(isa.line(0x47, 0x3E), '47 3E TIMER 3EH 2 2 47 3E', 'TIMER XXH')
     inc_rn, jump = isa.BY_FIRST[0x10], isa.BY_FIRST[0xE0]
     same(isa.write(isa.Instruction(inc_rn, (5,))), Refused(3), 'INC R5')
@@ -93,7 +94,7 @@ def test_table():
         '44': 'OR A,7H', '46': 'MOV R4,7H', '4C': 'READ R4A', '4E': 'READ MR0A',
         '52': 'MOV R1R0,72H', '62': 'MOV R3R2,72H', '72': 'MOV A,2H', 'A0': 'JNZ R0,007H',
         'A8': 'JNZ R1,007H', 'B0': 'JZ A,007H', 'B8': 'JNZ A,007H', 'D0': 'JTMR 007H',
-        'D8': 'JNZ R4,007H', 'F0': 'CALL 007H', 'FF': 'CALL F07H',
+        'D8': 'JNZ R4,007H', 'F0': 'CALL 007H', 'FF': 'CALL 0F07H',
     }
     for first, reading in seen.items():
         same(isa.text(isa.read(int(first, 16), 7)), reading, f'code {first}')
@@ -249,8 +250,8 @@ def test_effects():
     hold('RR 0001', one('00', acc=1), acc=8, cf=1)
     hold('RRC 0010, CF 1', one('02', acc=2, cf=1), acc=9, cf=0)
     hold('INC R4 of 15 keeps CF', one('18', r=[0, 0, 0, 0, 15], cf=1), r=[0] * 5, cf=1)
-    hold('MOV R1R0,F3H', one('53 0F'), r=[3, 15, 0, 0, 0])
-    hold('MOV R3R2,F3H', one('63 0F'), r=[0, 0, 3, 15, 0])
+    hold('MOV R1R0,0F3H', one('53 0F'), r=[3, 15, 0, 0, 0])
+    hold('MOV R3R2,0F3H', one('63 0F'), r=[0, 0, 3, 15, 0])
     hold('MOV TMRH,A', one('3D', acc=10, timer=0x35), timer=0xA5)
     hold('MOV A,TMRH', one('3B', timer=0x35), acc=3)
     hold('IN A,PS', one('33', pm=1, ps=2, pp=3), acc=2)

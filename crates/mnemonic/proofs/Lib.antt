@@ -1,0 +1,4 @@
+pub mod Cases
+pub mod Cut
+pub mod Numbers
+pub mod Padding

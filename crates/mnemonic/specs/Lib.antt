@@ -1,0 +1,4 @@
+pub mod Held
+pub mod Line
+pub mod Placing
+pub mod Spelling
