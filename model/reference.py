@@ -588,6 +588,85 @@ def checker(mask, marks=bytes(MASK)):
 
 
 # ---------------------------------------------------------------------------
+# The way to a forbidden place (document 02, wish 2)
+# ---------------------------------------------------------------------------
+
+def counts(mask):
+    """Each reached pair with the count of pairs of a shortest chain to it, by layers."""
+    found, layer, count = {}, {(0, 0)}, 0
+    while layer:
+        count += 1
+        found.update((pair, count) for pair in layer)
+        layer = {after for pair in layer for after in successors(mask, *pair)} - found.keys()
+    return found
+
+
+def way(mask, room):
+    """'10 if the mask passes, after 1; 11 if the list is too short, after 10'; else the pairs of
+    a shortest chain to the one that the checker named. 'Which of several is free'."""
+    if len(mask) != MASK:
+        return Refused(1)
+    verdict = checker(mask)[1]
+    if verdict == 'passed':
+        return Refused(10)
+    count = counts(mask)
+    chain = [verdict[1:]]
+    if room < 3 * count[chain[0]]:
+        return Refused(11)
+    layers = {}
+    for pair, number in count.items():
+        layers.setdefault(number, []).append(pair)
+    for number in range(count[chain[0]] - 1, 0, -1):
+        chain.append(min(pair for pair in layers[number] if chain[-1] in successors(mask, *pair)))
+    return chain[::-1]
+
+
+def wrong_way(mask, pairs):
+    """What is wrong with these pairs as a way to the forbidden place of a mask that fails; None if nothing."""
+    end = checker(mask)[1][1:]
+    if pairs[:1] != [(0, 0)]:
+        return 'it does not start at address 0, level 0'
+    for before, after in zip(pairs, pairs[1:]):
+        if after not in successors(mask, *before):
+            return f'{after} is no successor of {before}'
+    if pairs[-1] != end:
+        return f'it does not end at {end}'
+    shortest = counts(mask)[end]
+    return None if len(pairs) == shortest else f'it has {len(pairs)} pairs, a shortest has {shortest}'
+
+
+def listed(pairs):
+    """'three bytes a pair (address low byte first, level)'."""
+    return b''.join(bytes([address % 256, address // 256, level]) for address, level in pairs)
+
+
+LEVELS = ('main', 'subroutine', 'interrupt')
+
+
+def way_line(mask, address, level):
+    """A pair's line in what `checkmask` prints."""
+    first, second = mask[address], mask[(address + 1) % MASK]
+    two = isa_table.LENGTH_CYCLES[first][0] == 2
+    i = fetch(mask, address)
+    text = 'cannot be read' if i is None else isa_table.text(isa_table.placed(i, moved(i, address)))
+    return f'{address:03X} {LEVELS[level]:<10} {first:02X} {f"{second:02X}" if two else "  "} {text}'
+
+
+def verdict_line(verdict):
+    """The first line that `checkmask` prints for a mask of 4,096 bytes."""
+    return verdict if verdict == 'passed' else f'fault {verdict[0]} at {verdict[1]:03X} level {verdict[2]}'
+
+
+def checkmask(mask):
+    """The lines of `checkmask`; the way is one of several that may be as short."""
+    if len(mask) != MASK:
+        return ['refused 1']
+    verdict = checker(mask)[1]
+    pairs = [] if verdict == 'passed' else way(mask, 3 * 3 * MASK)
+    return [verdict_line(verdict)] + [way_line(mask, *pair) for pair in pairs]
+
+
+# ---------------------------------------------------------------------------
 # Refused inputs
 # ---------------------------------------------------------------------------
 

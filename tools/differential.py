@@ -1,9 +1,10 @@
 """Drives the reference model and the built programs on the same input and compares line by line.
 
-First the stored cases of tests/panel and the demonstration, then chance: masks and scripts, good
-and damaged, through target/bin/panel; masks through target/bin/checker_main. Always the same
-cases. At the first difference the case is saved under target/differential and the exit status is 1.
-Build the programs first: rt check panel checker_main
+First the stored cases of tests/panel and tests/checkmask and the demonstration, then chance: masks
+and scripts, good and damaged, through target/bin/panel; masks through target/bin/checker_main and
+target/bin/checkmask. Always the same cases. At the first difference the case is saved under
+target/differential and the exit status is 1.
+Build the programs first: rt check panel checker_main checkmask
 """
 
 import collections
@@ -25,6 +26,7 @@ from panel_input import int_pin, pins, power_on, record, res, run, tmclk, two, w
 ROOT = pathlib.Path(__file__).resolve().parent.parent
 PANEL = ROOT / 'target' / 'bin' / 'panel'
 CHECKER = ROOT / 'target' / 'bin' / 'checker_main'
+CHECKMASK = ROOT / 'target' / 'bin' / 'checkmask'
 SAVED = ROOT / 'target' / 'differential'
 LONGEST = make_panel_cases.LONGEST
 SECONDS = 60        # for one run of a program
@@ -73,33 +75,42 @@ def first_difference(expected, got):
     return 'no line differs'
 
 
+def differs(name, files, got, why, expected=None):
+    save({**files, 'expected': expected, 'got': got})
+    stop(f'{name}: {"; ".join(why)}; saved under target/differential')
+
+
 def compare(name, command, files, expected):
     got, trouble = run_program(command, files)
     if got == expected and not trouble:
         return
-    save({**files, 'expected': expected, 'got': got})
     why = [trouble] if trouble else []
     if got != expected:
         why.append(first_difference(expected, got))
-    stop(f'{name}: {"; ".join(why)}; saved under target/differential')
+    differs(name, files, got, why, expected)
 
 
 # ---------------------------------------------------------------------------
 # Stored cases
 # ---------------------------------------------------------------------------
 
-def stored_cases():
-    """How many cases of tests/panel ran; the demonstration goes through ./panel."""
-    folders = sorted(folder for folder in (ROOT / 'tests' / 'panel').iterdir() if folder.is_dir())
+def stored_cases(program, names):
+    """How many cases of a program ran, each with files of these names."""
+    folders = sorted(folder for folder in (ROOT / 'tests' / program.name).iterdir() if folder.is_dir())
     for folder in folders:
         left_out = (folder / 'missing').read_text().split() if (folder / 'missing').exists() else []
-        files = {name: None if name in left_out else (folder / name).read_bytes()
-                 for name in ('mask.bin', 'script.bin')}
-        compare(f'tests/panel/{folder.name}', [PANEL], files, (folder / 'expected').read_bytes())
+        files = {name: None if name in left_out else (folder / name).read_bytes() for name in names}
+        compare(f'tests/{program.name}/{folder.name}', [program], files, (folder / 'expected').read_bytes())
+    return len(folders)
+
+
+def demonstrations():
+    """How many ran: through ./panel and ./checkmask, the last one on a file that is missing."""
     demo = ROOT / 'demo'
-    compare('demo', [ROOT / 'panel', demo / 'mask.bin', demo / 'script.bin'], {},
-            (demo / 'expected').read_bytes())
-    return len(folders) + 1
+    compare('demo', [ROOT / 'panel', demo / 'mask.bin', demo / 'script.bin'], {}, (demo / 'expected').read_bytes())
+    compare('demo/forbidden.bin', [ROOT / 'checkmask', demo / 'forbidden.bin'], {}, (demo / 'forbidden').read_bytes())
+    compare('demo, no such file', [ROOT / 'checkmask', demo / 'none'], {}, b'refused 1\n')
+    return 3
 
 
 # ---------------------------------------------------------------------------
@@ -456,14 +467,94 @@ def random_masks():
     return count
 
 
+# ---------------------------------------------------------------------------
+# Ways to a forbidden place
+# ---------------------------------------------------------------------------
+
+FAILING = 2000      # ways to compare, at least
+
+
+def sparse(rng):
+    """NOPs with some codes by chance, branches and calls among them: long ways."""
+    image = bytearray([0x3E] * reference.MASK)
+    for _ in range(rng.randrange(1, 40)):
+        code = rng.choice((any_code(rng, UNCOMMON), any_code(rng, COMMON), branch(rng, rng.randrange(0x800)), write('EI')))
+        at = rng.randrange(reference.MASK - 1)
+        image[at:at + len(code)] = code
+    return bytes(image)
+
+
+def damaged_program(rng):
+    """A program with a few bytes that are others."""
+    image = bytearray(panel_program(rng))
+    for _ in range(rng.randrange(1, 8)):
+        image[rng.choice((rng.randrange(reference.MASK), rng.randrange(0x100, 0x140)))] = rng.randrange(256)
+    return bytes(image)
+
+
+def way_masks(rng):
+    """By hand: through every address in main, and then in a subroutine; then by chance, more than enough that fail."""
+    longest = bytearray([0x3E] * reference.MASK)
+    longest[0xFFF] = 0x35
+    yield bytes(longest)
+    longest[0xFFD:] = bytes([0xF0, 0x00, 0x3E])
+    yield bytes(longest)
+    while True:
+        for kind in (uniform, readable, sparse, sparse, damaged_program, damaged_program):
+            yield kind(rng)
+
+
+def compare_way(name, mask):
+    """The number of pairs of the way, 0 for a mask that passes."""
+    files = {'mask.bin': mask}
+    got, trouble = run_program([CHECKMASK], files)
+    verdict = reference.checker(mask)[1]
+    first, *lines = got.decode('latin-1').split('\n')
+    pairs = []
+    for line in lines[:-1]:
+        address, level, *_ = line.split()
+        pairs.append((int(address, 16), reference.LEVELS.index(level)))
+    why = [trouble] if trouble else []
+    if first != reference.verdict_line(verdict):
+        why.append(f'expected {reference.verdict_line(verdict)!r}, got {first!r}')
+    elif verdict == 'passed':
+        why += [f'{len(pairs)} pairs for a mask that passes'] if pairs else []
+    else:
+        wrong = reference.wrong_way(mask, pairs)
+        why += [wrong] if wrong else []
+    why += [f'line {number + 2} is {line!r}' for number, (pair, line) in enumerate(zip(pairs, lines))
+            if line != reference.way_line(mask, *pair)][:1]
+    if why or lines[-1:] != ['']:
+        differs(name, files, got, why or ['the last line has no end'])
+    return len(pairs)
+
+
+def random_ways():
+    """How many masks, and how many of them fail."""
+    lengths = []
+    for number, mask in enumerate(way_masks(random.Random(1132))):
+        lengths.append(compare_way(f'way, mask {number}', mask))
+        if sum(map(bool, lengths)) >= FAILING:
+            break
+    for limit in (1, 10, 100, 1000, 4096, 8188):
+        if max(lengths) < limit:
+            stop(f'no way has {limit} pairs')
+    if len(lengths) - FAILING < 50:
+        stop('too few masks pass')
+    return len(lengths), FAILING
+
+
 def main():
-    for program in (PANEL, CHECKER):
+    for program in (PANEL, CHECKER, CHECKMASK):
         if not os.access(program, os.X_OK):
-            stop(f'{program.relative_to(ROOT)} is missing; build it by: rt check panel checker_main')
+            stop(f'{program.relative_to(ROOT)} is missing; build it by: rt check panel checker_main checkmask')
     shutil.rmtree(SAVED, ignore_errors=True)
-    panels = stored_cases() + random_panel_cases()
+    panels = stored_cases(PANEL, ('mask.bin', 'script.bin')) + random_panel_cases()
+    checks = stored_cases(CHECKMASK, ('mask.bin',)) + demonstrations()
     masks = random_masks()
-    print(f'differential: {panels} panel cases, {masks} masks, 0 differences')
+    ways, failing = random_ways()
+    print(f'differential: {panels} panel cases, {checks} of checkmask and the demonstrations, {masks} masks, '
+          f'{ways} masks with {failing} ways, 0 differences')
 
 
 if __name__ == '__main__':

@@ -1,4 +1,5 @@
-"""Writes the demonstration: demo/mask.bin, demo/script.bin, and demo/expected by the reference model.
+"""Writes the demonstration: demo/mask.bin, demo/script.bin, and demo/expected by the reference model;
+then demo/forbidden.bin and demo/forbidden, a mask that fails and what `checkmask` says of it.
 
 The panel counts pulses on INT. Its digit is on the display: segments a, b, c, d are bits 0 to 3 of
 E0h, segments e, f, g bits 0 to 2 of E1h. A pulse wakes it; some time after the last one its timer
@@ -9,6 +10,7 @@ import pathlib
 
 import paths  # noqa: F401
 import reference
+from make_checkmask_cases import shortest_ways
 from panel_input import assemble, int_pin, power_on, run
 
 FOLDER = pathlib.Path(__file__).resolve().parent.parent / 'demo'
@@ -56,11 +58,14 @@ PROGRAM = {
             ('RETI',)],
 }
 
+# The same panel with a mistake: its pulse handler calls the subroutine that shows the digit.
+FORBIDDEN = {**PROGRAM, 0x1C0: PROGRAM[0x1C0][:-1] + [('CALL addr', 'digit'), ('RETI',)]}
+
 PULSE = int_pin(0) + int_pin(1)
 
 
-def mask():
-    image = bytearray(assemble(PROGRAM))
+def mask(program=None):
+    image = bytearray(assemble(program or PROGRAM))
     image[0xF00:0xF00 + len(SEGMENTS)] = bytes(SEGMENTS)
     return bytes(image)
 
@@ -89,8 +94,13 @@ def files():
     digits = [shown(line) for line in lines]
     assert [digits[k] for k in (1, 2, 5, 8, 9, 12, 30, 33, 34)] == [0, None, 1, 2, None, 3, 9, 0, None], digits
     assert bytes.fromhex(lines[33])[14] == 5
+    forbidden = mask(FORBIDDEN)
+    assert reference.checker(mask())[1] == 'passed'
+    assert reference.checker(forbidden)[1] == (2, 0x1D4, 2), reference.checker(forbidden)[1]
+    assert shortest_ways(forbidden) == 1
     return {FOLDER / 'mask.bin': mask(), FOLDER / 'script.bin': script(),
-            FOLDER / 'expected': ''.join(line + '\n' for line in lines).encode()}
+            FOLDER / 'expected': ''.join(line + '\n' for line in lines).encode(), FOLDER / 'forbidden.bin': forbidden,
+            FOLDER / 'forbidden': ''.join(line + '\n' for line in reference.checkmask(forbidden)).encode()}
 
 
 def main():

@@ -1,20 +1,16 @@
 // Text and numbers, written to standard output. Digits are upper-case hexadecimal.
+use mnemonic::letters::digit;
+
 pub fn put(text: &[u8]) {
     io::write_all(libc::STDOUT_FILENO, text);
 }
 
-// The last digit of a number.
-fn digit(x: u8) -> u8 {
-    let d = x % 16;
-    if d < 10 { b'0' + d } else { b'A' + (d - 10) }
-}
-
 pub fn put_digit(x: u8) {
-    let text = [digit(x)];
+    let text = [digit(x as u16)];
     put(&text);
 }
 
 pub fn put_byte(x: u8) {
-    let text = [digit(x / 16), digit(x)];
+    let text = [digit(x as u16 / 16), digit(x as u16)];
     put(&text);
 }

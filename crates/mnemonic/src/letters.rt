@@ -59,8 +59,8 @@ pub(crate) fn joined(front: [u8; 16], back: &[u8]) -> Text
     row(&front[..n], back)
 }
 
-// The last digit of a number.
-pub(crate) fn digit(x: u16) -> u8
+// The last digit of a number, upper-case hexadecimal.
+pub fn digit(x: u16) -> u8
     ensures { λ r. ⌜ r ≡ digit (x % 16) ⌝ }
 {
     let d = (x % 16) as u8;

@@ -1,6 +1,6 @@
 // An instruction as document 001 writes it.
 pub mod fronts;
-mod letters;
+pub mod letters;
 pub mod line;
 
 // A text: so many of the bytes, and zeros after it. The longest, MOV R1R0,0FFH, has 13.

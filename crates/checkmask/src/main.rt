@@ -1,0 +1,143 @@
+// `checkmask`: reads mask.bin and prints `passed`, or `fault F at AAA level L` and then a shortest way there, a line a pair: address, level, bytes
+// and instruction. A mask of another length, or none, gives `refused 1`. What it prints is decided by the proved functions of `checker` and
+// `mnemonic`; here a file is read and lines are written.
+ghost use Prim.Native.Nat.{_*_, _≤_};
+ghost use Rattle.io.specs.Counts.{Counts};
+use checker::check::Verdict;
+use checker::check::check;
+use checker::way::Listing;
+use checker::way::way;
+use isa::Instruction;
+use isa::decoder::Decoded;
+use isa::decoder::decode;
+use libc::STDOUT_FILENO;
+use mnemonic::letters::digit;
+use mnemonic::line::placed;
+use mnemonic::line::text_of;
+use rom::reader::byte_at;
+
+fn put(text: &[u8]) {
+    io::write_all(STDOUT_FILENO, text);
+}
+
+fn put_byte(x: u8) {
+    let text = [digit(x as u16 / 16), digit(x as u16)];
+    put(&text);
+}
+
+fn put_address(at: u16) {
+    let text = [digit(at / 256), digit(at / 16), digit(at)];
+    put(&text);
+}
+
+// Padded to the longest word.
+fn put_level(level: u8) {
+    match level {
+        0 => put(b" main       "),
+        1 => put(b" subroutine "),
+        _ => put(b" interrupt  "),
+    }
+}
+
+// As many bytes as the list of lengths has for the first one; one where it has none.
+fn put_bytes(first: u8, second: u8, length: u8) {
+    put_byte(first);
+    if length == 2 {
+        put(b" ");
+        put_byte(second);
+        put(b" ");
+    } else {
+        put(b"    ");
+    }
+}
+
+fn put_instruction(instruction: Instruction) {
+    let text = text_of(instruction);
+    let bytes = text.bytes;
+    let n = text.length;
+    put(&bytes[..n]);
+}
+
+// A line of the way, for a pair's three bytes.
+fn put_pair(mask: &[u8], low: u8, high: u8, level: u8) {
+    let address = (low as u16 + high as u16 * 256) % 4096;
+    put_address(address);
+    put_level(level);
+    let first = byte_at(mask, address);
+    let second = byte_at(mask, address + 1);
+    let length = rom::timing::length(first);
+    put_bytes(first, second, length);
+    match decode(first, second) {
+        Decoded::Read(instruction) => put_instruction(placed(
+            instruction,
+            (address + length as u16) % 4096,
+        )),
+        Decoded::Unreadable => put(b"cannot be read"),
+    }
+    put(b"\n");
+}
+
+fn put_pairs(mask: &[u8], list: &[u8; 36864], count: u16)
+    requires { ⌜ 3 * count ≤ 36864 ⌝ }
+{
+    let mut number: u16 = 0;
+    while number < count {
+        let at = number as usize * 3;
+        put_pair(mask, list[at], list[at + 1], list[at + 2]);
+        number += 1;
+    }
+}
+
+// The list holds a way through every pair, so a mask that fails always has one here.
+fn put_way(mask: &[u8]) {
+    let mut list = [0u8; 36864];
+    let listing = way(mask, &mut list);
+    match listing {
+        Listing::Listed(count) => put_pairs(mask, &list, count),
+        _ => {}
+    }
+}
+
+fn put_failed(fault: u8, address: u16, level: u8) {
+    put(b"fault ");
+    io::print_decimal(STDOUT_FILENO, fault as u64);
+    put(b" at ");
+    put_address(address);
+    put(b" level ");
+    io::print_decimal(STDOUT_FILENO, level as u64);
+    put(b"\n");
+}
+
+fn checkmask(mask: &[u8]) {
+    let mut marks = [0u8; 4096];
+    let verdict = check(mask, &mut marks);
+    match verdict {
+        Verdict::Passed => put(b"passed\n"),
+        Verdict::Failed(fault, address, level) => {
+            put_failed(fault, address, level);
+            put_way(mask);
+        }
+        Verdict::BadMask => put(b"refused 1\n"),
+        Verdict::BadMarks => put(b"refused 2\n"),
+    }
+}
+
+// How many bytes of a file, at most as many as the buffer has. A missing file counts as empty.
+fn read_file(path: &[u8], buf: &mut [u8]) -> usize
+    ensures { λ r. ⌜ Counts r (now (buf .exit)) ⌝ }
+{
+    let fd = os::open_read(path);
+    if fd < 0 {
+        return io::count(0, buf);
+    }
+    let n = io::read_full(fd, buf);
+    libc::close(fd);
+    n
+}
+
+// One byte more than a mask has is read, so that a longer file is refused.
+fn main() {
+    let mut mask = [0u8; 4097];
+    let n = read_file(b"mask.bin", &mut mask);
+    checkmask(&mask[..n]);
+}
