@@ -580,11 +580,16 @@ def checker(mask, marks=bytes(MASK)):
     marks = bytearray(MASK)
     for address, level in reached:      # '1 level 0, 2 level 1, 4 level 2, added'
         marks[address] += 1 << level
+    return bytes(marks), verdict(mask, reached)
+
+
+def verdict(mask, reached):
+    """'passed, or fault, address and level of the lowest forbidden marked pair'."""
     for address, level in sorted(reached):      # 'address first, then level'
         fault = fault_of(fetch(mask, address), level)
         if fault:
-            return bytes(marks), (fault, address, level)
-    return bytes(marks), 'passed'
+            return fault, address, level
+    return 'passed'
 
 
 # ---------------------------------------------------------------------------
@@ -597,7 +602,7 @@ def counts(mask):
     while layer:
         count += 1
         found.update((pair, count) for pair in layer)
-        layer = {after for pair in layer for after in successors(mask, *pair)} - found.keys()
+        layer = {after for pair in layer for after in successors(mask, *pair) if after not in found}
     return found
 
 
@@ -606,11 +611,11 @@ def way(mask, room):
     a shortest chain to the one that the checker named. 'Which of several is free'."""
     if len(mask) != MASK:
         return Refused(1)
-    verdict = checker(mask)[1]
-    if verdict == 'passed':
-        return Refused(10)
     count = counts(mask)
-    chain = [verdict[1:]]
+    answer = verdict(mask, count)
+    if answer == 'passed':
+        return Refused(10)
+    chain = [answer[1:]]
     if room < 3 * count[chain[0]]:
         return Refused(11)
     layers = {}
@@ -621,9 +626,8 @@ def way(mask, room):
     return chain[::-1]
 
 
-def wrong_way(mask, pairs):
-    """What is wrong with these pairs as a way to the forbidden place of a mask that fails; None if nothing."""
-    end = checker(mask)[1][1:]
+def wrong_way(mask, pairs, end, shortest):
+    """What is wrong with these pairs as a way to `end`, where a shortest has so many; None if nothing."""
     if pairs[:1] != [(0, 0)]:
         return 'it does not start at address 0, level 0'
     for before, after in zip(pairs, pairs[1:]):
@@ -631,7 +635,6 @@ def wrong_way(mask, pairs):
             return f'{after} is no successor of {before}'
     if pairs[-1] != end:
         return f'it does not end at {end}'
-    shortest = counts(mask)[end]
     return None if len(pairs) == shortest else f'it has {len(pairs)} pairs, a shortest has {shortest}'
 
 
@@ -652,18 +655,18 @@ def way_line(mask, address, level):
     return f'{address:03X} {LEVELS[level]:<10} {first:02X} {f"{second:02X}" if two else "  "} {text}'
 
 
-def verdict_line(verdict):
+def verdict_line(answer):
     """The first line that `checkmask` prints for a mask of 4,096 bytes."""
-    return verdict if verdict == 'passed' else f'fault {verdict[0]} at {verdict[1]:03X} level {verdict[2]}'
+    return answer if answer == 'passed' else f'fault {answer[0]} at {answer[1]:03X} level {answer[2]}'
 
 
 def checkmask(mask):
     """The lines of `checkmask`; the way is one of several that may be as short."""
     if len(mask) != MASK:
         return ['refused 1']
-    verdict = checker(mask)[1]
-    pairs = [] if verdict == 'passed' else way(mask, 3 * 3 * MASK)
-    return [verdict_line(verdict)] + [way_line(mask, *pair) for pair in pairs]
+    answer = checker(mask)[1]
+    pairs = [] if answer == 'passed' else way(mask, 3 * 3 * MASK)
+    return [verdict_line(answer)] + [way_line(mask, *pair) for pair in pairs]
 
 
 # ---------------------------------------------------------------------------

@@ -8,6 +8,8 @@ Build the programs first: rt check panel checker_main checkmask
 """
 
 import collections
+import itertools
+import multiprocessing
 import os
 import pathlib
 import random
@@ -504,44 +506,48 @@ def way_masks(rng):
             yield kind(rng)
 
 
-def compare_way(name, mask):
-    """The number of pairs of the way, 0 for a mask that passes."""
-    files = {'mask.bin': mask}
-    got, trouble = run_program([CHECKMASK], files)
-    verdict = reference.checker(mask)[1]
+def way_trouble(mask):
+    """What `checkmask` prints, what is wrong with it, and the number of pairs: 0 for a mask that passes."""
+    got, trouble = run_program([CHECKMASK], {'mask.bin': mask})
+    count = reference.counts(mask)
+    answer = reference.verdict(mask, count)
     first, *lines = got.decode('latin-1').split('\n')
     pairs = []
     for line in lines[:-1]:
         address, level, *_ = line.split()
         pairs.append((int(address, 16), reference.LEVELS.index(level)))
     why = [trouble] if trouble else []
-    if first != reference.verdict_line(verdict):
-        why.append(f'expected {reference.verdict_line(verdict)!r}, got {first!r}')
-    elif verdict == 'passed':
+    if first != reference.verdict_line(answer):
+        why.append(f'expected {reference.verdict_line(answer)!r}, got {first!r}')
+    elif answer == 'passed':
         why += [f'{len(pairs)} pairs for a mask that passes'] if pairs else []
     else:
-        wrong = reference.wrong_way(mask, pairs)
+        wrong = reference.wrong_way(mask, pairs, answer[1:], count[answer[1:]])
         why += [wrong] if wrong else []
     why += [f'line {number + 2} is {line!r}' for number, (pair, line) in enumerate(zip(pairs, lines))
             if line != reference.way_line(mask, *pair)][:1]
-    if why or lines[-1:] != ['']:
-        differs(name, files, got, why or ['the last line has no end'])
-    return len(pairs)
+    if lines[-1:] != ['']:
+        why.append('the last line has no end')
+    return got, why, len(pairs)
 
 
 def random_ways():
     """How many masks, and how many of them fail."""
-    lengths = []
-    for number, mask in enumerate(way_masks(random.Random(1132))):
-        lengths.append(compare_way(f'way, mask {number}', mask))
-        if sum(map(bool, lengths)) >= FAILING:
-            break
+    masks, lengths = way_masks(random.Random(1132)), []
+    with multiprocessing.Pool() as pool:
+        while sum(map(bool, lengths)) < FAILING:
+            batch = list(itertools.islice(masks, 200))
+            for mask, (got, why, pairs) in zip(batch, pool.map(way_trouble, batch, 10)):
+                if why:
+                    differs(f'way, mask {len(lengths)}', {'mask.bin': mask}, got, why)
+                lengths.append(pairs)
     for limit in (1, 10, 100, 1000, 4096, 8188):
-        if max(lengths) < limit:
+        if sum(length >= limit for length in lengths) < 1:
             stop(f'no way has {limit} pairs')
-    if len(lengths) - FAILING < 50:
+    failing = sum(map(bool, lengths))
+    if len(lengths) - failing < 50:
         stop('too few masks pass')
-    return len(lengths), FAILING
+    return len(lengths), failing
 
 
 def main():
