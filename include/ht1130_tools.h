@@ -6,9 +6,8 @@
  * beside libht1130.a or alone: neither archive needs the other. What ht1130.h
  * says of pointers and refusals holds here too.
  *
- * Stack. ht1130_check and ht1130_way take about 62 KB each (61,912 bytes at
- * most), the other calls under 4 KB. Of the C library only memcpy and memset are
- * used.
+ * Stack. ht1130_check and ht1130_way take about 62 KB each, the other calls under
+ * 4 KB. Of the C library only memcpy and memset are used.
  *
  * Refusals. The lowest number that holds is answered; of a script 1, then 6 or 7
  * of the first bad record, then 8, 3, 4, 9.
