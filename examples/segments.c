@@ -115,16 +115,29 @@ static void print_display(const ht1130_machine *machine)
     }
 }
 
+static void print_way(const uint8_t mask[HT1130_MASK])
+{
+    static uint8_t list[HT1130_WAY];
+    uint64_t answer = ht1130_way(mask, HT1130_MASK, list, sizeof list);
+    accepted("way", HT1130_REFUSAL(answer));
+    for (size_t pair = 0; pair < HT1130_COUNT(answer); pair++) {
+        const uint8_t *bytes = list + 3 * pair;
+        printf("%03X level %u\n", bytes[0] | (unsigned)bytes[1] << 8, bytes[2]);
+    }
+}
+
 static void print_verdict(const uint8_t mask[HT1130_MASK])
 {
     uint8_t marks[HT1130_MASK];
     uint64_t answer = ht1130_check(mask, HT1130_MASK, marks, sizeof marks);
     accepted("check", HT1130_REFUSAL(answer));
-    if (HT1130_FAULT(answer) == 0)
+    if (HT1130_FAULT(answer) == 0) {
         printf("mask passed\n");
-    else
-        printf("mask may fault with %u at %03X in level %u\n", HT1130_FAULT(answer),
-               (unsigned)HT1130_ADDRESS(answer), HT1130_LEVEL(answer));
+        return;
+    }
+    printf("mask may fault with %u at %03X in level %u, by this way:\n", HT1130_FAULT(answer),
+           (unsigned)HT1130_ADDRESS(answer), HT1130_LEVEL(answer));
+    print_way(mask);
 }
 
 static void expect(uint8_t refusal, uint8_t expected)
@@ -136,7 +149,7 @@ static void expect(uint8_t refusal, uint8_t expected)
     printf(" %u", refusal);
 }
 
-/* What each number looks like from here; nothing is written by any of these. */
+/* What the numbers 1 to 9 look like from here; nothing is written by any of these. */
 static void print_refusals(const ht1130_machine *machine, const uint8_t mask[HT1130_MASK])
 {
     static const uint8_t image[HT1130_IMAGE];

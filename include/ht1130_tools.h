@@ -6,8 +6,8 @@
  * beside libht1130.a or alone: neither archive needs the other. What ht1130.h
  * says of pointers and refusals holds here too.
  *
- * Stack. ht1130_check takes about 48 KB, the other calls under 4 KB. Of the C
- * library only memcpy and memset are used.
+ * Stack. ht1130_check and ht1130_way take about 62 KB each, the other calls under
+ * 4 KB. Of the C library only memcpy and memset are used.
  *
  * Refusals. The lowest number that holds is answered; of a script 1, then 6 or 7
  * of the first bad record, then 8, 3, 4, 9.
@@ -21,6 +21,8 @@
  *   7 unknown kind
  *   8 first record not power-on, or no record
  *   9 report buffer under HT1130_REPORT bytes for each record
+ *  10 the mask passes: there is no way to list
+ *  11 list under three bytes for each pair of the way
  */
 #ifndef HT1130_TOOLS_H
 #define HT1130_TOOLS_H
@@ -31,13 +33,14 @@
 extern "C" {
 #endif
 
-enum { HT1130_SCRIPT = 65535 };
+enum { HT1130_SCRIPT = 65535, HT1130_WAY = 36864 };
 
 /* The answers are a number of eight bytes, taken apart by these. */
 #define HT1130_REFUSAL(answer) ((uint8_t)(answer))             /* 0, or the refusal: then all else is 0 but the offset */
 #define HT1130_FAULT(answer) ((uint8_t)((answer) >> 8))        /* ht1130_check, ht1130_read */
 #define HT1130_LEVEL(answer) ((uint8_t)((answer) >> 16))       /* ht1130_check */
 #define HT1130_ADDRESS(answer) ((uint16_t)((answer) >> 32))    /* ht1130_check */
+#define HT1130_COUNT(answer) ((uint16_t)((answer) >> 32))      /* ht1130_way */
 #define HT1130_OFFSET(answer) ((uint16_t)((answer) >> 32))     /* ht1130_check_script, ht1130_run_script */
 
 /*
@@ -47,6 +50,17 @@ enum { HT1130_SCRIPT = 65535 };
  * and level of the lowest pair that may. Refuses with 1 or 2.
  */
 uint64_t ht1130_check(const uint8_t *mask, size_t mask_len, uint8_t *marks, size_t marks_len);
+
+/*
+ * Lists a way to the pair that ht1130_check names: a chain from address 0, level
+ * 0, each pair after the first a successor of the one before, the last the pair
+ * with the fault. No such chain has fewer pairs; which of several is free. Three
+ * bytes a pair from the first byte of `list` on: address, low byte first, then
+ * level. Bytes after the last pair stay. The answer has the count of pairs.
+ * Refuses with 1, 10 or 11, and then writes nothing; HT1130_WAY bytes, three for
+ * each of the 12,288 pairs, are never too few.
+ */
+uint64_t ht1130_way(const uint8_t *mask, size_t mask_len, uint8_t *list, size_t list_len);
 
 /*
  * Checks a whole script for a report buffer of `room` bytes; runs nothing. The

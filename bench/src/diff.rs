@@ -5,6 +5,7 @@ use crate::library::{self, number, packed, to_plain};
 use crate::plain::{self, Mask, IMAGE, MASK, REPORT};
 use crate::prng::Prng;
 use crate::{masks, script};
+use ht1130::WAY;
 use std::fmt::Debug;
 
 /// What differed, in words.
@@ -17,7 +18,7 @@ struct Sort {
     case: fn(&mut Prng, u64) -> Outcome,
 }
 
-const SORTS: [Sort; 12] = [
+const SORTS: [Sort; 13] = [
     Sort {
         name: "instructions read",
         cases: |_| 256,
@@ -42,6 +43,11 @@ const SORTS: [Sort; 12] = [
         name: "checks refused",
         cases: |n| n / 10,
         case: check_refused,
+    },
+    Sort {
+        name: "ways",
+        cases: |n| n,
+        case: ways,
     },
     Sort {
         name: "power-ons",
@@ -289,6 +295,92 @@ fn marks_of_both(mask: &[u8], length: usize) -> Outcome {
     same(what, library, packed::verdict(&plain))?;
     marks.same(what)?;
     same(|| "mask after its check".into(), &lent[..], mask)
+}
+
+/// Most of the masks fail: a passing one has no way.
+fn ways(prng: &mut Prng, case: u64) -> Outcome {
+    let given = case < masks::SPECIAL;
+    let mut mask = if given {
+        masks::special(case)
+    } else {
+        any_mask(prng)
+    };
+    let mut way = plain::way(&mask);
+    while way.is_err() && !given && !case.is_multiple_of(16) {
+        mask = any_mask(prng);
+        way = plain::way(&mask);
+    }
+    marks_by_distance(&mask)?;
+    let exact = 3 * way.unwrap_or(0) as usize;
+    let between = prng.below(exact as u64 + 1) as usize;
+    let longer = exact + 1 + prng.below(9) as usize;
+    for length in [0, between, exact.saturating_sub(1), exact, longer, WAY] {
+        way_of_both(&mask, length, way)?;
+    }
+    let more = [&mask[..], &mask[..1]].concat();
+    for wrong in [&mask[1..], &more, &mask_of_wrong_length(prng)] {
+        way_of_both(wrong, pick(prng, &[0, exact, WAY]), plain::way(wrong))?;
+    }
+    Ok(())
+}
+
+/// The plain engine's two rules for what comes next, against each other.
+fn marks_by_distance(mask: &Mask) -> Outcome {
+    let mut marks = [0; MASK];
+    let _ = plain::check(mask, &mut marks);
+    let distances = plain::distances(mask);
+    for (address, found) in distances.iter().enumerate() {
+        let reached = [0, 1, 2].map(|level| ((found[level] != 0) as u8) << level);
+        let (mark, reached) = (marks[address], reached.iter().sum::<u8>());
+        if mark != reached {
+            return Err(format!(
+                "plain alone: {address:03X} has mark {mark}, chains reach {reached}, mask {}",
+                hex(mask)
+            ));
+        }
+    }
+    Ok(())
+}
+
+fn way_of_both(mask: &[u8], length: usize, way: Result<u16, plain::Refusal>) -> Outcome {
+    let what = || format!("way in a list of {length} bytes of the mask {}", hex(mask));
+    let lent = mask.to_vec();
+    let mut list = Buffers::new(length);
+    let library = library::way(&lent, list.library());
+    let plain = plain::listed(way, length);
+    same(what, library, packed::way(&plain))?;
+    same(|| "mask after its way".into(), &lent[..], mask)?;
+    // Which of several ways is free, so the library's is tested, and then taken.
+    let bytes = 3 * plain.unwrap_or(0) as usize;
+    let listed = list.library()[..bytes].to_vec();
+    if bytes > 0 {
+        is_way(mask, &listed).map_err(|text| format!("{}: {text}\n  {}", what(), hex(&listed)))?;
+        list.plain()[..bytes].copy_from_slice(&listed);
+    }
+    list.same(what)
+}
+
+/// A chain from the start to the pair that the plain checker names.
+fn is_way(mask: &[u8], listed: &[u8]) -> Outcome {
+    let mask: &Mask = mask.try_into().map_err(|_| "no mask")?;
+    let pairs: Vec<plain::Pair> = listed
+        .chunks(3)
+        .map(|pair| (pair[0] as u16 | (pair[1] as u16) << 8, pair[2]))
+        .collect();
+    same(|| "first pair".into(), pairs.first(), Some(&(0, 0)))?;
+    for step in pairs.windows(2) {
+        let (from, to) = (step[0], step[1]);
+        if from.0 > 0xFFF || !plain::successors(mask, from).any(|next| next == to) {
+            return Err(format!("{to:X?} is no successor of {from:X?}"));
+        }
+    }
+    let named = plain::check(mask, &mut [0; MASK]).expect("buffers of the right length");
+    let named = named.map(|failure| (failure.address, failure.level));
+    same(|| "last pair".into(), pairs.last().copied(), named)?;
+    let safe: Vec<_> = ht1130::pairs(listed)
+        .map(|pair| (pair.address, pair.level))
+        .collect();
+    same(|| "pairs taken apart".into(), safe, pairs)
 }
 
 // Instructions

@@ -65,6 +65,11 @@ pub fn check(mask: &[u8], marks: &mut [u8]) -> u64 {
     unsafe { ffi::ht1130_check(mask.as_ptr(), mask.len(), marks.as_mut_ptr(), marks.len()) }
 }
 
+pub fn way(mask: &[u8], list: &mut [u8]) -> u64 {
+    // SAFETY: both slices are valid for the call and cannot overlap.
+    unsafe { ffi::ht1130_way(mask.as_ptr(), mask.len(), list.as_mut_ptr(), list.len()) }
+}
+
 pub fn check_script(mask: &[u8], script: &[u8], room: usize) -> u64 {
     // SAFETY: both slices are valid for the call.
     unsafe {
@@ -113,6 +118,13 @@ pub mod packed {
             Ok(Some(f)) => {
                 (f.fault as u64) << 8 | (f.level as u64) << 16 | (f.address as u64) << 32
             }
+        }
+    }
+
+    pub fn way(result: &Result<u16, Refusal>) -> u64 {
+        match result {
+            Err(refusal) => *refusal as u64,
+            Ok(count) => (*count as u64) << 32,
         }
     }
 

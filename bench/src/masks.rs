@@ -202,6 +202,24 @@ pub fn worst() -> Mask {
     mask
 }
 
+/// Fails in level 1 alone, after every address in level 0: CALL 000h at FFDh.
+pub fn long_way() -> Mask {
+    with(&[(0xFFD, &[0xF0, 0x00])])
+}
+
+/// Of two ways to the same place now the branch is the shorter, now to go on, and
+/// the longer one is found last: none but a search by distance finds all four.
+pub fn detours() -> Mask {
+    with(&[
+        (0x000, &[0xC2, 0x00]),             // JC 200h, else all the NOPs up to it
+        (0x200, &[0xE4, 0x00]),             // JMP 400h
+        (0x400, &[0xC5, 0x00, 0xE6, 0x00]), // JC 500h, and NOPs from there; JMP 600h
+        (0x600, &[0xC7, 0x00, 0xE7, 0x00]), // JC 700h; JMP 700h
+        (0x700, &[0xC7, 0x80, 0x35]),       // JC 780h; nothing that can be read
+        (0x780, &[0xE7, 0x02]),             // JMP 702h
+    ])
+}
+
 /// Hand-made masks and ones with an odd end, for the comparison.
 pub fn special(n: u64) -> Mask {
     match n {
@@ -226,22 +244,30 @@ pub fn special(n: u64) -> Mask {
             (4, &[0x2F]),
             (8, &[0x2F]),
         ]),
+        16 => long_way(),
+        17 => detours(),
         _ => [0xA1; MASK],
     }
 }
 
-pub const SPECIAL: u64 = 17;
+pub const SPECIAL: u64 = 19;
 
 #[cfg(test)]
 mod tests {
     use super::*;
-    use crate::plain::check;
+    use crate::plain::{check, way};
 
     #[test]
     fn worst_reaches_all_pairs() {
         let mut marks = [0; MASK];
         check(&worst(), &mut marks).unwrap();
         assert!(marks.iter().all(|&mark| mark == 7));
+    }
+
+    #[test]
+    fn ways_are_as_long_as_they_should_be() {
+        assert_eq!(way(&long_way()), Ok(2 * 0xFFE));
+        assert_eq!(way(&detours()), Ok(7));
     }
 
     #[test]

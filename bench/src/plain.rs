@@ -1041,6 +1041,71 @@ pub fn check(mask: &[u8], marks: &mut [u8]) -> Result<Option<Failure>, Refusal> 
     Ok(lowest)
 }
 
+/// An address with a level.
+pub type Pair = (u16, u8);
+
+/// The pairs that may come next. Said apart from `check`, so that each can be
+/// held to the other.
+pub fn successors(mask: &Mask, (address, level): Pair) -> impl Iterator<Item = Pair> {
+    let next = match decode(byte(mask, address), byte(mask, address + 1)) {
+        None => [None; 3],
+        Some(instruction) => {
+            let moved = (address + instruction.length as u16) & 0xFFF;
+            let target = instruction.b;
+            match (instruction.form, level) {
+                (form::BRANCH, _) => [
+                    Some((moved, level)),
+                    Some((moved & 0x800 | target, level)),
+                    None,
+                ],
+                (form::JMP, _) => [Some((target, level)), None, None],
+                (form::CALL, 0) => [Some((target, 1)), Some((moved, 0)), None],
+                (form::CALL | form::RET | form::RETI, _) => [None; 3],
+                (form::EI, _) => [Some((moved, level)), Some((4, 2)), Some((8, 2))],
+                _ => [Some((moved, level)), None, None],
+            }
+        }
+    };
+    next.into_iter().flatten()
+}
+
+/// For each address and level the pairs of a shortest chain from address 0,
+/// level 0; 0 where no chain leads.
+pub fn distances(mask: &Mask) -> Box<[[u16; 3]; MASK]> {
+    let mut distances = Box::new([[0; 3]; MASK]);
+    distances[0][0] = 1;
+    let mut rim = vec![(0, 0)];
+    let mut distance = 1;
+    while !rim.is_empty() {
+        distance += 1;
+        let mut wider = Vec::new();
+        for pair in rim.iter().flat_map(|&pair| successors(mask, pair)) {
+            let found = &mut distances[pair.0 as usize][pair.1 as usize];
+            if *found == 0 {
+                *found = distance;
+                wider.push(pair);
+            }
+        }
+        rim = wider;
+    }
+    distances
+}
+
+/// A shortest way to the pair that `check` names: its pairs.
+pub fn way(mask: &[u8]) -> Result<u16, Refusal> {
+    let named = check(mask, &mut [0; MASK])?.ok_or(10)?;
+    let mask: &Mask = mask.try_into().map_err(|_| 1)?;
+    Ok(distances(mask)[named.address as usize][named.level as usize])
+}
+
+/// The same for a list of `room` bytes.
+pub fn listed(way: Result<u16, Refusal>, room: usize) -> Result<u16, Refusal> {
+    match way {
+        Ok(count) if room < 3 * count as usize => Err(11),
+        _ => way,
+    }
+}
+
 #[cfg(test)]
 mod tests {
     use super::*;
@@ -1301,6 +1366,45 @@ mod tests {
         );
         check(&mask_at(0, &[0xE1, 0x00]), &mut marks).unwrap();
         assert_eq!((marks[4], marks[8]), (0, 0));
+    }
+
+    #[test]
+    fn successors_of_a_pair() {
+        let next = |at: usize, code: &[u8], level| {
+            successors(&mask_at(at, code), (at as u16, level)).collect::<Vec<_>>()
+        };
+        assert_eq!(next(0xFFF, &[0x3E], 1), [(0, 1)]);
+        assert_eq!(next(0x7FD, &[0xB0, 0x10], 2), [(0x7FF, 2), (0x10, 2)]);
+        assert_eq!(next(0x7FE, &[0xB0, 0x10], 2), [(0x800, 2), (0x810, 2)]);
+        assert_eq!(next(5, &[0xE1, 0x23], 1), [(0x123, 1)]);
+        assert_eq!(next(5, &[0xF1, 0x23], 0), [(0x123, 1), (7, 0)]);
+        assert_eq!(next(5, &[0x2C], 0), [(6, 0), (4, 2), (8, 2)]);
+        assert_eq!(next(5, &[0x2C], 1), [(6, 1), (4, 2), (8, 2)]);
+        let none: [(&[u8], u8); 7] = [
+            (&[0xF1, 0x23], 1),
+            (&[0xF1, 0x23], 2),
+            (&[0x2E], 0),
+            (&[0x2F], 0),
+            (&[0x2E], 1),
+            (&[0x2F], 2),
+            (&[0x35], 0),
+        ];
+        for (code, level) in none {
+            assert_eq!(next(5, code, level), [], "{code:X?} in level {level}");
+        }
+    }
+
+    #[test]
+    fn ways() {
+        let nops = [0x3E; MASK];
+        assert_eq!(listed(way(&nops[1..]), 0), Err(1));
+        assert_eq!(listed(way(&nops), 0), Err(10));
+        let fails = mask_at(3, &[0x35]);
+        assert_eq!(listed(way(&fails), 11), Err(11));
+        assert_eq!(listed(way(&fails), 12), Ok(4));
+        assert_eq!(way(&mask_at(0, &[0x35])), Ok(1));
+        // CALL 010h, then NOPs up to the CALL at 0, in level 1
+        assert_eq!(way(&mask_at(0, &[0xF0, 0x10])), Ok(4096 - 0x10 + 2));
     }
 
     #[test]

@@ -22,10 +22,7 @@ const OPTIONS: plain::Options = plain::Options {
 
 pub fn run() {
     println!("speed: least of {TURNS} turns; machines powered on and buffers cleared before each run, untimed");
-    println!(
-        "{:<44}{:>12}{:>12}{:>8}",
-        "", "plain ns", "library ns", "ratio"
-    );
+    heading("plain ns", "library ns");
     let runs = [
         ("arithmetic", masks::arithmetic()),
         ("memory copy", masks::copy()),
@@ -54,6 +51,16 @@ pub fn run() {
     });
     event_row("apply Run of 0 steps, a call", |_| (plain::RUN, [0; 3]));
     println!("aims: Run at most 3 times plain, the checker at most 2");
+    heading("check ns", "way ns");
+    for (name, mask) in &checked {
+        way_row(name, mask);
+    }
+    way_row("long way", &masks::long_way());
+    println!("aim: the way at most 2.5 times the check");
+}
+
+fn heading(one: &str, other: &str) {
+    println!("{:<44}{one:>12}{other:>12}{:>8}", "", "ratio");
 }
 
 /// Random bytes; most such masks reach a few pairs only and would measure the
@@ -76,19 +83,16 @@ fn pairs(mask: &Mask) -> u64 {
 fn row(
     name: &str,
     units: u64,
-    mut plain: impl FnMut() -> Duration,
-    mut library: impl FnMut() -> Duration,
+    mut one: impl FnMut() -> Duration,
+    mut other: impl FnMut() -> Duration,
 ) {
     let mut least = [Duration::MAX; 2];
     for _ in 0..TURNS {
-        least[0] = least[0].min(plain());
-        least[1] = least[1].min(library());
+        least[0] = least[0].min(one());
+        least[1] = least[1].min(other());
     }
-    let [plain, library] = least.map(|time| time.as_nanos() as f64 / units as f64);
-    println!(
-        "{name:<44}{plain:>12.3}{library:>12.3}{:>8.2}",
-        library / plain
-    );
+    let [one, other] = least.map(|time| time.as_nanos() as f64 / units as f64);
+    println!("{name:<44}{one:>12.3}{other:>12.3}{:>8.2}", other / one);
 }
 
 fn timed(work: impl FnOnce()) -> Duration {
@@ -172,6 +176,41 @@ fn check_row(name: &str, mask: &Mask) {
         "{name}: the verdicts differ"
     );
     assert_eq!(theirs, ours, "{name}: the marks differ");
+}
+
+/// Both calls are the library's: the way walks as the check does, then goes back.
+fn way_row(name: &str, mask: &Mask) {
+    const CALLS: u32 = 10;
+    let (mut marks, mut list) = ([0; MASK], [0; ht1130::WAY]);
+    let mut answer = 0;
+    let pairs = pairs(mask);
+    row(
+        &format!("way, {name}, a pair of {pairs}"),
+        pairs * CALLS as u64,
+        || {
+            (0..CALLS)
+                .map(|_| {
+                    marks.fill(0);
+                    timed(|| {
+                        library::check(black_box(mask), black_box(&mut marks));
+                    })
+                })
+                .sum()
+        },
+        || {
+            (0..CALLS)
+                .map(|_| {
+                    list.fill(0);
+                    timed(|| answer = library::way(black_box(mask), black_box(&mut list)))
+                })
+                .sum()
+        },
+    );
+    assert_eq!(
+        answer,
+        packed::way(&plain::way(mask)),
+        "{name}: the counts differ"
+    );
 }
 
 fn script_row() {

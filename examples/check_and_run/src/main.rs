@@ -1,9 +1,9 @@
-//! A host in Rust: it checks a mask, runs a script on it, and prints a line for
-//! each report.
+//! A host in Rust: it checks a mask, lists the way to a fault if there is one,
+//! runs a script, and prints a line for each report.
 //!
 //!     check_and_run MASK SCRIPT
 
-use ht1130::{Verdict, MASK, REPORT};
+use ht1130::{Pair, Verdict, MASK, REPORT, WAY};
 use std::error::Error;
 use std::process::ExitCode;
 
@@ -35,7 +35,8 @@ fn check_and_run(mask: &[u8], script: &[u8]) -> Result<(), Box<dyn Error>> {
             address,
             level,
         } => {
-            println!("mask may fault with {fault} at {address:03X} in level {level}")
+            println!("mask may fault with {fault} at {address:03X} in level {level}, by this way:");
+            print_way(mask)?;
         }
     }
     for level in 0..3 {
@@ -45,6 +46,15 @@ fn check_and_run(mask: &[u8], script: &[u8]) -> Result<(), Box<dyn Error>> {
 
     for report in ht1130::reports(mask, script)? {
         print_report(&report);
+    }
+    Ok(())
+}
+
+fn print_way(mask: &[u8]) -> Result<(), ht1130::Refusal> {
+    let mut list = [0; WAY];
+    let count = ht1130::way(mask, &mut list)?;
+    for Pair { address, level } in ht1130::pairs(&list[..3 * count]) {
+        println!("{address:03X} level {level}");
     }
     Ok(())
 }

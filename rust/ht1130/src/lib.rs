@@ -33,6 +33,9 @@ pub const IMAGE: usize = 166;
 pub const REPORT: usize = 48;
 /// The most bytes a script may have.
 pub const SCRIPT: usize = 65535;
+/// Bytes of a list that no [`way`] is too long for: three for each of the 12,288
+/// pairs.
+pub const WAY: usize = 36864;
 /// The timer rate that stands for the external clock.
 pub const EXTERNAL_CLOCK: u8 = 255;
 /// The sound channel that stands for off.
@@ -287,10 +290,14 @@ pub enum Refusal {
     NoPowerOn = 8,
     /// Less than [`REPORT`] bytes of report buffer for each record.
     ReportRoom = 9,
+    /// The mask passes, so that there is no way to list.
+    MaskPasses = 10,
+    /// Less than three bytes of list for each pair of the way.
+    ListLength = 11,
 }
 
 impl Refusal {
-    /// The number, 1 to 9.
+    /// The number, 1 to 11.
     pub const fn number(self) -> u8 {
         self as u8
     }
@@ -307,7 +314,9 @@ impl Refusal {
             7 => Refusal::Kind,
             8 => Refusal::NoPowerOn,
             9 => Refusal::ReportRoom,
-            _ => unreachable!("the library has refusals 1 to 9"),
+            10 => Refusal::MaskPasses,
+            11 => Refusal::ListLength,
+            _ => unreachable!("the library has refusals 1 to 11"),
         })
     }
 }
@@ -324,6 +333,8 @@ impl fmt::Display for Refusal {
             Refusal::Kind => "unknown kind of event",
             Refusal::NoPowerOn => "script does not start with power-on",
             Refusal::ReportRoom => "report buffer too short for the script",
+            Refusal::MaskPasses => "mask passes, so no way leads to a fault",
+            Refusal::ListLength => "list too short for the way",
         })
     }
 }
@@ -399,6 +410,15 @@ pub enum Verdict {
         /// The level it runs in.
         level: u8,
     },
+}
+
+/// An address with a level, as [`way`] lists them.
+#[derive(Clone, Copy, PartialEq, Eq, PartialOrd, Ord, Hash, Debug)]
+pub struct Pair {
+    /// The address of the instruction.
+    pub address: u16,
+    /// The level it runs in.
+    pub level: u8,
 }
 
 /// An instruction, by the numbers of [`form`].
@@ -500,6 +520,7 @@ pub mod ffi {
             marks: *mut u8,
             marks_len: usize,
         ) -> u64;
+        pub fn ht1130_way(mask: *const u8, mask_len: usize, list: *mut u8, list_len: usize) -> u64;
         pub fn ht1130_check_script(
             mask: *const u8,
             mask_len: usize,
@@ -529,7 +550,8 @@ fn part(answer: u64, n: u32) -> u8 {
     (answer >> (8 * n)) as u8
 }
 
-/// The high half of an answer begins with an address, an offset or a target.
+/// The high half of an answer begins with an address, an offset, a target or a
+/// count.
 fn high(answer: u64) -> u16 {
     (answer >> 32) as u16
 }
@@ -628,6 +650,46 @@ pub fn check(mask: &[u8], marks: &mut [u8]) -> Result<Verdict, Refusal> {
     })
 }
 
+/// Lists a way to the pair that [`check`] names, and returns its count of pairs:
+/// a chain from address 0, level 0, each pair after the first a successor of the
+/// one before, the last the pair with the fault. No such chain has fewer pairs;
+/// which of several is free. The list gets three bytes a pair, which [`pairs`]
+/// takes apart; bytes after the last pair stay. [`WAY`] bytes are never too few.
+///
+/// Refused: `MaskLength`, then `MaskPasses`, then `ListLength`.
+///
+/// ```
+/// use ht1130::{Pair, MASK, WAY};
+///
+/// let mut mask = [0x3E; MASK]; // NOP throughout
+/// mask[..2].copy_from_slice(&[0xF1, 0x23]); // CALL 123h
+/// mask[0x123..0x125].copy_from_slice(&[0xF0, 0x10]); // CALL 010h, in a subroutine
+///
+/// let mut list = [0; WAY];
+/// let count = ht1130::way(&mask, &mut list)?;
+/// let way: Vec<Pair> = ht1130::pairs(&list[..3 * count]).collect();
+/// assert_eq!(way[0], Pair { address: 0, level: 0 });
+/// assert_eq!(way[1], Pair { address: 0x123, level: 1 });
+/// # assert_eq!(way.len(), 2);
+/// # Ok::<(), ht1130::Refusal>(())
+/// ```
+pub fn way(mask: &[u8], list: &mut [u8]) -> Result<usize, Refusal> {
+    // SAFETY: both slices are valid for the call and cannot overlap.
+    let answer =
+        unsafe { ffi::ht1130_way(mask.as_ptr(), mask.len(), list.as_mut_ptr(), list.len()) };
+    accepted(part(answer, 0))?;
+    Ok(high(answer) as usize)
+}
+
+/// The pairs of a list of three bytes each: address, low byte first, then level.
+/// A rest of one or two bytes is left out.
+pub fn pairs(list: &[u8]) -> impl Iterator<Item = Pair> + '_ {
+    list.chunks_exact(3).map(|bytes| Pair {
+        address: u16::from_le_bytes([bytes[0], bytes[1]]),
+        level: bytes[2],
+    })
+}
+
 fn script_answer(answer: u64) -> Result<(), ScriptRefusal> {
     accepted(part(answer, 0)).map_err(|refusal| ScriptRefusal {
         refusal,
@@ -637,7 +699,7 @@ fn script_answer(answer: u64) -> Result<(), ScriptRefusal> {
 
 /// Checks a whole script for a report buffer of `room` bytes; runs nothing.
 ///
-/// Refused: all but `BufferLength` and `Machine`.
+/// Refused: all up to `ReportRoom` but `BufferLength` and `Machine`.
 pub fn check_script(mask: &[u8], script: &[u8], room: usize) -> Result<(), ScriptRefusal> {
     // SAFETY: both slices are valid for the call.
     script_answer(unsafe {

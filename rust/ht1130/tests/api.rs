@@ -1,7 +1,7 @@
 //! The safe functions, as a caller meets them.
 
-use ht1130::{branch, form, Event, Instruction, Machine, Options, Refusal, ScriptRefusal, Verdict};
-use ht1130::{EXTERNAL_CLOCK, IMAGE, MASK, REPORT, SOUND_OFF};
+use ht1130::{branch, form, Event, Instruction, Machine, Options, Pair, Refusal, ScriptRefusal};
+use ht1130::{Verdict, EXTERNAL_CLOCK, IMAGE, MASK, REPORT, SOUND_OFF, WAY};
 
 /// NOP but for what is given.
 fn mask(parts: &[(usize, &[u8])]) -> [u8; MASK] {
@@ -209,6 +209,104 @@ fn checks() {
             level: 0
         })
     );
+}
+
+/// Address and level of each pair.
+fn way(mask: &[u8]) -> Vec<(u16, u8)> {
+    let mut list = [0xA5; WAY];
+    let count = ht1130::way(mask, &mut list).unwrap();
+    ht1130::pairs(&list[..3 * count])
+        .map(|Pair { address, level }| (address, level))
+        .collect()
+}
+
+#[test]
+fn ways() {
+    // CALL 010h, and a CALL there
+    let nested = mask(&[(0, &[0xF0, 0x10]), (0x10, &[0xF0, 0x10])]);
+    assert_eq!(way(&nested), [(0, 0), (0x10, 1)]);
+    // The first instruction cannot be read
+    assert_eq!(way(&mask(&[(0, &[0x35])])), [(0, 0)]);
+    // JMP 3FFh; EI there; RETI at 4, and a CALL in the handler at 8
+    let handler = mask(&[
+        (0, &[0xE3, 0xFF]),
+        (4, &[0x2F]),
+        (8, &[0xF0, 0x10]),
+        (0x3FF, &[0x2C]),
+    ]);
+    assert_eq!(way(&handler), [(0, 0), (0x3FF, 0), (8, 2)]);
+    // Two places that cannot be read: the lower one is named, though it is farther
+    let lower = mask(&[(0, &[0xC0, 0x20]), (5, &[0x35]), (0x20, &[0x35])]);
+    assert_eq!(way(&lower), [(0, 0), (2, 0), (3, 0), (4, 0), (5, 0)]);
+    // Through every address in level 0, then again in level 1 to the same CALL
+    let long = way(&mask(&[(0xFFD, &[0xF0, 0x00])]));
+    let once = |level| (0..=0xFFD).map(move |address| (address, level));
+    assert!(long.into_iter().eq(once(0).chain(once(1))));
+}
+
+#[test]
+fn the_shorter_way_or_either() {
+    // JC 020h; else JMP 030h at 002h; from both on to 040h, which cannot be read
+    let unequal = mask(&[
+        (0, &[0xC0, 0x20, 0xE0, 0x30]),
+        (0x20, &[0xE0, 0x40]),
+        (0x30, &[0xE0, 0x40]),
+        (0x40, &[0x35]),
+    ]);
+    assert_eq!(way(&unequal), [(0, 0), (0x20, 0), (0x40, 0)]);
+    // The same, but JMP 040h at 002h
+    let equal = mask(&[
+        (0, &[0xC0, 0x20, 0xE0, 0x40]),
+        (0x20, &[0xE0, 0x40]),
+        (0x40, &[0x35]),
+    ]);
+    let found = way(&equal);
+    assert!(
+        found == [(0, 0), (0x20, 0), (0x40, 0)] || found == [(0, 0), (2, 0), (0x40, 0)],
+        "{found:X?}"
+    );
+}
+
+#[test]
+fn ways_refused() {
+    let passes = mask(&[]);
+    // CALL 010h, and a CALL there: two pairs
+    let fails = mask(&[(0, &[0xF0, 0x10]), (0x10, &[0xF0, 0x10])]);
+    let lent = |mask: &[u8], length: usize| {
+        let mut bytes = [0xA5; WAY + 20];
+        let answer = ht1130::way(mask, &mut bytes[10..10 + length]);
+        (answer, bytes)
+    };
+    // 1 before 10 before 11
+    for (mask, length, refusal) in [
+        (&passes[1..], 0, Refusal::MaskLength),
+        (&fails[1..], 5, Refusal::MaskLength),
+        (&fails[1..], WAY, Refusal::MaskLength),
+        (&passes[..], 0, Refusal::MaskPasses),
+        (&passes[..], WAY, Refusal::MaskPasses),
+        (&fails[..], 0, Refusal::ListLength),
+        (&fails[..], 1, Refusal::ListLength),
+        (&fails[..], 5, Refusal::ListLength),
+    ] {
+        let (answer, bytes) = lent(mask, length);
+        assert_eq!(answer, Err(refusal), "list of {length} bytes");
+        assert_eq!(bytes, [0xA5; WAY + 20], "{refusal:?} wrote something");
+    }
+    // Exactly long enough, and longer: what follows the way stays.
+    for length in [6, 7, 8, 9, WAY] {
+        let (answer, bytes) = lent(&fails, length);
+        let mut expected = [0xA5; WAY + 20];
+        expected[10..16].copy_from_slice(&[0, 0, 0, 0x10, 0, 1]);
+        assert_eq!((answer, bytes), (Ok(2), expected), "list of {length} bytes");
+    }
+    assert_eq!(
+        (
+            Refusal::MaskPasses.number(),
+            Refusal::ListLength.to_string()
+        ),
+        (10, "list too short for the way".into())
+    );
+    assert_eq!(Refusal::ListLength.number(), 11);
 }
 
 #[test]

@@ -85,7 +85,8 @@ fn c_and_rust_agree() {
 
 #[test]
 fn c_and_rust_number_alike() {
-    let mut body = String::from("#include <stdio.h>\n#include \"ht1130_tools.h\"\nint main(void) {\n");
+    let mut body =
+        String::from("#include <stdio.h>\n#include \"ht1130_tools.h\"\nint main(void) {\n");
     let mut expected = String::new();
     let kinds = [
         ("RUN", ht1130::RUN),
@@ -99,6 +100,7 @@ fn c_and_rust_number_alike() {
         ("IMAGE", IMAGE),
         ("REPORT", REPORT),
         ("SCRIPT", ht1130::SCRIPT),
+        ("WAY", ht1130::WAY),
     ];
     let numbers = kinds
         .into_iter()
