@@ -1,7 +1,7 @@
 -- `checker::way::put` meets its contract: three stores, the last byte's first. Assumes nothing.
-use Prim.Native.Nat.{_+_, _/_, _%_}
+use Prim.Native.Nat.{_/_, _%_}
 use native.Mathlib.Omega.{arith}
-use lib.ListN.{set, length-set}
+use lib.ListN.{length-set}
 use borrow.Author.Needs.{needs}
 use Rattle.checker.specs.Ways.{listed}
 use Rattle.checker.proofs.Back.{three-set}
@@ -9,12 +9,10 @@ use Rattle.checker.proofs.way.put.Statement.{statement}
 use Rattle.checker.proofs.way.put.Tie as tie
 
 slice-write-list-2 : tie.Need-slice-write-list-2
-slice-write-list-2 c = let a = c .args in omega (arith, length-set (a .list .now) (a .at + 2) (a .code % 3))
+slice-write-list-2 c = simp length-set (omega arith)
 
 slice-write-list-3 : tie.Need-slice-write-list-3
-slice-write-list-3 c =
-    let a = c .args in
-    omega (arith, length-set (a .list .now) (a .at + 2) (a .code % 3), length-set (set (a .list .now) (a .at + 2) (a .code % 3)) (a .at + 1) (a .code / 3 / 256))
+slice-write-list-3 c = simp length-set (omega arith)
 
 returns : tie.Need-returns
 unfolding listed
