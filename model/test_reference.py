@@ -443,6 +443,32 @@ def random_mask(rng):
                 (0x100, body([], '2E')), (0x200, body([], '2F')), (0x300, body([], '2E')))
 
 
+def test_ways():
+    calls = mask((0, 'F0 10 E0 02'), (0x10, '31 F1 23'))        # CALL 010h; at 010h INC A, CALL
+    chain = [(0, 0), (0x10, 1), (0x11, 1)]
+    same(ref.way(calls, 9), chain, 'a list that just fits')
+    same(ref.way(calls, 8), Refused(11), 'one byte short')
+    same(ref.way(mask(), 0), Refused(10), '10 before 11')
+    same(ref.way(bytes(4095), 0), Refused(1), '1 before 10 and 11')
+    same(ref.listed([(0x123, 0), (0xFFF, 2)]), bytes.fromhex('23 01 00 FF 0F 02'), 'three bytes a pair')
+    # A branch over 252 NOPs, and 255 pairs without it.
+    branch = mask((0, 'D9 00'), (0x100, '2E'))
+    same(ref.way(branch, 36864), [(0, 0), (0x100, 0)], 'the shorter way')
+    long = [(0, 0)] + [(at, 0) for at in range(2, 0x101)]
+    same(ref.wrong_way(branch, [(0, 0), (0x100, 0)], (0x100, 0), 2), None, 'a shortest way')
+    same(ref.wrong_way(branch, long, (0x100, 0), 2), 'it has 256 pairs, a shortest has 2', 'a longer way')
+    same(ref.wrong_way(branch, [(0, 0)], (0x100, 0), 2), 'it does not end at (256, 0)', 'the last pair missing')
+    same(ref.wrong_way(branch, [(0x100, 0)], (0x100, 0), 2), 'it does not start at address 0, level 0', 'the first pair missing')
+    same(ref.wrong_way(branch, [(0, 0), (0xFF, 0), (0x100, 0)], (0x100, 0), 2), '(255, 0) is no successor of (0, 0)', 'a step that is none')
+    # Both ways round a diamond have three pairs, and either will do.
+    diamond = mask((0, 'C0 10 E0 20'), (0x10, 'E0 40'), (0x20, 'E0 40'), (0x40, '2F'))
+    same(ref.counts(diamond)[(0x40, 0)], 3, 'over 010h')
+    same(len(ref.way(diamond, 36864)), 3, 'a way of three pairs')
+    through = mask((0xFFD, 'F0 00'))        # every address in level 0, then in level 1
+    same(len(ref.way(through, 36864)), 8188, 'the longest here')
+    same(ref.checkmask(calls)[1:], ['000 main       F0 10 CALL 010H', '010 subroutine 31    INC A', '011 subroutine F1 23 CALL 123H'], 'its lines')
+
+
 def test_event_lists():
     # Property 3: fault 0, and the pair of PC and level is one that the checker marked.
     rng = random.Random(1130)
