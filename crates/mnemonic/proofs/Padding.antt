@@ -1,4 +1,4 @@
--- A padded text, byte by byte: what a loop that writes one byte a turn needs. Assumes nothing.
+-- A padded text, byte by byte: what a loop that writes one byte a turn needs, and what a caller that cuts the text off needs. Assumes nothing.
 use Prim.Native.Nat.{ℕ, zero, suc, _+_, _<_, _≤_}
 use native.Mathlib.Nat.{not-suc-le-zero, le-of-suc-le-suc}
 use native.Mathlib.Numerals.{add-one}
@@ -6,7 +6,9 @@ use mathlib.Core.Path.{_≡_, refl, sym, ap, ap₂, _∙_}
 use mathlib.Core.List.{List, [], _∷_, _++_}
 use lib.ListN.{length, getD, take, set}
 use lib.Seq.{take-suc-set, take-suc, take-all}
-use Rattle.mnemonic.specs.Held.{padded}
+use native.Mathlib.Omega.{arith}
+use Rattle.mnemonic.specs.Held.{padded, Holds}
+use Rattle.mnemonic.specs.declared.Text.{Text}
 
 pub padded-length : (n : ℕ) (s : List ℕ) → length (padded n s) ≡ n
 padded-length zero s = refl
@@ -32,3 +34,7 @@ more n s l i x e h p q =
 -- all of them
 pub whole : (n : ℕ) (s l : List ℕ) (i : ℕ) → length l ≡ n → n ≤ i → take i l ≡ take i (padded n s) → l ≡ padded n s
 whole n s l i e h q = sym (take-all i l (rw e h)) ∙ q ∙ take-all i (padded n s) (rw (padded-length n s) h)
+
+-- a text ends inside its bytes, so that they can be cut off there
+pub inside : (r : Text) (s : List ℕ) → Holds r s → r .length ≤ length (r .bytes)
+inside r s h = omega (arith, h .fits, ap length (h .bytes), padded-length 16 s)

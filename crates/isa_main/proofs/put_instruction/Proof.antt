@@ -1,24 +1,19 @@
--- `isa_main::put_instruction` is safe: a text has at most 16 bytes. Assumes nothing.
+-- `isa_main::put_instruction` is safe: a text ends inside its bytes. Assumes nothing.
 use Prim.Native.Nat.{_≤_}
-use mathlib.Core.Path.{sym, ap}
-use native.Mathlib.Omega.{arith}
+use mathlib.Core.Path.{sym}
 use lib.ListN.{length}
 use lib.Seq.{length-take-le}
 use Rattle.mnemonic.specs.Line.{textOf}
-use Rattle.mnemonic.proofs.Padding.{padded-length}
+use Rattle.mnemonic.proofs.Padding.{inside}
 use borrow.Author.Needs.{needs}
 use Rattle.isa_main.proofs.put_instruction.Statement.{statement}
 use Rattle.isa_main.proofs.put_instruction.Tie as tie
 
 room : (c : tie.After-text-of) → c .text-of .result .length ≤ length (c .text-of .result .bytes)
-room c =
-    let e = c .text-of .ensures in
-    omega (arith, e .fits, ap length (e .bytes), padded-length 16 (textOf (c .before .args .instruction)))
+room c = inside (c .text-of .result) (textOf (c .before .args .instruction)) (c .text-of .ensures)
 
 slice-aggregate-put : tie.Need-slice-aggregate-put
-slice-aggregate-put c =
-    let text = c .before .before .text-of .result in
-    sym (length-take-le (text .length) (text .bytes) (room (c .before .before)))
+slice-aggregate-put c = let t = c .before .before in sym (length-take-le (t .text-of .result .length) (t .text-of .result .bytes) (room t))
 
 pub put-instruction-spec : {M : Type 1} → statement M
 put-instruction-spec =
