@@ -149,13 +149,15 @@ static void expect(uint8_t refusal, uint8_t expected)
     printf(" %u", refusal);
 }
 
-/* What the numbers 1 to 9 look like from here; nothing is written by any of these. */
+/* What the numbers 1 to 11 look like from here; nothing is written by any of these. */
 static void print_refusals(const ht1130_machine *machine, const uint8_t mask[HT1130_MASK])
 {
     static const uint8_t image[HT1130_IMAGE];
     static const uint8_t power[] = { 6, 0, 1, 0, 2, 4, 0, 0, 0, 0 };
     static const uint8_t cut_off[] = { 5, 0, 6 };
     static const uint8_t unknown[] = { 0, 0, 9, 0 };
+    static const uint8_t passing[HT1130_MASK];                     /* RR A throughout */
+    static const uint8_t failing[HT1130_MASK] = { 0xF0, 0x10 };    /* CALL 010H, then RR A: back to the CALL in level 1 */
     ht1130_machine copy = *machine;
     uint8_t reports[HT1130_REPORT];
 
@@ -170,6 +172,8 @@ static void print_refusals(const ht1130_machine *machine, const uint8_t mask[HT1
     expect(HT1130_REFUSAL(ht1130_run_script(mask, HT1130_MASK, unknown, sizeof unknown, reports, sizeof reports)), 7);
     expect(HT1130_REFUSAL(ht1130_run_script(mask, HT1130_MASK, power, 0, reports, sizeof reports)), 8);
     expect(HT1130_REFUSAL(ht1130_run_script(mask, HT1130_MASK, power, sizeof power, reports, sizeof reports - 1)), 9);
+    expect(HT1130_REFUSAL(ht1130_way(passing, HT1130_MASK, reports, sizeof reports)), 10);
+    expect(HT1130_REFUSAL(ht1130_way(failing, HT1130_MASK, reports, 2)), 11);
     putchar('\n');
 }
 

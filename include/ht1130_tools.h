@@ -1,6 +1,7 @@
 /*
- * ht1130_tools.h - the proved mask checker, scripts and instructions of the
- * HT1130, for C: what a bench links beside the engine of ht1130.h.
+ * ht1130_tools.h - the proved mask checker with the way to a forbidden place,
+ * scripts and instructions of the HT1130, for C: what a bench links beside the
+ * engine of ht1130.h.
  *
  * Link with libht1130_tools.a, which `rt staticlib ht1130_tools` writes (x86-64),
  * beside libht1130.a or alone: neither archive needs the other. What ht1130.h

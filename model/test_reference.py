@@ -451,7 +451,7 @@ def test_ways():
     same(ref.way(mask(), 0), Refused(10), '10 before 11')
     same(ref.way(bytes(4095), 0), Refused(1), '1 before 10 and 11')
     same(ref.listed([(0x123, 0), (0xFFF, 2)]), bytes.fromhex('23 01 00 FF 0F 02'), 'three bytes a pair')
-    # A branch over 252 NOPs, and 255 pairs without it.
+    # A branch over 254 NOPs, and 256 pairs without it.
     branch = mask((0, 'D9 00'), (0x100, '2E'))
     same(ref.way(branch, 36864), [(0, 0), (0x100, 0)], 'the shorter way')
     long = [(0, 0)] + [(at, 0) for at in range(2, 0x101)]

@@ -512,11 +512,12 @@ def way_trouble(mask):
     count = reference.counts(mask)
     answer = reference.verdict(mask, count)
     first, *lines = got.decode('latin-1').split('\n')
-    pairs = []
-    for line in lines[:-1]:
-        address, level, *_ = line.split()
-        pairs.append((int(address, 16), reference.LEVELS.index(level)))
     why = [trouble] if trouble else []
+    try:
+        fields = [line.split() for line in lines[:-1]]
+        pairs = [(int(address, 16), reference.LEVELS.index(level)) for address, level, *_ in fields]
+    except ValueError as error:
+        return got, why + [f'a line is no pair: {error}'], 0
     if first != reference.verdict_line(answer):
         why.append(f'expected {reference.verdict_line(answer)!r}, got {first!r}')
     elif answer == 'passed':

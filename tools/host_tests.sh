@@ -43,6 +43,8 @@ say "examples/segments.c"
 gcc -std=c11 -O2 -Wall -Wextra -Werror -I include -o "$work/segments" examples/segments.c "$HT1130_LIB_DIR/libht1130.a" "$HT1130_LIB_DIR/libht1130_tools.a"
 "$work/segments" > "$work/segments.out"
 diff examples/segments.out "$work/segments.out"
+"$work/segments" demo/forbidden.bin > "$work/segments_forbidden.out"    # a mask that fails: the way
+diff examples/segments_forbidden.out "$work/segments_forbidden.out"
 
 say "rust/ht1130"
 cargo_in rust/ht1130 test --offline --release --quiet
@@ -51,6 +53,8 @@ say "examples/check_and_run"
 cargo_in examples/check_and_run build --offline --release --quiet
 target/cargo/release/check_and_run demo/mask.bin demo/script.bin > "$work/check_and_run.out"
 diff examples/check_and_run.out "$work/check_and_run.out"
+target/cargo/release/check_and_run demo/forbidden.bin demo/script.bin > "$work/check_and_run_forbidden.out"
+diff examples/check_and_run_forbidden.out "$work/check_and_run_forbidden.out"
 
 say "bench: the plain engine's own tests, then the library against it"
 cargo_in bench test --offline --release --quiet

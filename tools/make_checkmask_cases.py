@@ -26,7 +26,7 @@ def cases():
     yield 'passed', assemble({0: [('JMP addr', 0x000)]}), ['passed'], 'a jump to itself passes'
     yield 'refused-missing', None, ['refused 1'], 'a missing file is a mask of another length'
     yield 'refused-empty', b'', ['refused 1'], 'an empty file'
-    yield 'refused-4095', bytes(4095), ['refused 1'], 'a byte too few, though the first ones would fail'
+    yield 'refused-4095', bytes([0x35]) * 4095, ['refused 1'], 'a byte too few, though the first one would fail'
     yield 'refused-4097', bytes([0x35]) * 4097, ['refused 1'], 'a byte too many'
     yield ('unreadable', assemble({}, fill=0x35),
            ['fault 1 at 000 level 0',
@@ -68,7 +68,7 @@ def cases():
     yield ('shorter-by-a-branch', assemble({0: [('JNZ R4,addr', 0x100)], 0x100: [('RET',)]}),
            ['fault 3 at 100 level 0',
             '000 main       D9 00 JNZ R4,100H',
-            '100 main       2E    RET'], 'a way of 255 pairs leads there too: depth first would list it')
+            '100 main       2E    RET'], 'a way of 256 pairs leads there too: depth first would list it')
     yield ('shorter-though-found-later', assemble({0: [('JZ A,addr', 0x040), ('JMP addr', 0x010)], 0x010: [('NOP',), ('NOP',), ('JMP addr', 0x080)],
                                                0x040: [('JMP addr', 0x050)], 0x050: [('JMP addr', 0x080)], 0x080: [('RETI',)]}),
            ['fault 3 at 080 level 0',

@@ -211,6 +211,7 @@ fn way_row(name: &str, mask: &Mask) {
         packed::way(&plain::way(mask)),
         "{name}: the counts differ"
     );
+    assert_eq!(answer as u8, 0, "{name}: the mask has a way");
 }
 
 fn script_row() {

@@ -13,7 +13,7 @@ use lib.Seq.{ext-getD}
 use borrow.Author.Tests.{eq-eqb, eqb-true, eqb-false, ltb-true, ltb-false}
 use Rattle.checker.specs.Marks.{addresses, levels, Pair, pair, fault, Reached}
 use Rattle.checker.specs.Verdicts.{Marked, rank, Lowest, Safe, Written, Answers, AnswersDetermine, numberOf}
-use Rattle.checker.specs.Walk.{pairs, pairOf, nextCodes, Found, markOf, Packed, Names, verdictOf}
+use Rattle.checker.specs.Walk.{pairs, nextCodes, Found, markOf, Packed, Names, verdictOf}
 use Rattle.checker.specs.declared.walk.Named.{Named}
 use Rattle.checker.specs.declared.check.Verdict.{Verdict}
 use Rattle.checker.specs.declared.check.Verdict.the-variants.{Passed, Failed, BadMask, BadMarks}

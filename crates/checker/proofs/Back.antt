@@ -1,15 +1,13 @@
 -- Going back by the places before, and listing from the end: a store of three bytes, the last first, puts them before what was there.
 -- Assumes nothing.
-use Prim.Native.Nat.{ℕ, zero, suc, _+_, _-_, _*_, _<_, _≤_}
+use Prim.Native.Nat.{ℕ, suc, _+_, _-_, _<_, _≤_}
 use native.Mathlib.Omega.{arith}
 use native.Mathlib.Decide.{decLe}
 use native.Mathlib.Numerals.{add-one}
-use mathlib.Core.Path.{_≡_, refl, sym, ap, subst, _∙_}
-use mathlib.Core.List.{List, [], _∷_, _++_}
-use lib.ListN.{length, getD, drop, take, set, length-set}
+use mathlib.Core.Path.{_≡_, refl, ap, subst, _∙_}
+use mathlib.Core.List.{List, _∷_}
+use lib.ListN.{length, drop, take, set, length-set}
 use lib.Seq.{set-split, drop-at, length-take-le}
-use Rattle.checker.specs.Walk.{pairOf}
-use Rattle.checker.specs.Ways.{listed}
 use Rattle.checker.specs.Trail.{Before, Counted, origin, onward, Up, climb}
 
 -- ---- counts

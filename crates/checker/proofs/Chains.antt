@@ -1,7 +1,7 @@
 -- Chains over any successor function, and what they reach. The start is reached, and so is each successor of what is reached, since a chain
 -- can be made longer at its end. What holds of the start and passes to successors holds of all that is reached, by induction along the
 -- chain. Where elements have codes, chains of elements are chains of their codes. Assumes nothing.
-use Prim.Native.Nat.{ℕ, suc, _≤_}
+use Prim.Native.Nat.{ℕ, suc}
 use native.Mathlib.Omega.{arith}
 use mathlib.Core.Path.{_≡_, refl, sym, ap, subst, _∙_}
 use mathlib.Core.List.{List, [], _∷_, map}

@@ -5,8 +5,8 @@
 use Prim.Native.Nat.{ℕ, zero, suc, _+_, _<_, _≤_}
 use native.Mathlib.Omega.{arith}
 use native.Mathlib.Decide.{decLt, decLe}
-use mathlib.Core.Path.{_≡_, refl, sym, ap, subst, _∙_}
-use mathlib.Core.List.{List, [], _∷_, map}
+use mathlib.Core.Path.{_≡_, sym, subst}
+use mathlib.Core.List.{List, map}
 use lib.ListN.{length, getD}
 use Rattle.checker.specs.Chains.{Member, Chain, one, more, Shortest}
 use Rattle.checker.specs.Trail.{StandsFirst, Trail, Before, Counted, origin, onward, Up, stay, climb}

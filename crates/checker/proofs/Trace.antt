@@ -1,15 +1,15 @@
 -- The walk with the start of each turn, on plain values, over any successor function on codes below n. What a turn finds goes to places from its
 -- start on, and its successors stand at its end. Assumes nothing.
-use Prim.Native.Nat.{ℕ, suc, _+_, _<_, _≤_}
+use Prim.Native.Nat.{ℕ, _+_, _<_, _≤_}
 use native.Mathlib.Omega.{arith}
-use native.Mathlib.Decide.{ℕ-discrete, decLt}
+use native.Mathlib.Decide.{ℕ-discrete}
 use mathlib.Core.Path.{_≡_, refl, sym, ap, subst, _∙_}
-use mathlib.Core.List.{List, [], _∷_}
+use mathlib.Core.List.{List}
 use lib.ListN.{length, getD, set, length-set}
 use lib.Seq.{getD-set-same, getD-set-other}
 use Rattle.checker.specs.Chains.{Member}
 use Rattle.checker.specs.Walk.{Small, Work, work, pushedAll, zeros}
-use Rattle.checker.specs.Trail.{Stands, Near, Trail}
+use Rattle.checker.specs.Trail.{Near, Trail}
 use Rattle.checker.proofs.Chains.{all-member}
 use Rattle.checker.proofs.Count.{after-set}
 use Rattle.checker.proofs.Turn.{Walking, Pushed, first, pushes, turn}
@@ -97,7 +97,7 @@ module _ (n : ℕ) (next : ℕ → List ℕ) where
             go : Dec (h ≡ head) → Near (v .queue) new (head + 1) (v .tail) h q
             go (yes e) =
                 let p = d .core .stands q (all-member (λ (k : ℕ). getD (v .seen) k 0 ≡ 1) (subst (λ (k : ℕ). Member q (next k)) (ap (λ (h : ℕ). getD (v .queue) h 0) e ∙ same head below) m) (d .all)) in
-                record { stands = record { at = p .at; below = p .below; holds = p .holds }; soon = λ i x y. absurd (omega arith) }
+                record { stands = p; soon = λ i x y. absurd (omega arith) }
             go (no f) =
                 let a : h < head = omega arith in
                 let p = t .trail .near h a q (subst (λ (k : ℕ). Member q (next k)) (same h (omega arith)) m) in

@@ -10,15 +10,14 @@ use mathlib.Core.List.{List, [], _∷_}
 use lib.ListN.{length, getD, set, length-set}
 use lib.Seq.{getD-set-same, getD-set-other}
 use Rattle.checker.specs.Chains.{Member, here, there, Reaches}
+use Rattle.checker.specs.Trail.{Stands}
 use Rattle.checker.specs.Walk.{All, Small, Work, work, pushed, pushedAll, zeros, Room, Found}
 use Rattle.checker.proofs.Chains.{all-member, all-of, reached-start, reached-next, reached-all}
 use Rattle.checker.proofs.Count.{zeros-set, after-set, found-also, push-cases, room-left, room-new}
 
 -- where a code stands in the queue
-pub record Place (w : Work) (k : ℕ) : Type 0 where
-  pub at : ℕ
-  pub below : at < w .tail
-  pub holds : getD (w .queue) at 0 ≡ k
+abbrev Place : Work → ℕ → Type 0
+Place w k = Stands (w .tail) (w .queue) k
 
 -- nothing found is lost
 pub record Grows (v w : Work) : Type 0 where

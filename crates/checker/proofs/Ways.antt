@@ -1,17 +1,16 @@
 -- From the queue to the answer: the way back from where the named pair's code first stands is a shortest chain of codes, so of pairs. And the
 -- answer is the only one: the named pair is, and shortest chains to it are as long. Assumes nothing.
-use Prim.Native.Nat.{ℕ, suc, _+_, _*_, _/_, _%_, _<_, _≤_}
+use Prim.Native.Nat.{ℕ, _/_, _%_, _<_}
 use native.Mathlib.Omega.{arith}
 use mathlib.Core.Path.{_≡_, refl, sym, ap, subst, _∙_}
-use mathlib.Core.List.{List, [], _∷_, _++_, map}
-use lib.ListN.{length, getD, drop}
-use Rattle.rom.specs.Fetching.{Bytes}
+use mathlib.Core.List.{List, map}
+use lib.ListN.{length, getD}
 use Rattle.checker.specs.Chains.{Chain, Shortest}
-use Rattle.checker.specs.Marks.{addresses, levels, Pair, pair, successors}
-use Rattle.checker.specs.Verdicts.{rank, Lowest, Safe}
+use Rattle.checker.specs.Marks.{levels, Pair, pair, successors}
+use Rattle.checker.specs.Verdicts.{rank, Safe}
 use Rattle.checker.specs.Walk.{pairs, pairOf, nextCodes, Found, Names}
-use Rattle.checker.specs.Ways.{Way, Lists, TooShort, WayAnswers, WayDetermines, WayFits, NeverTooShort}
-use Rattle.checker.specs.Trail.{Stands, StandsFirst, Traced, Counted, Up, stay, pairsAt, Ended, ListedTo}
+use Rattle.checker.specs.Ways.{Way, WayAnswers, WayDetermines, WayToVerdict, WayFits, NeverTooShort}
+use Rattle.checker.specs.Trail.{Stands, StandsFirst, Traced, Counted, Up, stay, pairsAt, ListedTo}
 use Rattle.checker.specs.declared.way.Listing.{Listing}
 use Rattle.checker.specs.declared.way.Listing.the-variants.{Listed, BadMask, MaskPasses, BadList}
 use Rattle.checker.specs.declared.walk.Named.{Named}
@@ -23,7 +22,7 @@ use Rattle.checker.proofs.Distance.{shortest}
 use Rattle.checker.proofs.Once.{few-of-shortest}
 
 -- ---- the answer
-module _ (mask seen queue starts : List ℕ) (s : Found pairs (nextCodes mask) seen) (t : Traced (nextCodes mask) seen queue starts) where
+module _ (mask seen queue starts : List ℕ) (s : Found pairs (nextCodes mask) seen) (t : Traced pairs (nextCodes mask) seen queue starts) where
   module _ (m : Named) (n : Names mask seen m) (h : m .code < pairs) where
     pub standing : Stands pairs queue (m .code)
     standing =
@@ -85,6 +84,12 @@ same-count mask c d v w =
       w .shortest .least c (subst (Chain (successors mask) (pair 0 0) c) p (v .shortest .links)),
     )
 
+pub way-to-verdict : WayToVerdict
+way-to-verdict mask old new f a l chain v w =
+    let e = same-pair mask (w .f) (w .a) (w .l) f a l (w .named) (v .1) in
+    let p : pair (w .a) (w .l) ≡ pair a l = rw (e .0, e .1) refl in
+    subst (Shortest (successors mask) (pair 0 0) chain) p (w .shortest)
+
 -- a mask with a way does not pass
 not-safe : (mask : List ℕ) (c : List Pair) → Way mask c → Safe mask → ⊥
 not-safe mask c v s = v .named .not-zero (sym (v .named .forbidden) ∙ s (pair (v .a) (v .l)) (v .named .reached))
@@ -95,19 +100,19 @@ way-determines mask old new other v w x y = go v w x y
     go : (v w : Listing) → WayAnswers mask old new v → WayAnswers mask old other w → v ≡ w
     go (Listed n) (Listed m) x y = ap Listed (x .counted ∙ same-count mask (x .chain) (y .chain) (x .way) (y .way) ∙ sym (y .counted))
     go (Listed n) BadMask x y = absurd (y .0 (x .mask-size))
-    go (Listed n) MaskPasses x y = absurd (not-safe mask (x .chain) (x .way) (y .1))
+    go (Listed n) MaskPasses x y = absurd (not-safe mask (x .chain) (x .way) (y .0 .1))
     go (Listed n) BadList x y = absurd (omega (arith, x .fits, x .counted, same-count mask (x .chain) (y .0 .chain) (x .way) (y .0 .way), y .0 .short))
     go BadMask (Listed m) x y = absurd (x .0 (y .mask-size))
     go BadMask BadMask x y = refl
-    go BadMask MaskPasses x y = absurd (x .0 (y .0))
+    go BadMask MaskPasses x y = absurd (x .0 (y .0 .0))
     go BadMask BadList x y = absurd (x .0 (y .0 .mask-size))
-    go MaskPasses (Listed m) x y = absurd (not-safe mask (y .chain) (y .way) (x .1))
-    go MaskPasses BadMask x y = absurd (y .0 (x .0))
+    go MaskPasses (Listed m) x y = absurd (not-safe mask (y .chain) (y .way) (x .0 .1))
+    go MaskPasses BadMask x y = absurd (y .0 (x .0 .0))
     go MaskPasses MaskPasses x y = refl
-    go MaskPasses BadList x y = absurd (not-safe mask (y .0 .chain) (y .0 .way) (x .1))
+    go MaskPasses BadList x y = absurd (not-safe mask (y .0 .chain) (y .0 .way) (x .0 .1))
     go BadList (Listed m) x y = absurd (omega (arith, y .fits, y .counted, same-count mask (x .0 .chain) (y .chain) (x .0 .way) (y .way), x .0 .short))
     go BadList BadMask x y = absurd (y .0 (x .0 .mask-size))
-    go BadList MaskPasses x y = absurd (not-safe mask (x .0 .chain) (x .0 .way) (y .1))
+    go BadList MaskPasses x y = absurd (not-safe mask (x .0 .chain) (x .0 .way) (y .0 .1))
     go BadList BadList x y = refl
 
 -- ---- the length that always does

@@ -1,12 +1,12 @@
 -- What the walk remembers, and the way back, as the private functions state it, over any successor function on codes. `starts` has for each
 -- place of the queue how many codes were found when its turn came. No promise of an exported function cites it. Assumes nothing.
-use Prim.Native.Nat.{ℕ, suc, _*_, _+_, _<_, _≤_}
+use Prim.Native.Nat.{ℕ, suc, _*_, _<_, _≤_}
 use mathlib.Core.Path.{_≡_}
 use mathlib.Core.List.{List, [], _∷_, _++_, map}
 use lib.ListN.{length, drop, getD}
 use Rattle.checker.specs.Chains.{Member}
 use Rattle.checker.specs.Marks.{Pair}
-use Rattle.checker.specs.Walk.{pairs, pairOf}
+use Rattle.checker.specs.Walk.{pairOf}
 use Rattle.checker.specs.Ways.{listed}
 use Rattle.checker.specs.declared.way.Listing.{Listing}
 use Rattle.checker.specs.declared.way.Listing.the-variants.{Listed, BadMask, MaskPasses, BadList}
@@ -39,10 +39,10 @@ pub record Trail (next : ℕ → List ℕ) (queue starts : List ℕ) (head tail 
   pub near : (h : ℕ) → h < head → (q : ℕ) → Member q (next (getD queue h 0)) → Near queue starts head tail h q
 
 -- what the walk leaves: each found code stands among the places that had their turn
-pub record Traced (next : ℕ → List ℕ) (seen queue starts : List ℕ) : Type 0 where
+pub record Traced (n : ℕ) (next : ℕ → List ℕ) (seen queue starts : List ℕ) : Type 0 where
   pub tail : ℕ
   pub some : 0 < tail
-  pub places : tail ≤ pairs
+  pub places : tail ≤ n
   pub stands : (k : ℕ) → getD seen k 0 ≡ 1 → Stands tail queue k
   pub trail : Trail next queue starts tail tail
 
@@ -72,12 +72,13 @@ pub record Listings (queue starts : List ℕ) (end count : ℕ) (old new : List 
   pub counted : count ≡ length places
   pub bytes : new ≡ listed (pairsAt queue places) ++ drop (3 * count) old
 
--- what is listed of the way to a code
+-- the first place of a code, and how many places there are to it
 pub record Ended (queue starts : List ℕ) (code count : ℕ) : Type 0 where
   pub end : ℕ
   pub first : StandsFirst queue code end
   pub counted : Counted starts end count
 
+-- the way to a code is listed, or the list is too short for it
 pub record ListsTo (queue starts : List ℕ) (code count : ℕ) (old new : List ℕ) : Type 0 where
   pub ended : Ended queue starts code count
   pub fits : 3 * count ≤ length old

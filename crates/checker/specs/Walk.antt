@@ -11,7 +11,7 @@ use Rattle.checker.specs.Chains.{Reaches}
 use Rattle.checker.specs.Marks.{addresses, levels, Pair, pair, fault, successors}
 use Rattle.checker.specs.Verdicts.{rank}
 use Rattle.checker.specs.declared.check.Verdict.{Verdict}
-use Rattle.checker.specs.declared.check.Verdict.the-variants.{Passed, Failed, BadMask, BadMarks}
+use Rattle.checker.specs.declared.check.Verdict.the-variants.{Passed, Failed}
 use Rattle.checker.specs.declared.next.Codes.{Codes}
 use Rattle.checker.specs.declared.next.Codes.the-variants.{Forbidden, Nothing, One, Two, Three}
 use Rattle.checker.specs.declared.walk.Named.{Named}

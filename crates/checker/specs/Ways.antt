@@ -2,12 +2,15 @@
 -- is held to a relation; the answer and the count are determined. Assumes nothing.
 use Prim.Native.Nat.{ℕ, _*_, _/_, _%_, _<_, _≤_}
 use mathlib.Core.Path.{_≡_}
+use mathlib.Core.Bool.{Bool, true, false}
 use mathlib.Core.List.{List, [], _∷_, _++_}
+use lib.Dec.{eqb}
 use lib.ListN.{length, drop}
 use Rattle.rom.specs.Fetching.{Bytes}
 use Rattle.checker.specs.Chains.{Shortest}
 use Rattle.checker.specs.Marks.{addresses, levels, Pair, pair, successors}
-use Rattle.checker.specs.Verdicts.{Lowest, Safe}
+use Rattle.checker.specs.Verdicts.{Lowest, Safe, Answers}
+use Rattle.checker.specs.declared.check.Verdict.the-variants.{Failed}
 use Rattle.checker.specs.declared.way.Listing.{Listing}
 use Rattle.checker.specs.declared.way.Listing.the-variants.{Listed, BadMask, MaskPasses, BadList}
 
@@ -40,14 +43,6 @@ pub record TooShort (mask old : List ℕ) : Type 0 where
   pub way : Way mask chain
   pub short : length old < 3 * length chain
 
--- what each answer says of the mask, and of the list at entry and at exit: "10 if the mask passes, after 1; 11 if the list is too short,
--- after 10", and then the list is as it was
-abbrev pub WayAnswers : List ℕ → List ℕ → List ℕ → Listing → Type 0
-WayAnswers mask old new (Listed n) = Lists mask old new n
-WayAnswers mask old new BadMask = (length mask ≡ 4096 → ⊥) × (new ≡ old)
-WayAnswers mask old new MaskPasses = (length mask ≡ 4096) × Safe mask × (new ≡ old)
-WayAnswers mask old new BadList = TooShort mask old × (new ≡ old)
-
 -- the paper's number of each answer, 0 for an answer that is not refused
 abbrev pub wayRefusal : Listing → ℕ
 wayRefusal (Listed n) = 0
@@ -55,10 +50,33 @@ wayRefusal BadMask = 1
 wayRefusal MaskPasses = 10
 wayRefusal BadList = 11
 
+abbrev either : Bool → Type 0 → Type 0 → Type 0
+either true P Q = P
+either false P Q = Q
+
+-- what each number says: document 01's "1: mask not 4,096 bytes"; "10 if the mask passes, after 1; 11 if the list is too short, after 10"
+abbrev pub WayRefused : List ℕ → List ℕ → ℕ → Type 0
+WayRefused mask old n =
+    either (eqb n 1) (length mask ≡ 4096 → ⊥) (either (eqb n 10) ((length mask ≡ 4096) × Safe mask) (either (eqb n 11) (TooShort mask old) ⊥))
+
+-- what each answer says of the mask, and of the list at entry and at exit; after a refusal the list is as it was. "Which of several is free": the
+-- bytes listed are those of some shortest chain
+abbrev pub WayAnswers : List ℕ → List ℕ → List ℕ → Listing → Type 0
+WayAnswers mask old new (Listed n) = Lists mask old new n
+WayAnswers mask old new BadMask = WayRefused mask old (wayRefusal BadMask) × (new ≡ old)
+WayAnswers mask old new MaskPasses = WayRefused mask old (wayRefusal MaskPasses) × (new ≡ old)
+WayAnswers mask old new BadList = WayRefused mask old (wayRefusal BadList) × (new ≡ old)
+
 -- the answer, its count with it, depends on the mask and the list at entry alone
 abbrev pub WayDetermines : Type 0
 WayDetermines =
     (mask old new other : List ℕ) (v w : Listing) → WayAnswers mask old new v → WayAnswers mask old other w → v ≡ w
+
+-- the way leads to the pair that the checker's verdict names
+abbrev pub WayToVerdict : Type 0
+WayToVerdict =
+    (mask old new : List ℕ) (f a l : ℕ) (chain : List Pair) → Answers mask old new (Failed f a l) → Way mask chain
+    → Shortest (successors mask) (pair 0 0) chain (pair a l)
 
 -- a shortest chain has each pair once, so at most 12,288 pairs; a list of three bytes for each is never too short
 abbrev pub WayFits : Type 0

@@ -86,7 +86,7 @@ pub(crate) fn walk(
 ) -> Named
     requires { ⌜ (now seen ≡ replicate pairs 0) × (now queue ≡ replicate pairs 0) × (now starts ≡ replicate pairs 0) ⌝ }
     ensures { λ r. ⌜ Found pairs (nextCodes (now (mask .entry))) (now (seen .exit)) ⌝ }
-    ensures { λ r. ⌜ Traced (nextCodes (now (mask .entry))) (now (seen .exit)) (now (queue .exit)) (now (starts .exit)) ⌝ }
+    ensures { λ r. ⌜ Traced pairs (nextCodes (now (mask .entry))) (now (seen .exit)) (now (queue .exit)) (now (starts .exit)) ⌝ }
     ensures { λ r. ⌜ Names (now (mask .entry)) (now (seen .exit)) r ⌝ }
 {
     let entries = list();

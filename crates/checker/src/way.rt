@@ -104,7 +104,7 @@ fn list_to(list: &mut [u8], queue: &[u16; 12288], starts: &[u16; 12288], code: u
     Listing::Listed(count)
 }
 
-// Lists a shortest chain from address 0, level 0 to the pair that `check` names, three bytes a pair.
+// Lists a shortest chain from address 0, level 0 to the pair that `check` names, three bytes a pair. Which of several is free.
 pub fn way(mask: &[u8], list: &mut [u8]) -> Listing
     ensures { λ r. ⌜ WayAnswers (now (mask .entry)) (now (list .entry)) (now (list .exit)) r ⌝ }
 {

@@ -4,7 +4,6 @@ use Prim.Native.Nat.{ℕ}
 use native.Mathlib.Omega.{arith}
 use mathlib.Core.Path.{_≡_, sym, ap, _∙_}
 use mathlib.Core.List.{List}
-use lib.ListN.{length}
 use Rattle.checker.specs.Verdicts.{Answers}
 use Rattle.checker.specs.declared.check.Verdict.{Verdict}
 use Rattle.checker.specs.declared.check.Verdict.the-variants.{Passed, Failed, BadMask, BadMarks}
@@ -14,7 +13,7 @@ use Rattle.checker.specs.declared.way.Listing.the-variants.{Listed, MaskPasses,
 use Rattle.checker.specs.declared.way.Listing.the-variants.{BadMask as NoMask}
 use Rattle.checker.proofs.Answer.{answers-determine}
 use Rattle.checker.proofs.Ways.{way-determines, never-too-short}
-use Rattle.ht1130_tools.specs.Numbers.{Checks, ChecksDetermine, verdictNumber, Ways, WaysDetermine, WayLengthDoes, wayNumber}
+use Rattle.ht1130_tools.specs.Numbers.{Checks, ChecksDetermine, verdictNumber, WaysDetermine, WayLengthDoes, wayNumber}
 
 pub passed : (mask old marks : List ℕ) → Checks mask old marks 0 → Answers mask old marks Passed
 passed mask old marks c = go (c .verdict) (c .answers) (c .number)

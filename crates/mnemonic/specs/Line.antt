@@ -1,6 +1,7 @@
 -- The text of each line of document 001's "Instruction Set Summary", in its order: words, signs and operand places. X is a nibble, XX a byte,
--- addr an address of three digits. Document 001's summary prints MOV R4,XXH, its definition MOV R4,XH: one nibble. Assumes nothing.
-use Prim.Native.Nat.{ℕ, _+_, _*_, _%_}
+-- addr an address of three digits; SOUND's n is a nibble. Document 001's summary prints MOV R4,XXH, its definition MOV R4,XH: one nibble.
+-- Assumes nothing.
+use Prim.Native.Nat.{ℕ, _+_, _*_}
 use mathlib.Core.List.{List, [], _∷_}
 use Rattle.isa.specs.declared.Pointer.the-variants.{R1R0, R3R2}
 use Rattle.isa.specs.declared.Port.the-variants.{Pm, Ps, Pp}

@@ -135,9 +135,9 @@ pub const MOV_TMRH_A: [u8; 16] = *b"MOV TMRH,A\0\0\0\0\0\0";
 // Table read
 pub const READ_R4A: [u8; 16] = *b"READ R4A\0\0\0\0\0\0\0\0";
 
-pub const READF_R4A: [u8; 16] = *b"READF R4A\0\0\0\0\0\0\0";
-
 pub const READ_MR0A: [u8; 16] = *b"READ MR0A\0\0\0\0\0\0\0";
+
+pub const READF_R4A: [u8; 16] = *b"READF R4A\0\0\0\0\0\0\0";
 
 pub const READF_MR0A: [u8; 16] = *b"READF MR0A\0\0\0\0\0\0";
 // Sound control

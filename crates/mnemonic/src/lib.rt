@@ -1,5 +1,5 @@
 // An instruction as document 001 writes it.
-pub mod fronts;
+mod fronts;
 pub mod letters;
 pub mod line;
 

@@ -1,6 +1,5 @@
 -- `checkmask::put_way` is safe: what is listed fits the list. Assumes nothing.
 use mathlib.Core.Path.{subst}
-use mathlib.Core.List.{List}
 use Prim.Native.Nat.{ℕ}
 use native.Mathlib.Omega.{arith}
 use lib.ListN.{length-replicate}

@@ -1,5 +1,5 @@
--- `checker::walk::walk` meets its contract. The loop's invariant is the walk's with the start of each turn, `Tracing`, and the lowest forbidden code so
--- far, `Naming`; the measure is how many places of the queue stand at the head and after it. Assumes nothing.
+-- `checker::walk::walk` meets its contract. The loop's invariant is the walk's with the start of each turn, `Tracing`, and the lowest forbidden
+-- code so far, `Naming`; the measure is how many places of the queue stand at the head and after it. Assumes nothing.
 use Prim.Native.Nat.{ℕ, _+_, _-_, _≤_}
 use mathlib.Core.Path.{_≡_, sym, ap, subst, _∙_}
 use mathlib.Core.List.{List}
@@ -7,7 +7,7 @@ use native.Mathlib.Omega.{arith}
 use borrow.Author.Needs.{needs}
 use lib.ListN.{length, getD, set, replicate, length-replicate}
 use Rattle.checker.specs.Trail.{Trail, Traced}
-use Rattle.checker.specs.Walk.{Work, work, pushedAll, Small, Found, Names, pairs, nextCodes, faultAt, zeros}
+use Rattle.checker.specs.Walk.{work, pushedAll, Small, Found, Names, pairs, nextCodes, faultAt, zeros}
 use Rattle.checker.specs.declared.walk.Named.{Named}
 use Rattle.checker.proofs.Count.{zeros-replicate, getD-zeros}
 use Rattle.checker.proofs.Reach.{codes-small}
@@ -50,14 +50,14 @@ module _ (mask s q b : List ℕ) (head tail : ℕ) (named : Named) (small : (k :
   all-found : Found pairs (nextCodes mask) s
   all-found = found pairs (nextCodes mask) (omega arith) small (work s q tail) head (t .walking) h
 
-  traced : Traced (nextCodes mask) s q b
+  traced : Traced pairs (nextCodes mask) s q b
   traced =
       let e : head ≡ tail = omega (arith, t .walking .before) in
       record {
         tail = tail;
         some = omega (arith, t .walking .core .stands 0 (t .walking .start) .below);
         places = omega (arith, t .walking .core .room .left);
-        stands = λ k f. let p = t .walking .core .stands k f in record { at = p .at; below = p .below; holds = p .holds };
+        stands = t .walking .core .stands;
         trail = subst (λ (head : ℕ). Trail (nextCodes mask) q b head tail) e (t .trail);
       }
 
@@ -101,7 +101,7 @@ push-all-requires : tie.Need-push-all-requires Inv-loop μ-loop
 push-all-requires c κs =
     let l = c .before .before .before .before .before .before .before in
     let mask = l .before .before .before .args .mask .now in
-    let small = codes-small mask (λ k. omega (arith, l .before .before .shared-slice-known .given k)) (getD (l .loop .queue) (l .loop .head) 0) in
+    let small = codes-small mask (λ k. omega (arith, l .before .before .shared-slice-known .given k)) _ in
     (subst (Small pairs) (sym (c .before .before .before .next-codes .ensures .0)) small, l .loop .inv .0 .walking .core .room)
 
 add-head : tie.Need-add-head Inv-loop μ-loop

@@ -1,9 +1,8 @@
 -- `checker::way::count_to` meets its contract. The loop's invariant: however many places there are to `place`, there are `count - 1` more to
 -- the end. Assumes nothing.
 use Prim.Native.Nat.{ℕ, suc, _+_, _-_, _≤_, _<_}
-use mathlib.Core.Path.{_≡_, sym, subst}
+use mathlib.Core.Path.{_≡_, subst}
 use native.Mathlib.Omega.{arith}
-use Rattle.checker.specs.Walk.{pairs}
 use Rattle.checker.specs.Trail.{Counted, origin, onward}
 use Rattle.checker.proofs.way.count_to.Statement.{statement}
 use Rattle.checker.proofs.way.count_to.Tie as tie

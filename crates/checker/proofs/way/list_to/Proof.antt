@@ -1,8 +1,7 @@
 -- `checker::way::list_to` meets its contract: the place of the code, its count, and the pairs up to it. Assumes nothing.
-use Prim.Native.Nat.{ℕ, _*_, _<_, _≤_}
-use mathlib.Core.Path.{_≡_, refl, ap}
+use mathlib.Core.Path.{refl}
 use native.Mathlib.Omega.{arith}
-use lib.ListN.{length}
+use Rattle.checker.specs.Trail.{ShortOf}
 use borrow.Author.Needs.{needs}
 use Rattle.checker.proofs.way.list_to.Statement.{statement}
 use Rattle.checker.proofs.way.list_to.Tie as tie
@@ -10,11 +9,17 @@ use Rattle.checker.proofs.way.list_to.Tie as tie
 count-to-requires : tie.Need-count-to-requires
 count-to-requires c κs = (c .place-of .ensures .0, c .before .before .pre .1)
 
-returns : tie.Need-returns
-returns c =
+-- a list that is too short for the way
+short-of : (c : tie.Then1) → let a = c .before .before .before .before .args in ShortOf (a .queue .now) (a .starts .now) (a .code) (a .list .now)
+short-of c =
     let p = c .before .before .place-of in
     let n = c .before .count-to in
-    (record { count = n .result; ended = record { end = p .result; first = p .ensures .1; counted = n .ensures .1 }; short = omega (arith, c .if1 .taken) }, refl)
+    record { count = n .result; ended = record { end = p .result; first = p .ensures .1; counted = n .ensures .1 }; short = omega (arith, c .if1 .taken) }
+
+returns : tie.Need-returns
+returns c =
+    let short = c in
+    (short-of short, refl)
 
 put-all-requires : tie.Need-put-all-requires
 put-all-requires c κs =

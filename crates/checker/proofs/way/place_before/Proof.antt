@@ -1,13 +1,11 @@
 -- `checker::way::place_before` meets its contract. The loop's invariant: each turn between `at` and the place started after the place. The first
 -- turn did not, so the loop ends there at the latest. Assumes nothing.
-use Prim.Native.Nat.{ℕ, suc, _+_, _-_, _≤_, _<_}
+use Prim.Native.Nat.{ℕ, _-_, _≤_, _<_}
 use mathlib.Core.Path.{_≡_, sym, subst}
 use native.Mathlib.Omega.{arith}
 use native.Mathlib.Decide.{ℕ-discrete, decLt}
 use mathlib.Core.List.{List}
 use lib.ListN.{getD}
-use Rattle.checker.specs.Walk.{pairs}
-use Rattle.checker.specs.Trail.{Before}
 use Rattle.checker.proofs.way.place_before.Statement.{statement}
 use Rattle.checker.proofs.way.place_before.Tie as tie
 

@@ -1,13 +1,12 @@
 -- `checker::way::place_of` meets its contract. The loop's invariant: the code stands at no place before `place`. At the last place it must stand.
 -- Assumes nothing.
-use Prim.Native.Nat.{ℕ, _+_, _-_, _≤_, _<_}
-use mathlib.Core.Path.{_≡_, sym, ap, subst, _∙_}
+use Prim.Native.Nat.{ℕ, _-_, _≤_, _<_}
+use mathlib.Core.Path.{_≡_, subst}
 use native.Mathlib.Omega.{arith}
 use native.Mathlib.Decide.{decLe}
 use lib.ListN.{getD}
 use borrow.Author.Count.{below-more}
 use Rattle.checker.specs.Walk.{pairs}
-use Rattle.checker.specs.Trail.{Stands, StandsFirst}
 use Rattle.checker.proofs.way.place_of.Statement.{statement}
 use Rattle.checker.proofs.way.place_of.Tie as tie
 

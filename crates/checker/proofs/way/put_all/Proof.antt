@@ -1,13 +1,12 @@
 -- `checker::way::put_all` meets its contract. The loop's invariant: from `left` on stand the pairs of the places from `place` to the end, and
 -- what was after them; as many as `place` counts, less one, are not listed yet. Assumes nothing.
-use Prim.Native.Nat.{ℕ, suc, _+_, _-_, _*_, _≤_, _<_}
+use Prim.Native.Nat.{ℕ, _+_, _-_, _*_, _≤_, _<_}
 use mathlib.Core.Path.{_≡_, refl, sym, ap, subst, _∙_}
 use mathlib.Core.List.{List, [], _∷_, _++_}
 use native.Mathlib.Omega.{arith}
 use lib.ListN.{length, getD, drop}
 use lib.Seq.{drop-drop}
-use borrow.Author.Needs.{needs}
-use Rattle.checker.specs.Walk.{pairs, pairOf}
+use Rattle.checker.specs.Walk.{pairOf}
 use Rattle.checker.specs.Ways.{listed}
 use Rattle.checker.specs.Trail.{Counted, Up, stay, climb, pairsAt, Before, Listings}
 use Rattle.checker.proofs.Back.{counted-some, counted-origin, counted-back}

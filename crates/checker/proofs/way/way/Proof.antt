@@ -27,7 +27,7 @@ returns-3 : tie.Need-returns-3
 returns-3 c =
     let w = c .before .before .walk in
     let a = c .before .before .before .before .before .before .before .before .before .args in
-    (c .before .before .before .before .before .before .if1 .left, safe (a .mask .now) (w .last .1 .0) (w .ensures .0) (w .result) (w .ensures .1 .1) (c .if2 .left), refl)
+    ((c .before .before .before .before .before .before .if1 .left, safe (a .mask .now) (w .last .1 .0) (w .ensures .0) (w .result) (w .ensures .1 .1) (c .if2 .left)), refl)
 
 pub way-spec : {M : Type 1} → statement M
 way-spec =

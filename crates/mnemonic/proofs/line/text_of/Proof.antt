@@ -1,5 +1,4 @@
 -- `mnemonic::line::text_of` meets its contract: an arm knows the instruction, at which the line computes. Assumes nothing.
-use Prim.Native.Nat.{ℕ}
 use mathlib.Core.Path.{_≡_, sym, subst, ap, _∙_}
 use Rattle.isa.specs.declared.Pointer.{Pointer}
 use Rattle.isa.specs.declared.Instruction.{Instruction}
