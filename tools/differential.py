@@ -13,6 +13,7 @@ import multiprocessing
 import os
 import pathlib
 import random
+import re
 import shutil
 import subprocess
 import sys
@@ -532,9 +533,14 @@ def way_trouble(mask):
     return got, why, len(pairs)
 
 
+# How many ways must have so many pairs, and how many must end with each fault and in each level.
+LONG = {2: 1500, 10: 1000, 100: 500, 1000: 200, 4096: 10}
+ENDS = 50
+
+
 def random_ways():
     """How many masks, and how many of them fail."""
-    masks, lengths = way_masks(random.Random(1132)), []
+    masks, lengths, ends = way_masks(random.Random(1132)), [], collections.Counter()
     with multiprocessing.Pool() as pool:
         while sum(map(bool, lengths)) < FAILING:
             batch = list(itertools.islice(masks, 200))
@@ -542,13 +548,12 @@ def random_ways():
                 if why:
                     differs(f'way, mask {len(lengths)}', {'mask.bin': mask}, got, why)
                 lengths.append(pairs)
-    for limit in (1, 10, 100, 1000, 4096, 8188):
-        if sum(length >= limit for length in lengths) < 1:
-            stop(f'no way has {limit} pairs')
-    failing = sum(map(bool, lengths))
-    if len(lengths) - failing < 50:
-        stop('too few masks pass')
-    return len(lengths), failing
+                ends.update(re.findall(rb'fault \d|level \d|passed', got.partition(b'\n')[0]))
+    few = [f'ways of {pairs} pairs' for pairs, many in LONG.items() if sum(length >= pairs for length in lengths) < many]
+    few += [end.decode() for end in (b'fault 1', b'fault 2', b'fault 3', b'level 0', b'level 1', b'level 2', b'passed') if ends[end] < ENDS]
+    if few:
+        stop(f'the masks meet too few of: {", ".join(few)}')
+    return len(lengths), sum(map(bool, lengths))
 
 
 def main():

@@ -19,7 +19,6 @@ module _ (n : ℕ) (next : ℕ → List ℕ) where
     pub walking : Walking n next w head
     pub size : length starts ≡ n
     pub alone : head ≡ 0 → w .tail ≡ 1
-    pub room : (h : ℕ) → h < head → getD starts h 0 ≤ w .tail
     pub trail : Trail next (w .queue) starts head (w .tail)
 
   module _ (some : 0 < n) where
@@ -30,13 +29,11 @@ module _ (n : ℕ) (next : ℕ → List ℕ) where
           walking = first n next some s q ls z es lq eq;
           size = lb;
           alone = λ e. refl;
-          room = λ h l. absurd (omega arith);
           trail =
               record {
                 start = eq 0;
                 opens = omega (arith, eb 0);
                 later = λ h l. absurd (omega arith);
-                rises = λ h i l m. absurd (omega arith);
                 linked = λ h j l. absurd (omega arith);
                 near = λ h l. absurd (omega arith);
               };
@@ -69,12 +66,6 @@ module _ (n : ℕ) (next : ℕ → List ℕ) where
 
         opens : getD new 0 0 ≤ 1
         opens = by-turn (λ (x : ℕ). x ≤ 1) 0 (omega arith) (λ l. t .trail .opens) (λ e. omega (arith, t .alone (sym e)))
-
-        rises : (h i : ℕ) → h ≤ i → i < head + 1 → getD new h 0 ≤ getD new i 0
-        rises h i l m =
-            by-turn (λ (x : ℕ). getD new h 0 ≤ x) i m
-            (λ k. omega (arith, kept h (omega arith), t .trail .rises h i l k))
-            (λ e. by-turn (λ (x : ℕ). x ≤ w .tail) h (omega arith) (t .room h) (λ f. omega arith))
 
         linked : (h j : ℕ) → h < head + 1 → j < v .tail → getD new h 0 ≤ j → ((i : ℕ) → h < i → i < head + 1 → j < getD new i 0)
             → Member (getD (v .queue) j 0) (next (getD (v .queue) h 0))
@@ -114,7 +105,6 @@ module _ (n : ℕ) (next : ℕ → List ℕ) where
               start = same 0 (omega arith) ∙ t .trail .start;
               opens = opens;
               later = λ h l. by-turn (λ (x : ℕ). h < x) h l (t .trail .later h) (λ e. omega arith);
-              rises = rises;
               linked = linked;
               near = near;
             }
@@ -127,7 +117,6 @@ module _ (n : ℕ) (next : ℕ → List ℕ) where
             walking = subst (λ (v : Work). Walking n next v (head + 1)) (sym e) (turn n next some small w head (t .walking) l);
             size = length-set b head (w .tail) ∙ t .size;
             alone = λ z. absurd (omega arith);
-            room = λ h m. by-turn w v b head t l d (λ (x : ℕ). x ≤ v .tail) h m (λ k. omega (arith, t .room h k, d .grows .tail)) (λ f. d .grows .tail);
             trail = traced w v b head t l d;
           }
 

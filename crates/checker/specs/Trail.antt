@@ -27,13 +27,12 @@ pub record Near (queue starts : List ℕ) (head tail h code : ℕ) : Type 0 wher
   pub stands : Stands tail queue code
   pub soon : (i : ℕ) → h < i → i < head → stands .at < getD starts i 0
 
--- the queue is in the order of distance: a turn comes after all that stands before it, later turns start later, and what was found in a turn
--- are successors
+-- the queue is in the order of distance: what was found in a turn stands after the turn's own place and is a successor, and each successor was
+-- found in the turn or before it
 pub record Trail (next : ℕ → List ℕ) (queue starts : List ℕ) (head tail : ℕ) : Type 0 where
   pub start : getD queue 0 0 ≡ 0
   pub opens : getD starts 0 0 ≤ 1
   pub later : (h : ℕ) → h < head → h < getD starts h 0
-  pub rises : (h i : ℕ) → h ≤ i → i < head → getD starts h 0 ≤ getD starts i 0
   pub linked : (h j : ℕ) → h < head → j < tail → getD starts h 0 ≤ j → ((i : ℕ) → h < i → i < head → j < getD starts i 0)
       → Member (getD queue j 0) (next (getD queue h 0))
   pub near : (h : ℕ) → h < head → (q : ℕ) → Member q (next (getD queue h 0)) → Near queue starts head tail h q
@@ -62,6 +61,7 @@ pub data Up (starts : List ℕ) : ℕ → List ℕ → ℕ → Type 0 where
   stay : {k : ℕ} → Up starts k (k ∷ []) k
   climb : {i j k : ℕ} {js : List ℕ} → Before starts i j → Up starts j js k → Up starts i (i ∷ js) k
 
+-- the pairs at places of the queue
 abbrev pub pairsAt : List ℕ → List ℕ → List Pair
 pairsAt queue js = map pairOf (map (λ (j : ℕ). getD queue j 0) js)
 
