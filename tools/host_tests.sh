@@ -1,6 +1,6 @@
 #!/usr/bin/env bash
-# Tests both libraries from C and Rust: header, record layout, examples, and
-# a comparison with a plain engine. Needs libht1130.a and libht1130_tools.a, in
+# Tests both libraries from C and Rust: header, record layout, what the archives
+# hold, examples, and a comparison with a plain engine. Needs libht1130.a and libht1130_tools.a, in
 # target/staticlib or in HT1130_LIB_DIR (from the top of the repository, or
 # absolute).
 set -euo pipefail
@@ -38,6 +38,24 @@ for name in ht1130 ht1130_tools; do
     # of the C library only these two
     nm -u "$HT1130_LIB_DIR/lib$name.a" | awk '$1 == "U" && $2 != "memcpy" && $2 != "memset" { print; bad = 1 } END { exit bad }'
 done
+
+say "archives: no list of lengths and cycles, in a section or on the stack of a call"
+python3 tools/find_list.py --forms
+for name in ht1130 ht1130_tools; do
+    python3 tools/find_list.py "$HT1130_LIB_DIR/lib$name.a"
+    # nor a place to fill one in: nothing that can be written
+    readelf -SW "$HT1130_LIB_DIR/lib$name.a" | awk '/ +WA/ { print; bad = 1 } END { exit bad }'
+done
+gcc -std=c11 -O2 -Wall -Wextra -Werror -I include -o "$work/call_stacks" tools/call_stacks.c \
+    "$HT1130_LIB_DIR/libht1130.a" "$HT1130_LIB_DIR/libht1130_tools.a"
+rm -rf "$work/stacks"
+mkdir "$work/stacks"
+"$work/call_stacks" "$work/stacks"
+# the control has one, and it must be found
+python3 tools/find_list.py --memory "$work/stacks/control.stack" > "$work/control.out" || true
+grep -q ': lengths, 1 bytes an entry$' "$work/control.out"
+rm "$work/stacks/control.stack"
+python3 tools/find_list.py --memory "$work"/stacks/*.stack
 
 say "examples/segments.c"
 gcc -std=c11 -O2 -Wall -Wextra -Werror -I include -o "$work/segments" examples/segments.c "$HT1130_LIB_DIR/libht1130.a" "$HT1130_LIB_DIR/libht1130_tools.a"

@@ -1,11 +1,11 @@
 // What the instruction at a pair says of it. A pair's code is three times its address, and its level added: 0 to 12,287.
 ghost use mathlib.Core.Path.{_≡_};
 ghost use Rattle.checker.specs.Walk.{Faults, codesOf, faultAt, nextCodes};
-ghost use Rattle.isa.specs.Timing.{entries};
 ghost use Rattle.rom.specs.Fetching.{movedBy};
 use crate::flow::Flow;
 use crate::flow::flow_at;
 use rom::reader::byte_at;
+use rom::timing::length;
 
 // The vectors 4 and 8 in level 2, where EI lets an interrupt go.
 const TIMER: u16 = 4 * 3 + 2;
@@ -30,17 +30,15 @@ fn moved_by(address: u16, length: u8) -> u16
     (address % 4096 + length as u16) % 4096
 }
 
-// The successors of a pair, or its fault. `list` is the list of lengths and cycles, which the walk holds: an indexed
-// constant is built at each use.
-pub(crate) fn next_codes(mask: &[u8], list: &[u8; 256], code: u16) -> Codes
-    requires { ⌜ now list ≡ entries ⌝ }
+// The successors of a pair, or its fault.
+pub(crate) fn next_codes(mask: &[u8], code: u16) -> Codes
     ensures { λ r. ⌜ codesOf r ≡ nextCodes (now (mask .entry)) code ⌝ }
     ensures { λ r. ⌜ Faults r (faultAt (now (mask .entry)) code) ⌝ }
 {
     let address = code / 3;
     let level = code % 3;
     let first = byte_at(mask, address);
-    let moved = moved_by(address, list[first as usize] / 16);
+    let moved = moved_by(address, length(first));
     let flow = flow_at(mask, code);
     match flow {
         Flow::Unread => Codes::Forbidden(1),

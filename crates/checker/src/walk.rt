@@ -6,7 +6,6 @@ ghost use Rattle.checker.specs.Trail.{Traced};
 ghost use Rattle.checker.specs.Walk.{Found, Names, Room, Small, codesOf, lowered, nextCodes, pairs, pushed, pushedAll, work};
 use crate::next::Codes;
 use crate::next::next_codes;
-use rom::timing::list;
 
 // A code that is not found yet goes to the queue's end. Returns how many are found.
 fn push(seen: &mut [u8; 12288], queue: &mut [u16; 12288], tail: u16, code: u16) -> u16
@@ -89,7 +88,6 @@ pub(crate) fn walk(
     ensures { λ r. ⌜ Traced pairs (nextCodes (now (mask .entry))) (now (seen .exit)) (now (queue .exit)) (now (starts .exit)) ⌝ }
     ensures { λ r. ⌜ Names (now (mask .entry)) (now (seen .exit)) r ⌝ }
 {
-    let entries = list();
     seen[0] = 1;
     let mut head: u16 = 0;
     let mut tail: u16 = 1;
@@ -101,7 +99,7 @@ pub(crate) fn walk(
         let at = head as usize;
         starts[at] = tail;
         let code = queue[at];
-        let codes = next_codes(mask, &entries, code);
+        let codes = next_codes(mask, code);
         named = lower(named, code, codes);
         tail = push_all(seen, queue, tail, codes);
         head += 1;

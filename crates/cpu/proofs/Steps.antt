@@ -1,6 +1,6 @@
 -- What the proofs of one step share, on definitions alone: a faulting instruction sets the fault alone, and what the bytes at the
 -- PC, read and timed, make of a step. Assumes nothing.
-use Prim.Native.Nat.{ℕ, _+_, _/_, _%_, _<_, _^_}
+use Prim.Native.Nat.{ℕ, _+_, _%_, _<_, _^_}
 use mathlib.Core.Path.{_≡_, refl, sym, ap, ap₂, _∙_}
 use mathlib.Core.Bool.{Bool, true, false}
 use mathlib.Core.List.{List}
@@ -12,12 +12,11 @@ use borrow.Author.Tests.{eq-eqb, ne-eqb}
 use Rattle.isa.specs.Choice.{pick}
 use Rattle.rom.specs.Fetching.{byteAt}
 use Rattle.isa.specs.Reading.{Reading, decoded}
-use Rattle.isa.specs.Timing.{entries, lengthOf, cyclesOf}
+use Rattle.isa.specs.Timing.{lengthOf, cyclesOf}
 use Rattle.isa.specs.Views.{View, on, jmp, branch, call, ret, reti, ei, view}
 use Rattle.isa.specs.declared.decoder.Decoded.{Decoded}
 use Rattle.isa.specs.declared.decoder.Decoded.the-variants.{Read}
 use Rattle.isa.proofs.Exact.{reading}
-use Rattle.isa.proofs.List.{length-at, cycles-at}
 use Rattle.isa.specs.declared.ProgramAddress.{ProgramAddress}
 use Rattle.isa.specs.declared.Instruction.{Instruction}
 use Rattle.datapath.specs.Timer.{clocks, counted}
@@ -103,30 +102,27 @@ fetched mask s x y d p q h r =
     next : (n : ℕ) → (n % 4096 + 1) % 4096 ≡ (n + 1) % 4096
     next n = omega arith
 
--- the PC moved on by the list's entry, as the code does it
-pub moved-on : (c : Cpu) (x a e : ℕ) → e ≡ getD entries x 0 → a ≡ (c .control .pc .0 % 4096 + e / 16) % 4096 → withPc (address a) c ≡ moved (lengthOf x) c
-moved-on c x a e q p =
-    ap (λ (a : ℕ). withPc (address a) c) (p ∙ sum (c .control .pc .0) (e / 16))
-    ∙ ap (λ (n : ℕ). moved n c) (ap (λ (n : ℕ). n / 16) q ∙ length-at x)
+-- the PC moved on by the length, as the code does it
+pub moved-on : (c : Cpu) (x a n : ℕ) → n ≡ lengthOf x → a ≡ (c .control .pc .0 % 4096 + n) % 4096 → withPc (address a) c ≡ moved (lengthOf x) c
+moved-on c x a n q p = ap (λ (a : ℕ). withPc (address a) c) (p ∙ sum (c .control .pc .0) n) ∙ ap (λ (n : ℕ). moved n c) q
   where
     sum : (a b : ℕ) → (a % 4096 + b) % 4096 ≡ (a + b) % 4096
     sum a b = omega arith
 
--- the whole instruction, from what the code has at its two ends
-module _ (mask : List ℕ) (s : State) (x y : ℕ) (i : Instruction) (d : Decoded) (k : Cpu) (t : State)
-    (known : d ≡ Read i) (at : instructed mask d (lengthOf x) (cyclesOf x) s ≡ executed mask s)
-    (on : k ≡ moved (lengthOf x) (s .cpu)) (done : t ≡ effect mask i (state k (s .memory))) where
-  reached : t ≡ effect mask i (onCpu (moved (lengthOf x)) s)
-  reached = done ∙ ap (λ (k : Cpu). effect mask i (state k (s .memory))) on
+-- the whole instruction, at the two ways out that the code has behind its effect, t
+pub record Ended (mask : List ℕ) (s t : State) (x : ℕ) : Type 0 where
+  pub in-fault : s .cpu .status .fault ≡ 0 → (t .cpu .status .fault ≡ 0 → ⊥) → state (withPc (address (s .cpu .control .pc .0)) (t .cpu)) (t .memory) ≡ executed mask s
+  pub in-time : {r : Cpu} (n : ℕ) → t .cpu .status .fault ≡ 0 → n ≡ cyclesOf x → r ≡ ticked n (t .cpu) → state r (t .memory) ≡ executed mask s
 
-  whole : settled (cyclesOf x) s (effect mask i (onCpu (moved (lengthOf x)) s)) ≡ executed mask s
-  whole = ap (λ (d : Decoded). instructed mask d (lengthOf x) (cyclesOf x) s) (sym known) ∙ at
-
-  pub ends-in-fault : s .cpu .status .fault ≡ 0 → (t .cpu .status .fault ≡ 0 → ⊥) → state (withPc (address (s .cpu .control .pc .0)) (t .cpu)) (t .memory) ≡ executed mask s
-  ends-in-fault z f = faulted mask i s t (lengthOf x) (cyclesOf x) reached z f ∙ whole
-
-  pub ends : {r : Cpu} (e : ℕ) → t .cpu .status .fault ≡ 0 → e ≡ getD entries x 0 → r ≡ ticked (e % 16) (t .cpu) → state r (t .memory) ≡ executed mask s
-  ends {r} e z q p = finished mask i s t (lengthOf x) (cyclesOf x) reached z (p ∙ ap (λ (n : ℕ). ticked n (t .cpu)) (ap (λ (n : ℕ). n % 16) q ∙ cycles-at x)) ∙ whole
+pub whole : (mask : List ℕ) (s t : State) (x : ℕ) (i : Instruction) (d : Decoded) (k : Cpu) → d ≡ Read i → instructed mask d (lengthOf x) (cyclesOf x) s ≡ executed mask s
+    → k ≡ moved (lengthOf x) (s .cpu) → t ≡ effect mask i (state k (s .memory)) → Ended mask s t x
+whole mask s t x i d k known at went done =
+    let reached : t ≡ effect mask i (onCpu (moved (lengthOf x)) s) = done ∙ ap (λ (k : Cpu). effect mask i (state k (s .memory))) went in
+    let all : settled (cyclesOf x) s (effect mask i (onCpu (moved (lengthOf x)) s)) ≡ executed mask s = ap (λ (d : Decoded). instructed mask d (lengthOf x) (cyclesOf x) s) (sym known) ∙ at in
+    record {
+      in-fault = λ z f. faulted mask i s t (lengthOf x) (cyclesOf x) reached z f ∙ all;
+      in-time = λ {r} n z q p. finished mask i s t (lengthOf x) (cyclesOf x) reached z (p ∙ ap (λ (n : ℕ). ticked n (t .cpu)) q) ∙ all;
+    }
 
 -- a timer that runs, and one that does not
 pub running : (n x : ℕ) (c t : Cpu) → c .timer .running ≡ 1 → x ≡ (c .cycles + n) % 2 ^ 32 → t ≡ timed (counted (c .timer .count) (clocks (c .options .rate) (c .cycles) n)) c → withCycles x t ≡ ticked n c

@@ -3,14 +3,12 @@ ghost use mathlib.Core.Path.{_≡_};
 ghost use Rattle.cpu.specs.Run.{ran};
 ghost use Rattle.cpu.specs.State.{state};
 use crate::Cpu;
-use rom::timing::list;
 
 impl Cpu {
     // At most `steps` steps; none once halted or faulted. The memory is lent, so that the loop moves numbers alone.
     pub fn run(self, mask: &[u8], memory: &mut [u8; 160], steps: u16) -> Cpu
         ensures { λ r. ⌜ state r (now (memory .exit)) ≡ ran (now (mask .entry)) steps (state self (now (memory .entry))) ⌝ }
     {
-        let entries = list();
         let mut current = self;
         let mut left = steps;
         while 0 < left {
@@ -20,7 +18,7 @@ impl Cpu {
             if current.status.fault != 0 {
                 return current;
             }
-            current = current.go_on(mask, &entries, memory);
+            current = current.go_on(mask, memory);
             left -= 1;
         }
         current

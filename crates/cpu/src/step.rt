@@ -3,7 +3,6 @@ ghost use mathlib.Core.Path.{_≡_};
 ghost use Rattle.rom.specs.Fetching.{movedBy};
 ghost use Rattle.cpu.specs.State.{state};
 ghost use Rattle.cpu.specs.Step.{entered, executed, step, ticked, timed, vectorOf};
-ghost use Rattle.isa.specs.Timing.{entries};
 use crate::Cpu;
 use datapath::timer::Count;
 use datapath::timer::advance;
@@ -11,7 +10,8 @@ use datapath::timer::clock;
 use isa::decoder::Decoded;
 use isa::decoder::decode;
 use rom::reader::byte_at;
-use rom::timing::list;
+use rom::timing::cycles;
+use rom::timing::length;
 use std::num::wrapping_add_u32;
 
 // The address `length` bytes on, modulo 4,096.
@@ -84,8 +84,9 @@ impl Cpu {
     }
 
     // One instruction, on a processor without a fault. One that faults sets the fault alone, so the PC goes back and no copy is kept.
-    fn execute(mut self, mask: &[u8], list: &[u8; 256], memory: &mut [u8; 160]) -> Cpu
-        requires { ⌜ (self .status .fault ≡ 0) × (now list ≡ entries) ⌝ }
+    // Cycles are found beside the length, so that the compiler computes the rule once.
+    fn execute(mut self, mask: &[u8], memory: &mut [u8; 160]) -> Cpu
+        requires { ⌜ self .status .fault ≡ 0 ⌝ }
         ensures { λ r. ⌜ state r (now (memory .exit)) ≡ executed (now (mask .entry)) (state self (now (memory .entry))) ⌝ }
     {
         let pc = self.control.pc.0 % 4096;
@@ -94,22 +95,22 @@ impl Cpu {
             self.status.fault = 1;
             return self;
         };
-        let entry = list[first as usize];
         let before = self.control.pc.0;
-        let next = address_after(pc, entry / 16);
+        let spent = cycles(first);
+        let size = length(first);
+        let next = address_after(pc, size);
         self.control.pc.0 = next;
         let mut after = self.effect(instruction, mask, memory);
         if after.status.fault != 0 {
             after.control.pc.0 = before;
             return after;
         }
-        after.tick(entry % 16)
+        after.tick(spent)
     }
 
-    // A step of a processor that is neither halted nor faulted. `list` is the list of lengths and cycles, which a loop holds: an indexed constant
-    // is built at each use.
-    pub(crate) fn go_on(mut self, mask: &[u8], list: &[u8; 256], memory: &mut [u8; 160]) -> Cpu
-        requires { ⌜ (self .status .halted ≡ 0) × (self .status .fault ≡ 0) × (now list ≡ entries) ⌝ }
+    // A step of a processor that is neither halted nor faulted.
+    pub(crate) fn go_on(mut self, mask: &[u8], memory: &mut [u8; 160]) -> Cpu
+        requires { ⌜ (self .status .halted ≡ 0) × (self .status .fault ≡ 0) ⌝ }
         ensures { λ r. ⌜ state r (now (memory .exit)) ≡ step (now (mask .entry)) (state self (now (memory .entry))) ⌝ }
     {
         let vector = self.pending();
@@ -121,7 +122,7 @@ impl Cpu {
             self.control.tf = 0;
             return self.enter(4);
         }
-        self.execute(mask, list, memory)
+        self.execute(mask, memory)
     }
 
     // One step, on the data memory that is lent.
@@ -134,7 +135,6 @@ impl Cpu {
         if self.status.fault != 0 {
             return self;
         }
-        let entries = list();
-        self.go_on(mask, &entries, memory)
+        self.go_on(mask, memory)
     }
 }

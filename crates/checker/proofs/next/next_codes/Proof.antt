@@ -16,7 +16,6 @@ use Rattle.checker.specs.declared.flow.Flow.the-variants.{Unread, On, En
 use Rattle.checker.specs.Marks.{levels, faultIn}
 use Rattle.checker.specs.Verdicts.{rank}
 use Rattle.checker.specs.Walk.{nextCodes, faultAt}
-use Rattle.checker.proofs.Fetched.{length-in}
 use Rattle.checker.proofs.Reach.{Targets}
 use Rattle.checker.proofs.Successors.{handed-on, fault-flow, next-flow, next-targets}
 use borrow.Author.Needs.{needs}
@@ -31,7 +30,7 @@ at-flow c g e =
     let first = c .before .before .before .byte-at in
     next-flow (s .args .mask .now) (s .args .code) (c .flow-at .result) g (c .flow-at .ensures) e (c .before .moved-by .result)
     (c .before .moved-by .ensures
-    ∙ ap (λ (n : ℕ). movedBy n (s .args .code / levels)) (length-in (s .args .list .now) (first .result) (s .pre) ∙ ap lengthOf (first .ensures)))
+    ∙ ap (λ (n : ℕ). movedBy n (s .args .code / levels)) (c .before .before .length .ensures ∙ ap lengthOf (first .ensures)))
 
 fault-at : (c : tie.After-flow-at) (g : Flow) → c .flow-at .result ≡ g
     → faultAt (c .before .before .before .before .before .args .mask .now) (c .before .before .before .before .before .args .code)
@@ -73,17 +72,17 @@ in-main x y l e = rw (eq-eqb l 0 e) refl
 above : {A : Type 0} (x y : A) (l : ℕ) → (l ≡ 0 → ⊥) → pick (eqb l 0) x y ≡ y
 above x y l n = rw (ne-eqb l 0 n) refl
 
-mul-t22 : tie.Need-mul-t22
-mul-t22 c = let t = c .before .before .flow .given in let h = target (c .before .before .before .before) (Jump (t .0 .0)) (t .1) in omega arith
+mul-t17 : tie.Need-mul-t17
+mul-t17 c = let t = c .before .before .flow .given in let h = target (c .before .before .before .before) (Jump (t .0 .0)) (t .1) in omega arith
 
-add-t23 : tie.Need-add-t23
-add-t23 c = let t = c .before .before .flow .given in let h = target (c .before .before .before .before) (Jump (t .0 .0)) (t .1) in omega arith
+add-t18 : tie.Need-add-t18
+add-t18 c = let t = c .before .before .flow .given in let h = target (c .before .before .before .before) (Jump (t .0 .0)) (t .1) in omega arith
 
-mul-t34 : tie.Need-mul-t34
-mul-t34 c = let t = c .before .before .before .flow3 .given in let h = target (c .before .before .before .before .before) (Sub (t .0 .0)) (t .1) in omega arith
+mul-t29 : tie.Need-mul-t29
+mul-t29 c = let t = c .before .before .before .flow3 .given in let h = target (c .before .before .before .before .before) (Sub (t .0 .0)) (t .1) in omega arith
 
-add-t35 : tie.Need-add-t35
-add-t35 c = let t = c .before .before .before .flow3 .given in let h = target (c .before .before .before .before .before) (Sub (t .0 .0)) (t .1) in omega arith
+add-t30 : tie.Need-add-t30
+add-t30 c = let t = c .before .before .before .flow3 .given in let h = target (c .before .before .before .before .before) (Sub (t .0 .0)) (t .1) in omega arith
 
 -- no instruction
 returns : tie.Need-returns
@@ -145,8 +144,8 @@ pub next-codes-spec : {M : Type 1} → statement M
 next-codes-spec =
     tie.close
     (tie.spec
-    (λ c κs. search needs) (λ c. search needs) (λ c. search needs) (λ c κs. search needs) (λ c κs. search needs) (λ c. search needs)
+    (λ c κs. search needs) (λ c κs. search needs) (λ c κs. search needs) (λ c κs. search needs) (λ c. search needs) (λ c. search needs)
     (λ c. search needs) (λ c. search needs) (λ c. search needs) (λ c. search needs) (λ c. search needs) (λ c. search needs)
-    (λ c. search needs) mul-t22 add-t23 (λ c. search needs) (λ c. search needs) (λ c. search needs) (λ c. search needs)
-    (λ c. search needs) (λ c. search needs) (λ c. search needs) (λ c. search needs) mul-t34 add-t35 (λ c. search needs)
-    (λ c. search needs) returns returns-2 returns-3 returns-4 returns-5 returns-6 returns-7 returns-8 returns-9)
+    mul-t17 add-t18 (λ c. search needs) (λ c. search needs) (λ c. search needs) (λ c. search needs) (λ c. search needs) (λ c. search needs)
+    (λ c. search needs) (λ c. search needs) mul-t29 add-t30 (λ c. search needs) (λ c. search needs)
+    returns returns-2 returns-3 returns-4 returns-5 returns-6 returns-7 returns-8 returns-9)

@@ -18,11 +18,11 @@ use Rattle.checker.proofs.walk.walk.Statement.{statement}
 use Rattle.checker.proofs.walk.walk.Tie as tie
 
 abbrev Inv-loop : tie.InvT-loop
-Inv-loop mask seen₀ queue₀ starts₀ entries head₀ tail₀ named₀ seen queue starts head tail named =
+Inv-loop mask seen₀ queue₀ starts₀ head₀ tail₀ named₀ seen queue starts head tail named =
     Tracing pairs (nextCodes mask) (work seen queue tail) starts head × Naming pairs (nextCodes mask) (faultAt mask) queue head named
 
 abbrev μ-loop : tie.MeasureT-loop
-μ-loop mask seen₀ queue₀ starts₀ entries head₀ tail₀ named₀ seen queue starts head tail named = pairs - head
+μ-loop mask seen₀ queue₀ starts₀ head₀ tail₀ named₀ seen queue starts head tail named = pairs - head
 
 begins : (next : ℕ → List ℕ) (s q b : List ℕ) → s ≡ replicate pairs 0 → q ≡ replicate pairs 0 → b ≡ replicate pairs 0
     → Tracing pairs next (work (set s 0 1) q 1) b 0
@@ -73,7 +73,7 @@ module _ (mask s q b : List ℕ) (head tail : ℕ) (named : Named) (small : (k :
 
 loop-holds : tie.Need-loop-holds Inv-loop μ-loop
 loop-holds c =
-    let s = c .before .before in
+    let s = c .before in
     let a = s .args in (
       begins (nextCodes (a .mask .now)) (a .seen .now) (a .queue .now) (a .starts .now) (s .pre .0) (s .pre .1) (s .pre .2),
       none-named (nextCodes (a .mask .now)) (faultAt (a .mask .now)) (a .queue .now),
@@ -94,34 +94,31 @@ mul-code c = omega (arith, c .before .loop .inv .0 .walking .core .room .left)
 element-copy-out-code : tie.Need-element-copy-out-code Inv-loop μ-loop
 element-copy-out-code c = omega (arith, c .before .loop .inv .0 .walking .core .room .left)
 
-next-codes-requires : tie.Need-next-codes-requires Inv-loop μ-loop
-next-codes-requires c κs = c .before .before .before .before .list .ensures
-
 push-all-requires : tie.Need-push-all-requires Inv-loop μ-loop
 push-all-requires c κs =
-    let l = c .before .before .before .before .before .before .before in
-    let mask = l .before .before .before .args .mask .now in
-    let small = codes-small mask (λ k. omega (arith, l .before .before .shared-slice-known .given k)) _ in
+    let l = c .before .before .before .before .before .before in
+    let mask = l .before .before .args .mask .now in
+    let small = codes-small mask (λ k. omega (arith, l .before .shared-slice-known .given k)) _ in
     (subst (Small pairs) (sym (c .before .before .before .next-codes .ensures .0)) small, l .loop .inv .0 .walking .core .room)
 
 add-head : tie.Need-add-head Inv-loop μ-loop
-add-head c = omega (arith, c .before .before .before .before .before .before .before .before .loop .inv .0 .walking .core .room .left)
+add-head c = omega (arith, c .before .before .before .before .before .before .before .loop .inv .0 .walking .core .room .left)
 
 loop-less : tie.Need-loop-less Inv-loop μ-loop
-loop-less c = omega (arith, c .before .before .before .before .before .before .before .before .loop .inv .0 .walking .core .room .left)
+loop-less c = omega (arith, c .before .before .before .before .before .before .before .loop .inv .0 .walking .core .room .left)
 
 loop-again : tie.Need-loop-again Inv-loop μ-loop
 loop-again c =
-    let l = c .before .before .before .before .before .before .before .before in
-    let mask = l .before .before .before .args .mask .now in
+    let l = c .before .before .before .before .before .before .before in
+    let mask = l .before .before .args .mask .now in
     let p = c .push-all in
     let n = c .before .before .before .before .next-codes in
     let w = work (l .loop .seen) (l .loop .queue) (l .loop .tail) in
     let v = work (p .last .0) (p .last .1 .0) (p .result) in
     let e : v ≡ pushedAll w (nextCodes mask (getD (l .loop .queue) (l .loop .head) 0)) = p .ensures ∙ ap (pushedAll w) (n .ensures .0) in
-    let small = codes-small mask (λ k. omega (arith, l .before .before .shared-slice-known .given k)) in
+    let small = codes-small mask (λ k. omega (arith, l .before .shared-slice-known .given k)) in
     let t = l .loop .inv .0 in
-    let h = c .before .before .before .before .before .before .before .loop-test .taken in (
+    let h = c .before .before .before .before .before .before .loop-test .taken in (
       trace-turn pairs (nextCodes mask) (omega arith) small w v (l .loop .starts) (l .loop .head) e t h,
       subst (Naming pairs (nextCodes mask) (faultAt mask) (p .last .1 .0) (l .loop .head + 1)) (sym (c .before .before .before .lower .ensures))
           (naming-turn pairs (nextCodes mask) (faultAt mask) (l .loop .queue) (p .last .1 .0) (l .loop .head)
@@ -132,8 +129,8 @@ loop-again c =
 returns : tie.Need-returns Inv-loop μ-loop
 returns c =
     let l = c .before in
-    let mask = l .before .before .before .args .mask .now in
-    let small = codes-small mask (λ k. omega (arith, l .before .before .shared-slice-known .given k)) in
+    let mask = l .before .before .args .mask .now in
+    let small = codes-small mask (λ k. omega (arith, l .before .shared-slice-known .given k)) in
     let o = l .loop in (
       all-found mask (o .seen) (o .queue) (o .starts) (o .head) (o .tail) (o .named) small (o .inv .0) (o .inv .1) (c .loop-test .left),
       (
@@ -146,5 +143,5 @@ pub walk-spec : {M : Type 1} → statement M
 walk-spec =
     tie.close
     (tie.spec
-    Inv-loop μ-loop (λ c κs. search needs) (λ c. omega arith) loop-holds cast-at mul-starts element-write-starts mul-code
-    element-copy-out-code next-codes-requires (λ c. search needs) push-all-requires add-head loop-less loop-again returns)
+    Inv-loop μ-loop (λ c. omega arith) loop-holds cast-at mul-starts element-write-starts mul-code
+    element-copy-out-code (λ c κs. search needs) (λ c. search needs) push-all-requires add-head loop-less loop-again returns)

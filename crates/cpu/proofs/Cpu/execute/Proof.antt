@@ -1,15 +1,12 @@
--- `cpu::Cpu::execute` meets its contract: what the bytes at the PC read as, with the list's entry, is the definition's step.
+-- `cpu::Cpu::execute` meets its contract: what the bytes at the PC read as, with their length and cycles, is the definition's step.
 -- Assumes nothing.
-use Prim.Native.Nat.{ℕ}
-use mathlib.Core.Path.{_≡_, sym, ap, _∙_}
-use mathlib.Core.List.{List}
+use mathlib.Core.Path.{sym, ap, _∙_}
 use native.Mathlib.Omega.{arith}
-use lib.ListN.{getD}
-use Rattle.isa.specs.Timing.{entries, lengthOf, cyclesOf}
+use Rattle.isa.specs.Timing.{lengthOf, cyclesOf}
 use Rattle.isa.specs.declared.decoder.Decoded.{Decoded}
 use Rattle.cpu.specs.State.{state, address, withPc}
 use Rattle.cpu.specs.Step.{instructed}
-use Rattle.cpu.proofs.Steps.{fetched, moved-on, ends-in-fault, ends}
+use Rattle.cpu.proofs.Steps.{fetched, moved-on, Ended, whole}
 use borrow.Author.Needs.{needs}
 use Rattle.cpu.proofs.Cpu.execute.Statement.{statement}
 use Rattle.cpu.proofs.Cpu.execute.Tie as tie
@@ -42,11 +39,11 @@ returns c =
     ap (λ (d : Decoded). instructed (a .mask .now) d (lengthOf (first .result)) (cyclesOf (first .result)) s) (sym (c .before .enum-told .given .1))
     ∙ fetched (a .mask .now) s (first .result) (second .result) (read .result) (first .ensures) (second .ensures) (omega (arith, second)) (read .ensures)
 
-cast-entry : tie.Need-cast-entry
-cast-entry c = search needs
+cycles-requires : tie.Need-cycles-requires
+cycles-requires c κs = search needs
 
-element-copy-out-entry : tie.Need-element-copy-out-entry
-element-copy-out-entry c = search needs
+length-requires : tie.Need-length-requires
+length-requires c κs = search needs
 
 address-after-requires : tie.Need-address-after-requires
 address-after-requires c κs = search needs
@@ -54,42 +51,41 @@ address-after-requires c κs = search needs
 effect-requires : tie.Need-effect-requires
 effect-requires c κs = search needs
 
+-- what both ways out behind the effect know
+ended : (done : tie.After-effect) →
+    let first = done .before .before .before .before .before .before .before .before .before .before .before in
+    let a = first .before .before .before .args in
+    Ended (a .mask .now) (state (a .self) (a .memory .now)) (state (done .effect .result) (done .effect .last .1 .1 .1 .0)) (first .byte-at .result)
+ended done =
+    let next = done .before .before .before in
+    let size = next .before in
+    let known = size .before .before .before in
+    let read = known .before .before in
+    let second = read .before in
+    let first = second .before in
+    let a = first .before .before .before .args in
+    let s = state (a .self) (a .memory .now) in
+    let x = first .byte-at .result in
+    let i = known .instruction .given in
+    whole (a .mask .now) s (state (done .effect .result) (done .effect .last .1 .1 .1 .0)) x (i .0 .0) (read .decode .result) (withPc (address (next .address-after .result)) (a .self)) (i .1)
+    (fetched (a .mask .now) s x (second .byte-at2 .result) (read .decode .result) (first .byte-at .ensures) (second .byte-at2 .ensures) (omega (arith, second)) (read .decode .ensures))
+    (moved-on (a .self) x (next .address-after .result) (size .length .result) (size .length .ensures) (next .address-after .ensures))
+    (done .effect .ensures)
+
 returns-2 : tie.Need-returns-2
 returns-2 c =
-    let a = c .before .before .before .before .before .before .before .before .before .before .before .before .before .before .before .before .args in
-    let s = state (a .self) (a .memory .now) in
-    let first = c .before .before .before .before .before .before .before .before .before .before .before .before .before .byte-at in
-    let second = c .before .before .before .before .before .before .before .before .before .before .before .before .byte-at2 in
-    let read = c .before .before .before .before .before .before .before .before .before .before .before .decode in
-    let known = c .before .before .before .before .before .before .before .before .before .instruction .given in
-    let next = c .before .before .before .before .before .before .address-after in
-    let done = c .before .before .before .effect in
-    let entry : getD (a .list .now) (first .result) 0 ≡ getD entries (first .result) 0 = ap (λ (l : List ℕ). getD l (first .result) 0) (c .before .before .before .before .before .before .before .before .before .before .before .before .before .before .before .before .pre .1) in
-    ends-in-fault (a .mask .now) s (first .result) (second .result) (known .0 .0) (read .result) (withPc (address (next .result)) (a .self)) (state (done .result) (done .last .1 .1 .1 .0)) (known .1)
-    (fetched (a .mask .now) s (first .result) (second .result) (read .result) (first .ensures) (second .ensures) (omega (arith, second)) (read .ensures))
-    (moved-on (a .self) (first .result) (next .result) (getD (a .list .now) (first .result) 0) entry (next .ensures))
-    (done .ensures)
-    (c .before .before .before .before .before .before .before .before .before .before .before .before .before .before .before .before .pre .0) (c .before .if1 .taken)
+    let done = c .before .before .before in
+    let start = done .before .before .before .before .before .before .before .before .before .before .before .before .before .before in
+    ended done .in-fault (start .pre) (c .before .if1 .taken)
 
 tick-requires : tie.Need-tick-requires
 tick-requires c κs = search needs
 
 returns-3 : tie.Need-returns-3
 returns-3 c =
-    let a = c .before .before .before .before .before .before .before .before .before .before .before .before .before .before .before .before .args in
-    let s = state (a .self) (a .memory .now) in
-    let first = c .before .before .before .before .before .before .before .before .before .before .before .before .before .byte-at in
-    let second = c .before .before .before .before .before .before .before .before .before .before .before .before .byte-at2 in
-    let read = c .before .before .before .before .before .before .before .before .before .before .before .decode in
-    let known = c .before .before .before .before .before .before .before .before .before .instruction .given in
-    let next = c .before .before .before .before .before .before .address-after in
-    let done = c .before .before .before .effect in
-    let entry : getD (a .list .now) (first .result) 0 ≡ getD entries (first .result) 0 = ap (λ (l : List ℕ). getD l (first .result) 0) (c .before .before .before .before .before .before .before .before .before .before .before .before .before .before .before .before .pre .1) in
-    ends (a .mask .now) s (first .result) (second .result) (known .0 .0) (read .result) (withPc (address (next .result)) (a .self)) (state (done .result) (done .last .1 .1 .1 .0)) (known .1)
-    (fetched (a .mask .now) s (first .result) (second .result) (read .result) (first .ensures) (second .ensures) (omega (arith, second)) (read .ensures))
-    (moved-on (a .self) (first .result) (next .result) (getD (a .list .now) (first .result) 0) entry (next .ensures))
-    (done .ensures)
-    (getD (a .list .now) (first .result) 0) (c .before .if1 .left) entry (c .tick .ensures)
+    let done = c .before .before .before in
+    let spent = done .before .before .before .before .before .cycles in
+    ended done .in-time (spent .result) (c .before .if1 .left) (spent .ensures) (c .tick .ensures)
 
 pub execute-spec : {M : Type 1} → statement M
 execute-spec =
@@ -102,8 +98,8 @@ execute-spec =
     enum-known-instruction
     enum-told
     returns
-    cast-entry
-    element-copy-out-entry
+    cycles-requires
+    length-requires
     address-after-requires
     effect-requires
     returns-2

@@ -31,7 +31,7 @@ returns-2 c =
     ∙ takes-timer (a .mask .now) (state (a .self) (a .memory .now)) (start .pre .0) (start .pre .1) (sym (c .before .before .before .before .pending .ensures) ∙ c .before .before .if2 .taken)
 
 execute-requires : tie.Need-execute-requires
-execute-requires c κs = (c .before .before .before .before .before .pre .1, c .before .before .before .before .before .pre .2)
+execute-requires c κs = search needs
 
 returns-3 : tie.Need-returns-3
 returns-3 c =

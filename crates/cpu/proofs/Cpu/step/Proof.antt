@@ -1,7 +1,6 @@
 -- `cpu::Cpu::step` meets its contract: a stopped processor stays, another goes on. Assumes nothing.
 use Rattle.cpu.specs.State.{state}
 use Rattle.cpu.proofs.Steps.{halted-stops, fault-stops}
-use borrow.Author.Needs.{needs}
 use Rattle.cpu.proofs.Cpu.step.Statement.{statement}
 use Rattle.cpu.proofs.Cpu.step.Tie as tie
 
@@ -15,14 +14,11 @@ returns-2 c =
     let a = c .before .before .before .before .before .args in
     fault-stops (a .mask .now) (state (a .self) (a .memory .now)) (c .before .before .if1 .left) (c .if2 .taken)
 
-list-requires : tie.Need-list-requires
-list-requires c κs = search needs
-
 go-on-requires : tie.Need-go-on-requires
-go-on-requires c κs = (c .before .before .before .before .before .if1 .left, c .before .before .before .if2 .left, c .before .before .list .ensures)
+go-on-requires c κs = (c .before .before .before .if1 .left, c .before .if2 .left)
 
 returns-3 : tie.Need-returns-3
 returns-3 c = c .go-on .ensures
 
 pub step-spec : {M : Type 1} → statement M
-step-spec = tie.close (tie.spec returns returns-2 list-requires go-on-requires returns-3)
+step-spec = tie.close (tie.spec returns returns-2 go-on-requires returns-3)
