@@ -1,8 +1,8 @@
 #!/usr/bin/env bash
 # Tests both libraries from C and Rust: header, record layout, what the archives
-# hold, examples, and a comparison with a plain engine. Needs libht1130.a and libht1130_tools.a, in
-# target/staticlib or in HT1130_LIB_DIR (from the top of the repository, or
-# absolute).
+# hold, examples, and a comparison with a plain engine. Needs libht1130.a and
+# libht1130_tools.a, in target/staticlib or in HT1130_LIB_DIR (from the top of
+# the repository, or absolute).
 set -euo pipefail
 cd "$(dirname "$0")/.."
 
