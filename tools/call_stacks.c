@@ -22,6 +22,7 @@ static uint8_t *const top = stack + sizeof stack;
 static ucontext_t host, call;
 static volatile int file;
 static volatile unsigned long steps, due;
+static const uint8_t *volatile low;     /* what a call has touched so far starts here: frames of callees that returned too */
 
 static ht1130_machine machine;
 static uint8_t mask[HT1130_MASK], marks[HT1130_MASK], list[HT1130_WAY], image[HT1130_IMAGE], reports[3 * HT1130_REPORT];
@@ -65,7 +66,7 @@ static __attribute__((noinline)) uint8_t lengths_held(void)
 }
 static void control(void) { answer = lengths_held(); }
 
-/* After each instruction. The more there is to write, the more rarely it is written. */
+/* After each instruction. Every 16 of them what was touched is written, and more rarely where it is much. */
 static void stepped(int signal, siginfo_t *info, void *context)
 {
     const uint8_t *sp = (const uint8_t *)((ucontext_t *)context)->uc_mcontext.gregs[REG_RSP] - RED_ZONE;
@@ -73,11 +74,15 @@ static void stepped(int signal, siginfo_t *info, void *context)
     (void)signal;
     (void)info;
     steps++;
-    if (steps < due || sp < stack || top <= sp)
+    if (sp < stack || top <= sp)
         return;
-    if (write(file, sp, (size_t)(top - sp)) != top - sp)
+    if (sp < low)
+        low = sp;
+    if (steps < due)
+        return;
+    if (write(file, low, (size_t)(top - low)) != top - low)
         _exit(1);
-    due = steps + 16 + (unsigned long)(top - sp) / 8;
+    due = steps + (top - low <= 4096 ? 16 : (unsigned long)(top - low) / 8);
 }
 
 static void (*called)(void);
@@ -101,6 +106,7 @@ static void on_a_stack(const char *folder, const char *name, void (*function)(vo
         stop(path);
     called = function;
     steps = due = 0;
+    low = top;
     memset(stack, 0, sizeof stack);
     getcontext(&call);
     call.uc_stack.ss_sp = stack;

@@ -109,7 +109,7 @@ def found_in(path):
     for member, elf in members(pathlib.Path(path).read_bytes()):
         for name, content in sections(elf):
             read += len(content)
-            lines += [f'{path}: {member} {name}+{at:#x}: {kind}, {width} bytes an entry' for kind, width, at in lists_in(content)]
+            lines += [f'{path}: {member} {name}+{at:#x}: {kind}, entries of width {width}' for kind, width, at in lists_in(content)]
     return lines, read
 
 
@@ -177,7 +177,7 @@ def main(words):
     for path in files:
         if memory:
             content = pathlib.Path(path).read_bytes()
-            lines, read = [f'{path}+{at:#x}: {kind}, {width} bytes an entry' for kind, width, at in lists_in(content)], len(content)
+            lines, read = [f'{path}+{at:#x}: {kind}, entries of width {width}' for kind, width, at in lists_in(content)], len(content)
         else:
             lines, read = found_in(path)
         if not read:

@@ -53,7 +53,7 @@ mkdir "$work/stacks"
 "$work/call_stacks" "$work/stacks"
 # the control has one, and it must be found
 python3 tools/find_list.py --memory "$work/stacks/control.stack" > "$work/control.out" || true
-grep -q ': lengths, 1 bytes an entry$' "$work/control.out"
+grep -q ': lengths, entries of width 1$' "$work/control.out"
 rm "$work/stacks/control.stack"
 python3 tools/find_list.py --memory "$work"/stacks/*.stack
 
