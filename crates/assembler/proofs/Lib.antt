@@ -1,0 +1,11 @@
+pub mod Addresses
+pub mod Checking
+pub mod Collecting
+pub mod Judging
+pub mod Keys
+pub mod Lining
+pub mod Placing
+pub mod Settling
+pub mod Shaping
+pub mod Splitting
+pub mod Walking

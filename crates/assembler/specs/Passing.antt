@@ -1,0 +1,43 @@
+-- What the passes leave and need. Assumes nothing.
+use Prim.Native.Nat.{ℕ, zero, suc, _+_, _≤_, _<_}
+use mathlib.Core.Path.{_≡_}
+use mathlib.Core.List.{List, [], _∷_, map}
+use lib.ListN.{length, drop, take}
+use Rattle.operand.specs.Text.{lines, tokens}
+use Rattle.operand.specs.Read.{Held, namesAt, upToLf}
+use Rattle.assembler.specs.Statement.{Statement, statement}
+use Rattle.assembler.specs.Program as Program
+use Rattle.assembler.specs.Program.{Above, end, first, left, line, mislabelled, misplaced, program, refusal, start, unread}
+use Rattle.assembler.specs.Read.{Tabled}
+use Rattle.assembler.specs.declared.assemble.Answer.{Answer}
+use Rattle.assembler.specs.declared.passes.Labels.{Labels}
+
+abbrev pub lineEnd : List ℕ → ℕ → ℕ
+lineEnd text at = at + length (upToLf (drop at text))
+
+-- the first pass: the labels' words stand at these places, if every line can be read
+pub record Collected (text starts : List ℕ) (r : Labels) : Type 0 where
+  pub line : r .line ≡ first unread start 1 (program text)
+  pub held : Held text starts (r .count)
+  pub room : length starts ≡ 32768
+  pub names : r .line ≡ 0 → end start (program text) .names ≡ namesAt text starts (r .count)
+
+-- every line can be read, and the labels' words stand at these places
+pub record Settled (text starts addresses : List ℕ) (all : ℕ) : Type 0 where
+  pub short : length text ≤ 65535
+  pub table : Tabled text starts addresses all
+  pub most : length addresses ≤ 32768
+  pub names : end start (program text) .names ≡ namesAt text starts all
+  pub read : first unread start 1 (program text) ≡ 0
+
+-- every line has its place, and the labels these addresses
+pub record Placed (text starts addresses : List ℕ) (all : ℕ) : Type 0 where
+  pub settled : Settled text starts addresses all
+  pub placed : first misplaced start 1 (program text) ≡ 0
+  pub addressed : end start (program text) .addresses ≡ take all addresses
+
+-- an answer with its number and its line, and the lent bytes as it leaves them
+pub record Answered (answer : Program.Answer) (out : List ℕ) (r : Answer) (after : List ℕ) : Type 0 where
+  pub number : r .refusal ≡ refusal answer
+  pub line : r .line ≡ line answer
+  pub bytes : after ≡ left answer out

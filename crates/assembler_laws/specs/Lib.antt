@@ -1,0 +1,5 @@
+pub mod Fixed
+pub mod Grammar
+pub mod Lines
+pub mod Printed
+pub mod Unique

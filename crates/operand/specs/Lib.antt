@@ -1,0 +1,4 @@
+pub mod Text
+pub mod Words
+pub mod Operand
+pub mod Read
