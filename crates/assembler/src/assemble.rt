@@ -13,7 +13,7 @@ use crate::passes::write_lines;
 // The refusal, 0 for none, and its line.
 pub struct Answer {
     pub refusal: u8,
-    pub line: usize,
+    pub line: u32,
 }
 
 // Fills the result with NOPs.

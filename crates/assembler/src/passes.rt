@@ -63,7 +63,7 @@ fn store(list: &mut [u8], at: usize, value: u8, wanted: bool)
 
 // What the first pass finds: the first line that cannot be read, and how many labels there are.
 pub struct Labels {
-    pub line: usize,
+    pub line: u32,
     pub count: usize,
 }
 
@@ -72,7 +72,7 @@ pub(crate) fn read_lines(text: &[u8], starts: &mut [u16], none: &[u16]) -> Label
     ensures { λ r. ⌜ Collected (now (text .entry)) (now (starts .exit)) r ⌝ }
 {
     let mut at = 0;
-    let mut number = 1;
+    let mut number: u32 = 1;
     let mut count = 0;
     loop {
         let l = read_line(text, at, none, none, 0, 0);
@@ -115,12 +115,12 @@ fn counted(count: usize, wanted: bool) -> usize
     count
 }
 
-pub(crate) fn check_labels(text: &[u8], starts: &[u16], none: &[u16], all: usize) -> usize
+pub(crate) fn check_labels(text: &[u8], starts: &[u16], none: &[u16], all: usize) -> u32
     requires { ⌜ Settled (now text) (now starts) (now none) all ⌝ }
     ensures { λ r. ⌜ r ≡ first (mislabelled (end start (program (now (text .entry))) .names)) start 1 (program (now (text .entry))) ⌝ }
 {
     let mut at = 0;
-    let mut number = 1;
+    let mut number: u32 = 1;
     let mut count = 0;
     loop {
         let l = read_line(text, at, starts, none, count, all);
@@ -199,13 +199,13 @@ pub(crate) fn place_lines(
     addresses: &mut [u16],
     used: &mut [u8],
     all: usize,
-) -> usize
+) -> u32
     requires { ⌜ Settled (now text) (now starts) (now addresses) all ⌝ }
     requires { ⌜ now used ≡ replicate 4096 0 ⌝ }
     ensures { λ r. ⌜ (r ≡ first misplaced start 1 (program (now (text .entry)))) × (r ≡ 0 → Placed (now (text .entry)) (now (starts .entry)) (now (addresses .exit)) all) ⌝ }
 {
     let mut at = 0;
-    let mut number = 1;
+    let mut number: u32 = 1;
     let mut count = 0;
     let mut address = 0;
     loop {
@@ -256,12 +256,12 @@ fn misfits(size: usize, shape: u8, address: usize, plus: u64, minus: u64) -> boo
     value / 2048 != moved as u64 / 2048
 }
 
-pub(crate) fn check_values(text: &[u8], starts: &[u16], addresses: &[u16], all: usize) -> usize
+pub(crate) fn check_values(text: &[u8], starts: &[u16], addresses: &[u16], all: usize) -> u32
     requires { ⌜ Placed (now text) (now starts) (now addresses) all ⌝ }
     ensures { λ r. ⌜ r ≡ first (misfit (end start (program (now (text .entry))))) start 1 (program (now (text .entry))) ⌝ }
 {
     let mut at = 0;
-    let mut number = 1;
+    let mut number: u32 = 1;
     let mut count = 0;
     let mut address = 0;
     loop {

@@ -12,6 +12,7 @@ use Rattle.checker.specs.Ways.{WayAnswers, wayRefusal}
 use Rattle.checker.specs.declared.way.Listing.{Listing}
 use Rattle.checker.specs.declared.way.Listing.the-variants.{Listed, MaskPasses, BadList}
 use Rattle.checker.specs.declared.way.Listing.the-variants.{BadMask as NoMask}
+use Rattle.assembler.specs.Program.{Answer, left, line, refusal}
 use Rattle.script.specs.Reports.{Applied}
 use Rattle.script.specs.declared.Checked.{Checked}
 
@@ -67,3 +68,12 @@ scriptNumber k = k .number + k .offset * 2 ^ 32
 pub record Ran (a : Applied) (new : List ℕ) (r : ℕ) : Type 0 where
   pub number : r ≡ scriptNumber (a .answer)
   pub bytes : new ≡ a .bytes
+
+-- document 02, wish 4: "Answers .. each with the first such line": the number in byte 0, the line in bytes 4 to 7
+abbrev pub textNumber : Answer → ℕ
+textNumber a = refusal a + line a * 2 ^ 32
+
+-- what `ht1130_assemble` leaves: the number of the text's answer, and the lent bytes
+pub record Assembled (a : Answer) (old new : List ℕ) (r : ℕ) : Type 0 where
+  pub number : r ≡ textNumber a
+  pub bytes : new ≡ left a old
