@@ -2,11 +2,11 @@
 // and instruction. A mask of another length, or none, gives `refused 1`. What it prints is decided by the proved functions of `checker` and
 // `mnemonic`; here a file is read and lines are written.
 ghost use Prim.Native.Nat.{_*_, _≤_};
-ghost use Rattle.io.specs.Counts.{Counts};
 use checker::check::Verdict;
 use checker::check::check;
 use checker::way::Listing;
 use checker::way::way;
+use files::read_file;
 use isa::Instruction;
 use isa::decoder::Decoded;
 use isa::decoder::decode;
@@ -120,19 +120,6 @@ fn checkmask(mask: &[u8]) {
         Verdict::BadMask => put(b"refused 1\n"),
         Verdict::BadMarks => put(b"refused 2\n"),
     }
-}
-
-// How many bytes of a file, at most as many as the buffer has. A missing file counts as empty.
-fn read_file(path: &[u8], buf: &mut [u8]) -> usize
-    ensures { λ r. ⌜ Counts r (now (buf .exit)) ⌝ }
-{
-    let fd = os::open_read(path);
-    if fd < 0 {
-        return io::count(0, buf);
-    }
-    let n = io::read_full(fd, buf);
-    libc::close(fd);
-    n
 }
 
 // One byte more than a mask has is read, so that a longer file is refused.

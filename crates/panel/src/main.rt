@@ -1,6 +1,6 @@
 // `panel`: reads mask.bin and script.bin and prints each report as a line of hexadecimal digits, or one line `refused N at P`.
 // What it prints is made by the proved functions of `script`; here files are read and lines are written.
-ghost use Rattle.io.specs.Counts.{Counts};
+use files::read_file;
 use libc::STDOUT_FILENO;
 use machine::Machine;
 use script::Checked;
@@ -10,19 +10,6 @@ use script::hex::hex_line;
 
 // Room for more records than 65,535 bytes can hold: the program has a buffer of its own and never meets refusal 9.
 const ROOM: usize = 3145728;
-
-// How many bytes of a file, at most as many as the buffer has. A missing file counts as empty.
-fn read_file(path: &[u8], buf: &mut [u8]) -> usize
-    ensures { λ r. ⌜ Counts r (now (buf .exit)) ⌝ }
-{
-    let fd = os::open_read(path);
-    if fd < 0 {
-        return io::count(0, buf);
-    }
-    let n = io::read_full(fd, buf);
-    libc::close(fd);
-    n
-}
 
 fn put_refused(answer: Checked) {
     io::write_all(STDOUT_FILENO, b"refused ");
