@@ -143,6 +143,7 @@ def codes():
     return result
 
 
+@lru_cache(maxsize=None)
 def field_runs(pattern):
     """Fields as (letter, first, width): runs of one letter in the pattern."""
     runs = []
@@ -154,7 +155,7 @@ def field_runs(pattern):
             runs[-1] = (letter, first, width + 1)
         else:
             runs.append((bit, i, 1))
-    return runs
+    return tuple(runs)
 
 
 def field_limit(letter, width):

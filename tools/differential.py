@@ -2,95 +2,32 @@
 
 First the stored cases of tests/panel and tests/checkmask and the demonstration, then chance: masks
 and scripts, good and damaged, through target/bin/panel; masks through target/bin/checker_main and
-target/bin/checkmask. Always the same cases. At the first difference the case is saved under
-target/differential and the exit status is 1.
-Build the programs first: rt check panel checker_main checkmask
+target/bin/checkmask; then the assembler's (assembler_differential.py). Always the same cases. At the
+first difference the case is saved under target/differential and the exit status is 1.
+Build the programs first: rt check panel checker_main checkmask assemble
 """
 
 import collections
 import itertools
 import multiprocessing
-import os
-import pathlib
 import random
 import re
-import shutil
-import subprocess
-import sys
-import tempfile
 
 import paths  # noqa: F401
+import assembler_differential
 import checker_cases
 import isa_table
 import make_panel_cases
 import reference
+from comparing import BIN, ROOT, compare, differs, run_program, start, stop
 from panel_input import int_pin, pins, power_on, record, res, run, tmclk, two, write
 
-ROOT = pathlib.Path(__file__).resolve().parent.parent
-PANEL = ROOT / 'target' / 'bin' / 'panel'
-CHECKER = ROOT / 'target' / 'bin' / 'checker_main'
-CHECKMASK = ROOT / 'target' / 'bin' / 'checkmask'
-SAVED = ROOT / 'target' / 'differential'
+PANEL = BIN / 'panel'
+CHECKER = BIN / 'checker_main'
+CHECKMASK = BIN / 'checkmask'
 LONGEST = make_panel_cases.LONGEST
-SECONDS = 60        # for one run of a program
 
 met = collections.Counter()     # what the panel cases met, by name
-
-
-# ---------------------------------------------------------------------------
-# Running and comparing
-# ---------------------------------------------------------------------------
-
-def stop(text):
-    print(f'differential: {text}')
-    sys.exit(1)
-
-
-def run_program(command, files):
-    """What a program prints, run in a temporary folder with these files; None is a missing one."""
-    with tempfile.TemporaryDirectory() as folder:
-        for name, content in files.items():
-            if content is not None:
-                (pathlib.Path(folder) / name).write_bytes(content)
-        try:
-            done = subprocess.run(command, cwd=folder, stdin=subprocess.DEVNULL, stdout=subprocess.PIPE,
-                                  timeout=SECONDS, check=False)
-        except subprocess.TimeoutExpired:
-            return b'', f'no end within {SECONDS} seconds'
-        return done.stdout, f'exit status {done.returncode}' if done.returncode else None
-
-
-def save(files):
-    shutil.rmtree(SAVED, ignore_errors=True)
-    SAVED.mkdir(parents=True)
-    for name, content in files.items():
-        if content is not None:
-            (SAVED / name).write_bytes(content)
-
-
-def first_difference(expected, got):
-    want, have = expected.split(b'\n'), got.split(b'\n')
-    for number in range(max(len(want), len(have))):
-        pair = [lines[number] if number < len(lines) else None for lines in (want, have)]
-        if pair[0] != pair[1]:
-            texts = ['no line' if line is None else repr(line[:120].decode('latin-1')) for line in pair]
-            return f'line {number + 1}: expected {texts[0]}, got {texts[1]}'
-    return 'no line differs'
-
-
-def differs(name, files, got, why, expected=None):
-    save({**files, 'expected': expected, 'got': got})
-    stop(f'{name}: {"; ".join(why)}; saved under target/differential')
-
-
-def compare(name, command, files, expected):
-    got, trouble = run_program(command, files)
-    if got == expected and not trouble:
-        return
-    why = [trouble] if trouble else []
-    if got != expected:
-        why.append(first_difference(expected, got))
-    differs(name, files, got, why, expected)
 
 
 # ---------------------------------------------------------------------------
@@ -111,9 +48,11 @@ def demonstrations():
     """How many ran: through ./panel and ./checkmask, the last one on a file that is missing."""
     demo = ROOT / 'demo'
     compare('demo', [ROOT / 'panel', demo / 'mask.bin', demo / 'script.bin'], {}, (demo / 'expected').read_bytes())
+    compare('demo/pump.bin', [ROOT / 'panel', demo / 'pump.bin', demo / 'pump_script.bin'], {}, (demo / 'pump_expected').read_bytes())
+    compare('demo/pump.bin', [ROOT / 'checkmask', demo / 'pump.bin'], {}, b'passed\n')
     compare('demo/forbidden.bin', [ROOT / 'checkmask', demo / 'forbidden.bin'], {}, (demo / 'forbidden').read_bytes())
     compare('demo, no such file', [ROOT / 'checkmask', demo / 'none'], {}, b'refused 1\n')
-    return 3
+    return 5
 
 
 # ---------------------------------------------------------------------------
@@ -557,16 +496,14 @@ def random_ways():
 
 
 def main():
-    for program in (PANEL, CHECKER, CHECKMASK):
-        if not os.access(program, os.X_OK):
-            stop(f'{program.relative_to(ROOT)} is missing; build it by: rt check panel checker_main checkmask')
-    shutil.rmtree(SAVED, ignore_errors=True)
+    start(PANEL, CHECKER, CHECKMASK, assembler_differential.ASSEMBLE)
     panels = stored_cases(PANEL, ('mask.bin', 'script.bin')) + random_panel_cases()
     checks = stored_cases(CHECKMASK, ('mask.bin',)) + demonstrations()
     masks = random_masks()
     ways, failing = random_ways()
     print(f'differential: {panels} panel cases, {checks} of checkmask and the demonstrations, {masks} masks, '
           f'{ways} masks with {failing} ways, 0 differences')
+    assembler_differential.compare_all()
 
 
 if __name__ == '__main__':

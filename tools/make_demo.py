@@ -1,19 +1,28 @@
 """Writes the demonstration: demo/mask.bin, demo/script.bin, and demo/expected by the reference model;
-then demo/forbidden.bin and demo/forbidden, a mask that fails and what `checkmask` says of it.
+then demo/forbidden.bin and demo/forbidden, a mask that fails and what `checkmask` says of it; and of
+demo/pump.asm, a text by hand, the mask that `assemble` makes, demo/pump.bin, a script for it,
+demo/pump_script.bin, and demo/pump_expected.
 
 The panel counts pulses on INT. Its digit is on the display: segments a, b, c, d are bits 0 to 3 of
 E0h, segments e, f, g bits 0 to 2 of E1h. A pulse wakes it; some time after the last one its timer
 sends it back to sleep. From 9 it goes to 0, with a sound.
+
+The pump doses: a press of the button, PM bit 0, starts it (PA bit 0), each stroke is a pulse on INT,
+and after five it stops. If strokes stay away, the timer trips it: PA bit 3 and a sound. Its digit is
+the count of strokes. The text has no comments and no data: a label before ORG names a number, and a
+table's bytes are written as the instructions that have these codes.
 """
 
 import pathlib
 
 import paths  # noqa: F401
+import assembler
 import reference
 from make_checkmask_cases import shortest_ways
-from panel_input import assemble, int_pin, power_on, run
+from panel_input import assemble, int_pin, pins, power_on, run
 
 FOLDER = pathlib.Path(__file__).resolve().parent.parent / 'demo'
+PUMP = FOLDER / 'pump.asm'
 
 # Segments of each digit, bit 0 for a to bit 6 for g.
 SEGMENTS = [0x3F, 0x06, 0x5B, 0x4F, 0x66, 0x6D, 0x7D, 0x07, 0x7F, 0x6F]
@@ -89,6 +98,36 @@ def shown(line):
     return SEGMENTS.index(pattern) if pattern in SEGMENTS else None
 
 
+# The button is pressed and let go.
+PRESS = pins(14, 15, 15) + run(60) + pins(15, 15, 15)
+STROKE = PULSE + run(60)
+
+
+def pump_script():
+    out = power_on(rate=5) + run(60)            # stopped: digit 0
+    out += PRESS + run(60)                      # running
+    out += 5 * STROKE                           # digits 1 to 5; stopped by the last
+    out += STROKE                               # one that comes late does not count
+    out += PRESS + 2 * STROKE + run(1000)       # running, digits 1 and 2, then tripped
+    return out + PRESS                          # running again: digit 0
+
+
+def pump_files():
+    number, line, image = assembler.assemble(PUMP.read_bytes())
+    assert not number, (number, line)
+    assert [image[0xF00 + 16 * digit] for digit in range(len(SEGMENTS))] == SEGMENTS
+    assert reference.checker(image)[1] == 'passed', reference.checker(image)[1]
+    lines = reference.panel(image, pump_script())
+    reports = [bytes.fromhex(one) for one in lines]
+    states = [(report[13], report[14], shown(one)) for report, one in zip(reports, lines)]     # PA, sound, digit
+    after = [1, 5] + [5 + 3 * k for k in range(1, 7)] + [26, 29, 32, 33, 36]
+    want = [(0, 16, 0), (1, 16, 0), (1, 16, 1), (1, 16, 2), (1, 16, 3), (1, 16, 4), (0, 16, 5), (0, 16, 5),
+            (1, 16, 0), (1, 16, 1), (1, 16, 2), (8, 3, 2), (1, 16, 0)]
+    assert [states[k] for k in after] == want, states
+    return {PUMP: PUMP.read_bytes(), FOLDER / 'pump.bin': image, FOLDER / 'pump_script.bin': pump_script(),
+            FOLDER / 'pump_expected': ''.join(one + '\n' for one in lines).encode()}
+
+
 def files():
     lines = reference.panel(mask(), script())
     digits = [shown(line) for line in lines]
@@ -100,7 +139,7 @@ def files():
     assert shortest_ways(forbidden) == 1
     return {FOLDER / 'mask.bin': mask(), FOLDER / 'script.bin': script(),
             FOLDER / 'expected': ''.join(line + '\n' for line in lines).encode(), FOLDER / 'forbidden.bin': forbidden,
-            FOLDER / 'forbidden': ''.join(line + '\n' for line in reference.checkmask(forbidden)).encode()}
+            FOLDER / 'forbidden': ''.join(line + '\n' for line in reference.checkmask(forbidden)).encode(), **pump_files()}
 
 
 def main():

@@ -1,0 +1,2 @@
+INC A
+DEC A

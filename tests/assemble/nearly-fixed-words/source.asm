@@ -1,0 +1,4 @@
+R5: JMP JA4
+JA4: MOV A,R5
+H: JMP XH
+XH: JMP H

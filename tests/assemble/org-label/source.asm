@@ -1,0 +1,4 @@
+L: ORG 10H
+JMP L
+ORG L+8
+M: JMP M

@@ -1,0 +1,2 @@
+X: NOP
+R4: NOP

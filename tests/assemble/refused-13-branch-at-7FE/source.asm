@@ -1,0 +1,2 @@
+ORG 7FEH
+JZ A,010H

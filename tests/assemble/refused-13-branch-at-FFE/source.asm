@@ -1,0 +1,2 @@
+ORG 0FFEH
+JZ A,810H

@@ -1,0 +1,4 @@
+MOV A,16
+JC 800H
+ORG 0
+NOP

@@ -1,0 +1,4 @@
+NOP
+
+ORG 0
+NOP

@@ -1,0 +1,4 @@
+JMP 0
+NOP
+ORG 1
+NOP

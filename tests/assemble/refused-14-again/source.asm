@@ -1,0 +1,3 @@
+X: NOP
+Y: NOP
+X: NOP

@@ -1,0 +1,3 @@
+ORG 4096
+MOV A,16
+JMP X

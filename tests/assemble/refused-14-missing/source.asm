@@ -1,0 +1,2 @@
+HERE: NOP
+JMP HER

@@ -1,0 +1,2 @@
+ORG X
+X: NOP

@@ -1,0 +1,2 @@
+NOP
+X: ORG X
