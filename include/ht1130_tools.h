@@ -1,19 +1,20 @@
 /*
  * ht1130_tools.h - the proved mask checker with the way to a forbidden place,
- * scripts and instructions of the HT1130, for C: what a bench links beside the
- * engine of ht1130.h.
+ * scripts, instructions and the assembler of the HT1130, for C: what a bench
+ * links beside the engine of ht1130.h.
  *
  * Link with libht1130_tools.a, which `rt staticlib ht1130_tools` writes (x86-64),
  * beside libht1130.a or alone: neither archive needs the other. What ht1130.h
  * says of pointers and refusals holds here too.
  *
- * Stack. ht1130_check and ht1130_way take about 62 KB each, the other calls under
- * 4 KB. Of the C library only memcpy and memset are used.
+ * Stack. ht1130_check and ht1130_way take about 62 KB each, ht1130_assemble under
+ * 256 KB, the other calls under 4 KB. Of the C library only memcpy and memset are
+ * used.
  *
  * Refusals. The lowest number that holds is answered; of a script 1, then 6 or 7
- * of the first bad record, then 8, 3, 4, 9.
+ * of the first bad record, then 8, 3, 4, 9; of a text 2, 12, 14, then 13.
  *   1 mask not HT1130_MASK bytes
- *   2 marks not HT1130_MASK bytes
+ *   2 marks or assembled mask not HT1130_MASK bytes
  *   3 nibble other than an option over 15, INT over 1; instruction field outside
  *     its pattern
  *   4 option outside its list, wake nibbles too
@@ -24,6 +25,10 @@
  *   9 report buffer under HT1130_REPORT bytes for each record
  *  10 the mask passes: there is no way to list
  *  11 list under three bytes for each pair of the way
+ *  12 line of a text that cannot be read, or text over HT1130_TEXT bytes
+ *  13 ORG outside 0 to 4,095, byte past address 4,095 or written twice; after
+ *     these, operand outside its field, or conditional branch that does not fit
+ *  14 label missing, not above its ORG, or defined again
  */
 #ifndef HT1130_TOOLS_H
 #define HT1130_TOOLS_H
@@ -34,15 +39,16 @@
 extern "C" {
 #endif
 
-enum { HT1130_SCRIPT = 65535, HT1130_WAY = 36864 };
+enum { HT1130_SCRIPT = 65535, HT1130_WAY = 36864, HT1130_TEXT = 65535 };
 
 /* The answers are a number of eight bytes, taken apart by these. */
-#define HT1130_REFUSAL(answer) ((uint8_t)(answer))             /* 0, or the refusal: then all else is 0 but the offset */
+#define HT1130_REFUSAL(answer) ((uint8_t)(answer))             /* 0, or the refusal: then all else is 0 but the offset or line */
 #define HT1130_FAULT(answer) ((uint8_t)((answer) >> 8))        /* ht1130_check, ht1130_read */
 #define HT1130_LEVEL(answer) ((uint8_t)((answer) >> 16))       /* ht1130_check */
 #define HT1130_ADDRESS(answer) ((uint16_t)((answer) >> 32))    /* ht1130_check */
 #define HT1130_COUNT(answer) ((uint16_t)((answer) >> 32))      /* ht1130_way */
 #define HT1130_OFFSET(answer) ((uint16_t)((answer) >> 32))     /* ht1130_check_script, ht1130_run_script */
+#define HT1130_LINE(answer) ((uint32_t)((answer) >> 32))       /* ht1130_assemble */
 
 /*
  * Checks a mask and writes its 4,096 mark bytes: 1 the code at this address may
@@ -134,6 +140,24 @@ enum {
     HT1130_JA0, HT1130_JA1, HT1130_JA2, HT1130_JA3, HT1130_JNZ_R0, HT1130_JNZ_R1, HT1130_JZ_A, HT1130_JNZ_A,
     HT1130_JC, HT1130_JNC, HT1130_JTMR, HT1130_JNZ_R4
 };
+
+/*
+ * Assembles a text into HT1130_MASK bytes: each line's at its address, 3Eh
+ * elsewhere. The answer is then 0. Else it has the refusal (2, 12, 13 or 14) and
+ * the first such line, counted from 1 (0 for 2, 1 for a text that is too long),
+ * and `out` is as it was.
+ *
+ * Lines end in LF, which the last may lack; the first address is 0. A line is
+ * blank, or `LABEL:` or none and then a line of the data sheet's instruction
+ * summary or `ORG operand`. Letters are upper case, spaces free, one at least
+ * between two words. A label is a letter, then letters or digits, and no word of
+ * the summary (such as MOV, A, LOOP) nor ORG; on an ORG line it has the new
+ * address. An operand is a number up to 65,535 (decimal, or hexadecimal ending in
+ * H; it starts with a digit), a label, or sums and differences of operands, with
+ * parentheses up to 16 deep. A conditional branch fits where its target has the
+ * bit 11 of the address after it.
+ */
+uint64_t ht1130_assemble(const uint8_t *text, size_t text_len, uint8_t *out, size_t out_len);
 
 #ifdef __cplusplus
 }

@@ -1,8 +1,8 @@
 #!/usr/bin/env bash
 # Tests both libraries from C and Rust: header, record layout, what the archives
-# hold, examples, and a comparison with a plain engine. Needs libht1130.a and
-# libht1130_tools.a, in target/staticlib or in HT1130_LIB_DIR (from the top of
-# the repository, or absolute).
+# hold, examples, and a comparison with a plain engine and assembler. Needs
+# libht1130.a and libht1130_tools.a, in target/staticlib or in HT1130_LIB_DIR
+# (from the top of the repository, or absolute).
 set -euo pipefail
 cd "$(dirname "$0")/.."
 
@@ -33,7 +33,7 @@ done
 say "archives: each exports its own functions and no others"
 exports() { nm -g --defined-only "$HT1130_LIB_DIR/lib$1.a" | awk '$2 == "T" || $2 == "W" { print $3 }' | sort; }
 diff <(printf 'ht1130_%s\n' apply power_on report) <(exports ht1130)
-diff <(printf 'ht1130_%s\n' check check_script read run_script way write) <(exports ht1130_tools)
+diff <(printf 'ht1130_%s\n' assemble check check_script read run_script way write) <(exports ht1130_tools)
 for name in ht1130 ht1130_tools; do
     # of the C library only these two
     nm -u "$HT1130_LIB_DIR/lib$name.a" | awk '$1 == "U" && $2 != "memcpy" && $2 != "memset" { print; bad = 1 } END { exit bad }'
@@ -64,6 +64,16 @@ diff examples/segments.out "$work/segments.out"
 "$work/segments" demo/forbidden.bin > "$work/segments_forbidden.out"    # a mask that fails: the way
 diff examples/segments_forbidden.out "$work/segments_forbidden.out"
 
+say "examples/assemble.c"
+gcc -std=c11 -O2 -Wall -Wextra -Werror -I include -o "$work/assemble" examples/assemble.c "$HT1130_LIB_DIR/libht1130_tools.a"
+"$work/assemble" > "$work/assemble.out"
+diff examples/assemble.out "$work/assemble.out"
+printf 'IDLE: JMP IDLE\n JMP THERE\n' > "$work/refused.asm"             # a label that is missing
+diff <(echo 'refused 14 at line 2') <("$work/assemble" "$work/refused.asm")
+printf 'JMP IDLE\n ORG 800H\nIDLE: RET' > "$work/forbidden.asm"         # a mask that fails
+"$work/assemble" "$work/forbidden.asm" > "$work/assemble_forbidden.out"
+diff examples/assemble_forbidden.out "$work/assemble_forbidden.out"
+
 say "rust/ht1130"
 cargo_in rust/ht1130 test --offline --release --quiet
 
@@ -74,7 +84,7 @@ diff examples/check_and_run.out "$work/check_and_run.out"
 target/cargo/release/check_and_run demo/forbidden.bin demo/script.bin > "$work/check_and_run_forbidden.out"
 diff examples/check_and_run_forbidden.out "$work/check_and_run_forbidden.out"
 
-say "bench: the plain engine's own tests, then the library against it"
+say "bench: the plain engine's and assembler's own tests, then the libraries against them"
 cargo_in bench test --offline --release --quiet
 cargo_in bench build --offline --release --quiet
 target/cargo/release/bench diff --seed 1130

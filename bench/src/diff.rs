@@ -1,10 +1,10 @@
-//! Differential tests: the library against the plain engine, every field and
-//! every byte.
+//! Differential tests: the library against the plain engine and assembler, every
+//! field and every byte.
 
 use crate::library::{self, number, packed, to_plain};
 use crate::plain::{self, Mask, IMAGE, MASK, REPORT};
 use crate::prng::Prng;
-use crate::{masks, script};
+use crate::{masks, plain_asm, script, texts};
 use ht1130::WAY;
 use std::fmt::Debug;
 
@@ -18,7 +18,7 @@ struct Sort {
     case: fn(&mut Prng, u64) -> Outcome,
 }
 
-const SORTS: [Sort; 13] = [
+const SORTS: [Sort; 19] = [
     Sort {
         name: "instructions read",
         cases: |_| 256,
@@ -83,6 +83,36 @@ const SORTS: [Sort; 13] = [
         name: "scripts, longest",
         cases: |n| n / 100,
         case: script_longest,
+    },
+    Sort {
+        name: "texts, given",
+        cases: |_| (texts::ACCEPTED.len() + texts::REFUSED.len()) as u64,
+        case: text_given,
+    },
+    Sort {
+        name: "texts, accepted",
+        cases: |n| 2 * n,
+        case: text_accepted,
+    },
+    Sort {
+        name: "texts, damaged",
+        cases: |n| 5 * n,
+        case: text_damaged,
+    },
+    Sort {
+        name: "texts, careless",
+        cases: |n| 10 * n,
+        case: |prng, _| text_on_both(&texts::joined(&texts::careless(prng)), MASK),
+    },
+    Sort {
+        name: "texts, by chance",
+        cases: |n| 5 * n,
+        case: |prng, _| text_on_both(&texts::joined(&texts::soup(prng)), MASK),
+    },
+    Sort {
+        name: "texts, longest",
+        cases: |n| n / 50,
+        case: text_longest,
     },
 ];
 
@@ -924,4 +954,85 @@ fn script_longest(prng: &mut Prng, case: u64) -> Outcome {
         script.push(0);
     }
     script_on_both(&mask, &script, room)
+}
+
+// Texts
+
+fn text_on_both(text: &[u8], length: usize) -> Outcome {
+    let what = || {
+        let shown = &text[..text.len().min(4000)];
+        let shown = String::from_utf8_lossy(shown);
+        format!("text of {} bytes into {length}\n{shown}\n", text.len())
+    };
+    let mut out = Buffers::new(length);
+    let lent = text.to_vec();
+    let library = library::assemble(&lent, out.library());
+    let plain = plain_asm::assemble(text, out.plain());
+    same(what, library, packed::text(&plain))?;
+    out.same(what)?;
+    same(|| "text after it was assembled".into(), &lent[..], text)
+}
+
+/// The same, and both have to write this mask.
+fn text_to(text: &[u8], mask: &Mask) -> Outcome {
+    let mut out = [0; MASK];
+    let plain = plain_asm::assemble(text, &mut out);
+    if plain.is_err() || out != *mask {
+        let text = String::from_utf8_lossy(text);
+        return Err(format!("plain alone: {plain:?}, or another mask\n{text}"));
+    }
+    text_on_both(text, MASK)
+}
+
+fn text_given(_: &mut Prng, case: u64) -> Outcome {
+    let (text, number, line) = match texts::ACCEPTED.get(case as usize) {
+        Some((text, code)) => {
+            text_to(text.as_bytes(), &texts::mask_of(code))?;
+            (*text, 0, 0)
+        }
+        None => texts::REFUSED[case as usize - texts::ACCEPTED.len()],
+    };
+    text_on_both(text.as_bytes(), MASK)?;
+    let safe = match ht1130::assembled(text.as_bytes()) {
+        Ok(_) => (0, 0),
+        Err(refused) => (refused.refusal.number(), refused.line),
+    };
+    same(|| text.into(), safe, (number, line))
+}
+
+fn text_accepted(prng: &mut Prng, _: u64) -> Outcome {
+    let lines = pick(prng, &[1, 2, 5, 20, 60]);
+    let (lines, mask) = texts::program(prng, lines);
+    text_to(&texts::joined(&lines), &mask)
+}
+
+fn text_damaged(prng: &mut Prng, _: u64) -> Outcome {
+    let lines = pick(prng, &[1, 2, 5, 20, 40]);
+    let (mut lines, _) = texts::program(prng, lines);
+    for _ in 0..pick(prng, &[1, 1, 1, 2, 3, 6]) {
+        texts::damage(prng, &mut lines);
+    }
+    let length = if prng.below(20) == 0 {
+        pick(prng, &[0, 1, 4095, 4097, 8192, 65536 + 4096])
+    } else {
+        MASK
+    };
+    text_on_both(&texts::joined(&lines), length)
+}
+
+/// Up to one byte too many, and far too many.
+fn text_longest(prng: &mut Prng, case: u64) -> Outcome {
+    let longest = plain_asm::TEXT;
+    let (mut text, mask) = texts::of_length(prng, longest);
+    text_to(&text, &mask)?;
+    match case % 4 {
+        0 => text.push(pick(prng, b" \n?")),
+        1 => text.resize(longest + 1 + prng.below(70_000) as usize, b' '),
+        2 => text.truncate(longest - prng.below(40_000) as usize),
+        _ => {
+            let at = prng.below(longest as u64) as usize;
+            text[at] = prng.byte();
+        }
+    }
+    text_on_both(&text, pick(prng, &[MASK, MASK, MASK, 4095]))
 }

@@ -107,9 +107,15 @@ pub fn write(form: u8, a: u8, b: u16) -> u64 {
     unsafe { ffi::ht1130_write(form, a, b) }
 }
 
-/// The plain engine's answers as the header packs them.
+pub fn assemble(text: &[u8], out: &mut [u8]) -> u64 {
+    // SAFETY: both slices are valid for the call and cannot overlap.
+    unsafe { ffi::ht1130_assemble(text.as_ptr(), text.len(), out.as_mut_ptr(), out.len()) }
+}
+
+/// The plain answers as the header packs them.
 pub mod packed {
     use crate::plain::{Failure, Instruction, Refusal, ScriptRefusal};
+    use crate::plain_asm::TextRefusal;
 
     pub fn verdict(result: &Result<Option<Failure>, Refusal>) -> u64 {
         match result {
@@ -132,6 +138,13 @@ pub mod packed {
         match result {
             Err(r) => r.refusal as u64 | (r.offset as u64) << 32,
             Ok(_) => 0,
+        }
+    }
+
+    pub fn text(result: &Result<(), TextRefusal>) -> u64 {
+        match result {
+            Err(r) => r.refusal as u64 | (r.line as u64) << 32,
+            Ok(()) => 0,
         }
     }
 

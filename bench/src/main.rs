@@ -1,12 +1,14 @@
-//! Compares the proved library with a plain engine: what they do, and how fast.
+//! Compares the proved library with a plain engine and assembler: what they do, and how fast.
 
 mod diff;
 mod library;
 mod masks;
 mod plain;
+mod plain_asm;
 mod prng;
 mod script;
 mod speed;
+mod texts;
 
 use std::process::ExitCode;
 

@@ -1,16 +1,18 @@
-//! How fast the library is beside the plain engine: the same process, the same
-//! input, in turns, the least time of each.
+//! How fast the library is beside the plain engine and assembler: the same process,
+//! the same input, in turns, the least time of each.
 
 use crate::library::{self, packed, to_plain};
-use crate::masks;
 use crate::plain::{self, Mask, IMAGE, MASK, REPORT};
 use crate::prng::Prng;
 use crate::script::record;
+use crate::{masks, plain_asm, texts};
 use std::hint::black_box;
 use std::time::{Duration, Instant};
 
 /// Many short turns: others use the machine too.
 const TURNS: usize = 41;
+/// For the texts that should take longest.
+const FEW_TURNS: usize = 5;
 
 const OPTIONS: plain::Options = plain::Options {
     rate: 2,
@@ -57,6 +59,23 @@ pub fn run() {
     }
     way_row("long way", &masks::long_way());
     println!("aim: the way at most 2.5 times the check");
+    heading("plain ns", "library ns");
+    let name = format!(
+        "assemble, ordinary code, a line of {}",
+        texts::ORDINARY_LINES
+    );
+    text_row(
+        &name,
+        TURNS,
+        texts::ORDINARY_LINES as u64,
+        &texts::ordinary(),
+    );
+    println!("aim: at most 20 times plain");
+    heading("plain ms", "library ms");
+    for (name, text) in texts::worst() {
+        text_row(name, FEW_TURNS, 1_000_000, &text);
+    }
+    println!("aim: at most 2,000 ms each; the least of {FEW_TURNS} turns");
 }
 
 fn heading(one: &str, other: &str) {
@@ -80,14 +99,19 @@ fn pairs(mask: &Mask) -> u64 {
     marks.iter().map(|mark| mark.count_ones() as u64).sum()
 }
 
-fn row(
+fn row(name: &str, units: u64, one: impl FnMut() -> Duration, other: impl FnMut() -> Duration) {
+    row_of(TURNS, name, units, one, other);
+}
+
+fn row_of(
+    turns: usize,
     name: &str,
     units: u64,
     mut one: impl FnMut() -> Duration,
     mut other: impl FnMut() -> Duration,
 ) {
     let mut least = [Duration::MAX; 2];
-    for _ in 0..TURNS {
+    for _ in 0..turns {
         least[0] = least[0].min(one());
         least[1] = least[1].min(other());
     }
@@ -276,4 +300,29 @@ fn event_row(name: &str, event: fn(u32) -> (u16, [u8; 3])) {
         },
     );
     assert_eq!(to_plain(&theirs), ours, "{name}: the machines differ");
+}
+
+/// Units of so many to a text: its lines, or 1,000,000 for milliseconds.
+fn text_row(name: &str, turns: usize, units: u64, text: &[u8]) {
+    let (mut ours, mut theirs) = ([0; MASK], [0; MASK]);
+    let (mut our_answer, mut their_answer) = (Ok(()), 0);
+    row_of(
+        turns,
+        name,
+        units,
+        || {
+            ours.fill(0);
+            timed(|| our_answer = plain_asm::assemble(black_box(text), black_box(&mut ours)))
+        },
+        || {
+            theirs.fill(0);
+            timed(|| their_answer = library::assemble(black_box(text), black_box(&mut theirs)))
+        },
+    );
+    assert_eq!(
+        their_answer,
+        packed::text(&our_answer),
+        "{name}: the answers differ"
+    );
+    assert_eq!(theirs, ours, "{name}: the masks differ");
 }

@@ -1,5 +1,5 @@
 //! The Holtek HT1130, a 4-bit microcontroller with an LCD driver: a proved
-//! engine and mask checker.
+//! engine, mask checker and assembler.
 //!
 //! This crate is the Rust side of `ht1130.h` and `ht1130_tools.h`. It keeps no state and, but for
 //! [`reports`], allocates nothing: a call works on what it is lent. Bad input is
@@ -36,6 +36,8 @@ pub const SCRIPT: usize = 65535;
 /// Bytes of a list that no [`way`] is too long for: three for each of the 12,288
 /// pairs.
 pub const WAY: usize = 36864;
+/// The most bytes a text to assemble may have.
+pub const TEXT: usize = 65535;
 /// The timer rate that stands for the external clock.
 pub const EXTERNAL_CLOCK: u8 = 255;
 /// The sound channel that stands for off.
@@ -268,13 +270,14 @@ impl Machine {
 }
 
 /// Why a call was refused: the lowest number that holds. In a script the order
-/// is 1, then 6 or 7 of the first bad record, then 8, 3, 4, 9.
+/// is 1, then 6 or 7 of the first bad record, then 8, 3, 4, 9; in a text 2, 12,
+/// 14, 13.
 #[repr(u8)]
 #[derive(Clone, Copy, PartialEq, Eq, PartialOrd, Ord, Hash, Debug)]
 pub enum Refusal {
     /// The mask has not [`MASK`] bytes.
     MaskLength = 1,
-    /// The image, marks or report buffer has not its length.
+    /// The image, marks, report buffer or assembled mask has not its length.
     BufferLength = 2,
     /// A nibble over 15, INT over 1, or an operand outside its range.
     Value = 3,
@@ -294,10 +297,17 @@ pub enum Refusal {
     MaskPasses = 10,
     /// Less than three bytes of list for each pair of the way.
     ListLength = 11,
+    /// A line that cannot be read, or a text over [`TEXT`] bytes.
+    Syntax = 12,
+    /// An ORG outside the mask, a byte past its end or written twice; after
+    /// these, an operand outside its field or a branch that does not fit.
+    Range = 13,
+    /// A label missing, not above its ORG, or defined again.
+    Label = 14,
 }
 
 impl Refusal {
-    /// The number, 1 to 11.
+    /// The number, 1 to 14.
     pub const fn number(self) -> u8 {
         self as u8
     }
@@ -316,7 +326,10 @@ impl Refusal {
             9 => Refusal::ReportRoom,
             10 => Refusal::MaskPasses,
             11 => Refusal::ListLength,
-            _ => unreachable!("the library has refusals 1 to 11"),
+            12 => Refusal::Syntax,
+            13 => Refusal::Range,
+            14 => Refusal::Label,
+            _ => unreachable!("the library has refusals 1 to 14"),
         })
     }
 }
@@ -325,7 +338,7 @@ impl fmt::Display for Refusal {
     fn fmt(&self, f: &mut fmt::Formatter<'_>) -> fmt::Result {
         f.write_str(match self {
             Refusal::MaskLength => "mask is not 4,096 bytes",
-            Refusal::BufferLength => "image, marks or report buffer has the wrong length",
+            Refusal::BufferLength => "image, marks, report or mask buffer has the wrong length",
             Refusal::Value => "value out of range",
             Refusal::Option => "mask option outside its list",
             Refusal::Machine => "machine field or address out of range",
@@ -335,6 +348,9 @@ impl fmt::Display for Refusal {
             Refusal::ReportRoom => "report buffer too short for the script",
             Refusal::MaskPasses => "mask passes, so no way leads to a fault",
             Refusal::ListLength => "list too short for the way",
+            Refusal::Syntax => "text too long, or line that cannot be read",
+            Refusal::Range => "value, address or branch that does not fit",
+            Refusal::Label => "label missing, not above its ORG or defined again",
         })
     }
 }
@@ -357,6 +373,27 @@ impl fmt::Display for ScriptRefusal {
 }
 
 impl Error for ScriptRefusal {
+    fn source(&self) -> Option<&(dyn Error + 'static)> {
+        Some(&self.refusal)
+    }
+}
+
+/// Why a text was refused, and where.
+#[derive(Clone, Copy, PartialEq, Eq, Hash, Debug)]
+pub struct TextRefusal {
+    /// The reason.
+    pub refusal: Refusal,
+    /// The first such line, counted from 1; 0 where no line is to blame.
+    pub line: u32,
+}
+
+impl fmt::Display for TextRefusal {
+    fn fmt(&self, f: &mut fmt::Formatter<'_>) -> fmt::Result {
+        write!(f, "{} at line {}", self.refusal, self.line)
+    }
+}
+
+impl Error for TextRefusal {
     fn source(&self) -> Option<&(dyn Error + 'static)> {
         Some(&self.refusal)
     }
@@ -538,6 +575,12 @@ pub mod ffi {
         ) -> u64;
         pub fn ht1130_read(mask: *const u8, mask_len: usize, address: u16) -> u64;
         pub fn ht1130_write(form: u8, a: u8, b: u16) -> u64;
+        pub fn ht1130_assemble(
+            text: *const u8,
+            text_len: usize,
+            out: *mut u8,
+            out_len: usize,
+        ) -> u64;
     }
 }
 
@@ -769,4 +812,45 @@ pub fn write(form: u8, a: u8, b: u16) -> Result<Code, Refusal> {
         bytes: [part(answer, 2), part(answer, 3)],
         length: part(answer, 1),
     })
+}
+
+/// Assembles a text into a mask of [`MASK`] bytes: each line's bytes at its
+/// address, 3Eh elsewhere.
+///
+/// Lines end in LF, which the last may lack; the first address is 0. A line is
+/// blank, or `LABEL:` or none and then a line of the data sheet's instruction
+/// summary or `ORG operand`. Letters are upper case, spaces free, one at least
+/// between two words. A label is a letter, then letters or digits, and no word of
+/// the summary (such as MOV, A, LOOP) nor ORG; on an ORG line it has the new
+/// address. An operand is a number up to 65,535 (decimal, or hexadecimal ending in
+/// H; it starts with a digit), a label, or sums and differences of operands, with
+/// parentheses up to 16 deep. A conditional branch fits where its target has the
+/// bit 11 of the address after it.
+///
+/// Refused: `BufferLength` with line 0, then `Syntax`, `Label` and `Range`, each
+/// with the first such line; a text over [`TEXT`] bytes is `Syntax` at line 1.
+///
+/// ```
+/// use ht1130::MASK;
+///
+/// let mut mask = [0; MASK];
+/// ht1130::assemble(b"ORG 10H\nAGAIN: INC A\nJMP AGAIN\n", &mut mask)?;
+/// assert_eq!(mask[0x10..0x14], [0x31, 0xE0, 0x10, 0x3E]);
+/// # Ok::<(), ht1130::TextRefusal>(())
+/// ```
+pub fn assemble(text: &[u8], out: &mut [u8]) -> Result<(), TextRefusal> {
+    // SAFETY: both slices are valid for the call and cannot overlap.
+    let answer =
+        unsafe { ffi::ht1130_assemble(text.as_ptr(), text.len(), out.as_mut_ptr(), out.len()) };
+    accepted(part(answer, 0)).map_err(|refusal| TextRefusal {
+        refusal,
+        line: (answer >> 32) as u32,
+    })
+}
+
+/// The mask of a text, as [`assemble`] writes it.
+pub fn assembled(text: &[u8]) -> Result<[u8; MASK], TextRefusal> {
+    let mut out = [0; MASK];
+    assemble(text, &mut out)?;
+    Ok(out)
 }

@@ -101,6 +101,7 @@ fn c_and_rust_number_alike() {
         ("REPORT", REPORT),
         ("SCRIPT", ht1130::SCRIPT),
         ("WAY", ht1130::WAY),
+        ("TEXT", ht1130::TEXT),
     ];
     let numbers = kinds
         .into_iter()
