@@ -67,12 +67,12 @@ def stored_cases():
 
 
 def demonstration():
-    """The stored program through ./assemble, and a text that is refused: its exit status is not looked at."""
-    script, bad = ROOT / 'assemble', {'bad.asm': b'NOP\nNOP NOP\n', 'bad.bin': b'older'}
+    """The stored program through ./assemble, and a text that is refused, whose line the script shows."""
+    script, bad = ROOT / 'assemble', {'bad.asm': b'NOP\nNOP\tNOP\n', 'bad.bin': b'older'}
     got, trouble, left = run_in_folder([script, DEMO / 'pump.asm', 'pump.bin'], {})
     why = [trouble] * bool(trouble) + wrong(b'', got, {'pump.bin': (DEMO / 'pump.bin').read_bytes()}, left)
     got, _, left = run_in_folder([script, 'bad.asm', 'bad.bin'], bad)
-    why += wrong(b'refused 12 at line 2\n', got, bad, left)
+    why += wrong(b'refused 12 at line 2\nNOP^INOP\n', got, bad, left)
     if why:
         stop(f'./assemble: {"; ".join(why)}')
 
