@@ -7,8 +7,8 @@
  * beside libht1130.a or alone: neither archive needs the other. What ht1130.h
  * says of pointers and refusals holds here too.
  *
- * Stack. ht1130_check and ht1130_way take about 62 KB each, ht1130_assemble under
- * 256 KB, the other calls under 4 KB. Of the C library only memcpy and memset are
+ * Stack. ht1130_check and ht1130_way take about 62 KB each, ht1130_assemble about
+ * 140 KB, the other calls under 4 KB. Of the C library only memcpy and memset are
  * used.
  *
  * Refusals. The lowest number that holds is answered; of a script 1, then 6 or 7
