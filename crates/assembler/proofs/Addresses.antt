@@ -20,7 +20,8 @@ use Rattle.operand.specs.Read.{wordAt}
 use Rattle.operand.proofs.Texts.{both, case, differ, neither}
 use Rattle.assembler.specs.Forms.{digits, field, reaches, size}
 use Rattle.assembler.specs.Statement.{Statement, unreadable, blank, org, mnemonic}
-use Rattle.assembler.specs.Program.{Above, addressOf, bytes, end, first, fitting, ifLabelled, isIn, labelOf, meets, misfit, misplaced, named, next, program, sizeOf, span, start, within}
+use Rattle.assembler.specs.Program.{Above, addressOf, bytes, end, first, fitting, ifLabelled, isIn, labelOf, meets, misfit, misplaced, named}
+use Rattle.assembler.specs.Program.{next, program, sizeOf, span, start, within}
 use Rattle.assembler.specs.Shapes.{bytesIn, digitsIn, firsts, formAt, isFree, isMisfit, isTaken, listed, lowBytes, reachesIn, shapes, sizeIn}
 use Rattle.assembler.specs.Read.{Shows, Valued, broken, coded, empty, labelIn, origin}
 use Rattle.assembler.specs.declared.forms.Bytes.{Bytes}
@@ -52,7 +53,8 @@ unfolding next
 end-addresses s [] = sym (append-nil (s .addresses))
 end-addresses s (l ∷ ls) = end-addresses (next s l) ls ∙ append-assoc (s .addresses) (ifLabelled (labelOf l) (addressOf s l)) (gained (next s l) ls)
 
-pub first-addresses : (s : Above) (ls : List Statement) (all : ℕ) (addresses : List ℕ) → end s ls .addresses ≡ take all addresses → length (s .addresses) ≤ all
+pub first-addresses : (s : Above) (ls : List Statement) (all : ℕ) (addresses : List ℕ) → end s ls .addresses ≡ take all addresses → length
+    (s .addresses) ≤ all
     → s .addresses ≡ take (length (s .addresses)) addresses
 first-addresses s ls all addresses e h =
     sym (take-append-seam (s .addresses) (gained s ls)) ∙ ap (take (length (s .addresses))) (sym (end-addresses s ls) ∙ e)
@@ -66,24 +68,30 @@ same-many (some w) a = refl
 pub next-paired : (s : Above) (l : Statement) → length (s .addresses) ≡ length (s .names) → length (next s l .addresses) ≡ length (next s l .names)
 unfolding next
 next-paired s l e = length-append (s .addresses) (ifLabelled (labelOf l) (addressOf s l))
-    ∙ ap (λ (n : ℕ). n + length (ifLabelled (labelOf l) (addressOf s l))) e ∙ ap (λ (n : ℕ). length (s .names) + n) (same-many (labelOf l) (addressOf s l))
+    ∙ ap (λ (n : ℕ). n + length (ifLabelled (labelOf l) (addressOf s l))) e ∙ ap (λ (n : ℕ). length (s .names) + n)
+    (same-many (labelOf l) (addressOf s l))
     ∙ sym (length-append (s .names) (named (labelOf l)))
 
 -- ---- sizes
 pub size-most : (s : ℕ) → sizeIn s ≤ 2
-size-most s = case (eqb s 0) (λ a. rw a (omega arith)) (λ a. rw a (case (eqb s 1) (λ b. rw b (omega arith)) (λ b. rw b (case (eqb s 3) (λ d. rw d (omega arith)) (λ d. rw d (omega arith))))))
+size-most s = case (eqb s 0)
+    (λ a. rw a (omega arith))
+    (λ a. rw a (case (eqb s 1) (λ b. rw b (omega arith)) (λ b. rw b (case (eqb s 3) (λ d. rw d (omega arith)) (λ d. rw d (omega arith))))))
 
 some-size : (s : ℕ) → eqb s 0 ≡ false → 0 < sizeIn s
 some-size s a = rw a (case (eqb s 1) (λ b. rw b (omega arith)) (λ b. rw b (case (eqb s 3) (λ d. rw d (omega arith)) (λ d. rw d (omega arith)))))
 
 field-most : (s : ℕ) → 16 ^ digitsIn s ≤ 4096
-field-most s = case (ltb s 3) (λ a. rw a (omega arith)) (λ a. rw a (case (ltb s 5) (λ b. rw b (omega arith)) (λ b. rw b (case (ltb s 7) (λ d. rw d (omega arith)) (λ d. rw d (omega arith))))))
+field-most s = case (ltb s 3)
+    (λ a. rw a (omega arith))
+    (λ a. rw a (case (ltb s 5) (λ b. rw b (omega arith)) (λ b. rw b (case (ltb s 7) (λ d. rw d (omega arith)) (λ d. rw d (omega arith))))))
 
 -- ---- flags say what is written
 abbrev pub Flags : List ℕ → List ℕ → Type 0
 Flags written used = (a : ℕ) → a < 4096 → isIn written a ≡ not (eqb (getD used a 0) 0)
 
-free-size : (written used : List ℕ) → Flags written used → (at n : ℕ) → n ≤ 2 → (ltb 4096 (at + n) || meets written (span at n)) ≡ not (isFree used at n)
+free-size : (written used : List ℕ) → Flags written used → (at n : ℕ) → n ≤ 2 → (ltb 4096 (at + n) || meets written (span at n)) ≡ not
+    (isFree used at n)
 free-size written used f at zero h = case (leb (at + 0) 4096)
     (λ e. rw (e, le-ltb 4096 (at + 0) (leb-true (at + 0) 4096 e)) refl) (λ e. rw (e, lt-ltb 4096 (at + 0) (leb-false (at + 0) 4096 e)) refl)
 free-size written used f at (suc zero) h = case (leb (at + 1) 4096)
@@ -95,7 +103,8 @@ free-size written used f at (suc zero) h = case (leb (at + 1) 4096)
     one false = refl
 free-size written used f at (suc (suc zero)) h = case (leb (at + 2) 4096)
     (λ e. let u = leb-true (at + 2) 4096 e in
-    rw (e, le-ltb 4096 (at + 2) u, f at (omega arith), sym (add-one at), f (at + 1) (omega arith)) (two (eqb (getD used at 0) 0) (eqb (getD used (at + 1) 0) 0)))
+    rw (e, le-ltb 4096 (at + 2) u, f at (omega arith), sym (add-one at), f (at + 1) (omega arith))
+    (two (eqb (getD used at 0) 0) (eqb (getD used (at + 1) 0) 0)))
     (λ e. rw (e, lt-ltb 4096 (at + 2) (leb-false (at + 2) 4096 e)) refl)
   where
     two : (a b : Bool) → (not a || (not b || false)) ≡ not (not (not a) && not (not b))
@@ -138,11 +147,13 @@ module _ {text : List ℕ} {above all : List (List ℕ)} {addresses : List ℕ} 
         by : Shows text above all addresses st r → misplaced s st ≡ true
         by (broken e b) = absurd (differ (sym b ∙ readable))
         by (empty e b f l m) = absurd (differ (sym (rw f refl) ∙ h))
-        by (origin ts e b f v p) = rw e (rw (plus-here ts, minus-here ts, sym (v .added), sym (v .taken)) (both (eqb (r .form) 0) (not (within 4096 (r .plus) (r .minus))) h .1))
+        by (origin ts e b f v p) = rw e
+            (rw (plus-here ts, minus-here ts, sym (v .added), sym (v .taken)) (both (eqb (r .form) 0) (not (within 4096 (r .plus) (r .minus))) h .1))
         by (coded ts e b f g v p) = absurd (differ (sym (rw (ne-eqb (r .form) 0 (λ q. omega arith)) refl) ∙ h))
 
     -- where no ORG strays, a line has its place exactly when its bytes are free
-    pub shows-place-free : (used : List ℕ) → Flags (s .written) used → s .at ≤ 4096 → (eqb (r .form) 0 && not (within 4096 (r .plus) (r .minus))) ≡ false
+    pub shows-place-free : (used : List ℕ) → Flags (s .written) used → s .at ≤ 4096 → (eqb (r .form) 0 && not (within 4096 (r .plus) (r .minus)))
+        ≡ false
         → misplaced s st ≡ not (isFree used (pick (eqb (r .form) 0) (r .plus - r .minus) (s .at)) (sizeIn (getD shapes (r .form) 0)))
     shows-place-free used flags most h = by x
       where
@@ -153,7 +164,15 @@ module _ {text : List ℕ} {above all : List (List ℕ)} {addresses : List ℕ} 
         by (origin ts e b f v p) =
             let in-it : within 4096 (r .plus) (r .minus) ≡ true = yes (within 4096 (r .plus) (r .minus)) (rw f at h) in
             let low = ltb-true (r .plus - r .minus) 4096 (both (leb (r .minus) (r .plus)) (ltb (r .plus - r .minus) 4096) in-it .1) in
-            rw (e, f) (rw (plus-here ts, minus-here ts, sym (v .added), sym (v .taken), in-it, le-leb (r .plus - r .minus + 0) 4096 (omega arith)) refl)
+            rw (e, f) (rw (
+              plus-here ts,
+              minus-here ts,
+              sym (v .added),
+              sym (v .taken),
+              in-it,
+              le-leb (r .plus - r .minus + 0) 4096
+                  (omega arith),
+            ) refl)
           where
             yes : (b : Bool) → not b ≡ false → b ≡ true
             yes true q = refl
@@ -181,7 +200,8 @@ module _ {text : List ℕ} {above all : List (List ℕ)} {addresses : List ℕ} 
             yes false q = absurd (differ (sym q))
         by (coded ts e b f g v p) =
             let q : (ltb 4096 (s .at + size (formAt (r .form))) || meets (s .written) (span (s .at) (size (formAt (r .form))))) ≡ false = rw e at m in
-            let low = ltb-false 4096 (s .at + size (formAt (r .form))) (neither (ltb 4096 (s .at + size (formAt (r .form)))) (meets (s .written) (span (s .at) (size (formAt (r .form))))) q .0) in
+            let low = ltb-false 4096 (s .at + size (formAt (r .form)))
+            (neither (ltb 4096 (s .at + size (formAt (r .form)))) (meets (s .written) (span (s .at) (size (formAt (r .form))))) q .0) in
             rw e (low, most)
 
     -- ---- values, where these are all labels
@@ -193,17 +213,24 @@ module _ {text : List ℕ} {above all : List (List ℕ)} {addresses : List ℕ} 
       minus-all ts = rw (whole-names, whole-stored) (minus-take all addresses ts)
 
       pub shows-misfit : misfit whole s st
-          ≡ isMisfit (sizeIn (getD shapes (r .form) 0)) (getD shapes (r .form) 0) (pick (eqb (r .form) 0) (r .plus - r .minus) (s .at)) (r .plus) (r .minus)
+          ≡ isMisfit (sizeIn (getD shapes (r .form) 0)) (getD shapes (r .form) 0) (pick (eqb (r .form) 0) (r .plus - r .minus) (s .at)) (r .plus)
+          (r .minus)
       shows-misfit = by x
         where
           by : Shows text above all addresses st r → misfit whole s st
-              ≡ isMisfit (sizeIn (getD shapes (r .form) 0)) (getD shapes (r .form) 0) (pick (eqb (r .form) 0) (r .plus - r .minus) (s .at)) (r .plus) (r .minus)
+              ≡ isMisfit (sizeIn (getD shapes (r .form) 0)) (getD shapes (r .form) 0) (pick (eqb (r .form) 0) (r .plus - r .minus) (s .at)) (r .plus)
+              (r .minus)
           by (broken e b) = absurd (differ (sym b ∙ readable))
           by (empty e b f l m) = rw (e, f) refl
           by (origin ts e b f v p) = rw (e, f) refl
           by (coded ts e b f g v p) =
               let k = shape-at (r .form) f g in
-              rw (e, ne-eqb (r .form) 0 (λ q. omega arith), lt-ltb 0 (sizeIn (getD shapes (r .form) 0)) (some-size (getD shapes (r .form) 0) (k .solid)))
+              rw (
+                e,
+                ne-eqb (r .form) 0 (λ q. omega arith),
+                lt-ltb 0 (sizeIn (getD shapes (r .form) 0))
+                    (some-size (getD shapes (r .form) 0) (k .solid)),
+              )
               (rw (
                 plus-all ts,
                 minus-all ts,
@@ -227,9 +254,12 @@ module _ {text : List ℕ} {above all : List (List ℕ)} {addresses : List ℕ} 
               let k = shape-at (r .form) f g in
               let sh = getD shapes (r .form) 0 in
               let v0 = r .plus - r .minus in
-              let q : not (fitting (s .at) (formAt (r .form)) (plus (whole .names) (whole .addresses) ts) (minus (whole .names) (whole .addresses) ts)) ≡ false = rw e at m in
-              let fit = both (within (field (formAt (r .form))) (plus (whole .names) (whole .addresses) ts) (minus (whole .names) (whole .addresses) ts)) _ (yes _ q) .0 in
-              let fit2 : within (field (formAt (r .form))) (r .plus) (r .minus) ≡ true = rw (plus-all ts, minus-all ts, sym (v .added), sym (v .taken)) at fit in
+              let q : not (fitting (s .at) (formAt (r .form)) (plus (whole .names) (whole .addresses) ts)
+              (minus (whole .names) (whole .addresses) ts)) ≡ false = rw e at m in
+              let fit = both (within (field (formAt (r .form))) (plus (whole .names) (whole .addresses) ts)
+              (minus (whole .names) (whole .addresses) ts)) _ (yes _ q) .0 in
+              let fit2 : within (field (formAt (r .form))) (r .plus) (r .minus) ≡ true = rw
+              (plus-all ts, minus-all ts, sym (v .added), sym (v .taken)) at fit in
               let low = ltb-true v0 (field (formAt (r .form))) (both (leb (r .minus) (r .plus)) (ltb v0 (field (formAt (r .form)))) fit2 .1) in
               let low2 : v0 < 16 ^ digitsIn sh = subst (λ (d : ℕ). v0 < 16 ^ d) (k .digit) low in
               let small : v0 % 65536 ≡ v0 = omega (arith, field-most sh) in
@@ -241,10 +271,12 @@ module _ {text : List ℕ} {above all : List (List ℕ)} {addresses : List ℕ} 
               yes false q = absurd (differ (sym q))
 
       -- an ORG puts nothing, and another line's address is the next one
-      pub shows-put : (out : List ℕ) → sets out (pick (eqb (r .form) 0) (r .plus - r .minus) (s .at)) (bytes whole st) ≡ sets out (s .at) (bytes whole st)
+      pub shows-put : (out : List ℕ) → sets out (pick (eqb (r .form) 0) (r .plus - r .minus) (s .at)) (bytes whole st) ≡ sets out (s .at)
+          (bytes whole st)
       shows-put out = by x
         where
-          by : Shows text above all addresses st r → sets out (pick (eqb (r .form) 0) (r .plus - r .minus) (s .at)) (bytes whole st) ≡ sets out (s .at) (bytes whole st)
+          by : Shows text above all addresses st r → sets out (pick (eqb (r .form) 0) (r .plus - r .minus) (s .at)) (bytes whole st) ≡ sets out
+              (s .at) (bytes whole st)
           by (broken e b) = absurd (differ (sym b ∙ readable))
           by (empty e b f l n) = rw e refl
           by (origin ts e b f v p) = rw e refl
@@ -281,8 +313,11 @@ flag-span written used one two at (suc zero) f l h u e g =
     rw (g, e) (flag-one written used at f (omega arith), length-set used at 1 ∙ l)
 flag-span written used one two at (suc (suc zero)) f l h u e g =
     let p : length (set used at 1) ≡ 4096 = length-set used at 1 ∙ l in
-    rw (g, e, add-one, sym (append-assoc written (at ∷ []) (suc at ∷ [])))
-    (flag-one (written ++ (at ∷ [])) (set used at 1) (suc at) (flag-one written used at f (omega arith)) (omega arith), length-set (set used at 1) (suc at) 1 ∙ p)
+    rw (g, e, add-one, sym (append-assoc written (at ∷ []) (suc at ∷ []))) (
+      flag-one (written ++ (at ∷ [])) (set used at 1) (suc at) (flag-one written used at f (omega arith)) (omega arith),
+      length-set (set used at 1)
+          (suc at) 1 ∙ p,
+    )
 flag-span written used one two at (suc (suc (suc n))) f l h u e g = absurd (omega arith)
 
 -- up to two bytes are stored
@@ -294,5 +329,6 @@ store-listed b out one two at h e g = by (b .size) h e g
         → two ≡ sets out at (take n (b .first ∷ b .second ∷ []))
     by zero h e g = g ∙ e
     by (suc zero) h e g = g ∙ e
-    by (suc (suc zero)) h e g = g ∙ ap (λ (o : List ℕ). set o (at + 1) (b .second)) e ∙ ap (λ (k : ℕ). set (set out at (b .first)) k (b .second)) (add-one at)
+    by (suc (suc zero)) h e g = g ∙ ap (λ (o : List ℕ). set o (at + 1) (b .second)) e ∙ ap (λ (k : ℕ). set (set out at (b .first)) k (b .second))
+        (add-one at)
     by (suc (suc (suc n))) h e g = absurd (omega arith)

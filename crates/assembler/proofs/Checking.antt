@@ -13,7 +13,8 @@ use Rattle.assembler.specs.Read.{Shows}
 use Rattle.assembler.specs.Passing.{Settled, lineEnd}
 use Rattle.assembler.specs.declared.lines.Line.{Line}
 use Rattle.assembler.proofs.Splitting.{programAt}
-use Rattle.assembler.proofs.Walking.{Walk, shows-mislabelled, walk-begin, walk-clear, walk-found, walk-names, walk-on, walk-past, walk-readable}
+use Rattle.assembler.proofs.Walking.{Walk, shows-mislabelled, walk-begin, walk-clear, walk-found, walk-names, walk-on, walk-past}
+use Rattle.assembler.proofs.Walking.{walk-readable}
 
 abbrev pub faulty : List ℕ → Above → Statement → Bool
 faulty text = mislabelled (end start (program text) .names)
@@ -26,7 +27,8 @@ pub record Checking (text : List ℕ) (at number count : ℕ) : Type 0 where
 pub checks : (text starts none : List ℕ) (all : ℕ) → Settled text starts none all → Checking text 0 1 0
 checks text starts none all settled = record { s = start; walk = walk-begin text (settled .read); found = refl }
 
-module _ {text starts none : List ℕ} {all : ℕ} (settled : Settled text starts none all) {at number count : ℕ} (g : Checking text at number count) {r : Line}
+module _ {text starts none : List ℕ} {all : ℕ} (settled : Settled text starts none all) {at number count : ℕ} (g : Checking text at number count)
+    {r : Line}
     (x : Shows text (namesAt text starts count) (namesAt text starts all) none (statement (tokensAt text at)) r) where
   abbrev defined : Bool
   defined = r .labelled && among (namesAt text starts count) (wordAt text (r .label))
@@ -38,7 +40,8 @@ module _ {text starts none : List ℕ} {all : ℕ} (settled : Settled text start
   pub is-missing : r .missing ≡ true → number ≡ first (faulty text) start 1 (program text)
   is-missing e = walk-found (g .walk) (faulty text) (g .found) (fault-is ∙ rw e refl)
 
-  pub is-again : (r .labelled && among (namesAt text starts count) (wordAt text (r .label))) ≡ true → number ≡ first (faulty text) start 1 (program text)
+  pub is-again : (r .labelled && among (namesAt text starts count) (wordAt text (r .label))) ≡ true → number ≡ first (faulty text) start 1
+      (program text)
   is-again e = walk-found (g .walk) (faulty text) (g .found) (fault-is ∙ rw e (or-true (r .missing)))
     where
       or-true : (b : Bool) → (b || true) ≡ true

@@ -52,7 +52,8 @@ note-name : (text starts : List ℕ) (count v : ℕ) → count < length starts
     → namesAt text (set starts count v) (suc count) ≡ namesAt text starts count ++ (wordAt text v ∷ [])
 note-name text starts count v h = ap (map (wordAt text)) (take-suc-set starts count v h) ∙ map-append (wordAt text) (take count starts) (v ∷ [])
 
-held-more : (text starts : List ℕ) (count v : ℕ) → Held text starts count → count < length starts → v ≤ length text → Held text (set starts count v) (suc count)
+held-more : (text starts : List ℕ) (count v : ℕ) → Held text starts count → count < length starts → v ≤ length text → Held text (set starts count v)
+    (suc count)
 held-more text starts count v g h l = record {
   room = omega (arith, length-set starts count v);
   places = λ k u. case (eqb k count)

@@ -6,7 +6,8 @@ use native.Mathlib.Omega.{arith}
 use lib.ListN.{length, replicate}
 use Rattle.assembler.specs.Statement.{Statement}
 use Rattle.assembler.specs.Program as Program
-use Rattle.assembler.specs.Program.{answerTo, end, first, image, judged, left, line, misfit, mislabelled, misplaced, program, put, refused, refusal, start, unread, written}
+use Rattle.assembler.specs.Program.{answerTo, end, first, image, judged, left, line, misfit, mislabelled, misplaced, program, put, refused}
+use Rattle.assembler.specs.Program.{refusal, start, unread, written}
 use Rattle.assembler.specs.Passing.{Answered, Collected, Settled}
 use Rattle.assembler.specs.declared.assemble.Answer.{Answer}
 use Rattle.assembler.specs.declared.passes.Labels.{Labels}
@@ -41,7 +42,8 @@ module _ (ls : List Statement) (out : List ℕ) where
         pub last-13 : (k : ℕ) → k ≡ first (misfit (end start ls)) start 1 ls → (k ≡ 0 → ⊥) → Answered (answerTo ls) out (refusedAt 13 k) out
         last-13 k e h = refusing 13 k (answerTo ls) out (none 12 _ _ read ∙ none 14 _ _ labelled ∙ none 13 _ _ placed ∙ rw (sym e) (found 13 k _ h))
 
-        pub accepted : first (misfit (end start ls)) start 1 ls ≡ 0 → (after : List ℕ) → after ≡ image ls → Answered (answerTo ls) out (refusedAt 0 0) after
+        pub accepted : first (misfit (end start ls)) start 1 ls ≡ 0 → (after : List ℕ) → after ≡ image ls → Answered (answerTo ls) out
+            (refusedAt 0 0) after
         accepted fits after e =
             let q : answerTo ls ≡ written (image ls) = none 12 _ _ read ∙ none 14 _ _ labelled ∙ none 13 _ _ placed ∙ none 13 _ _ fits in
             rw q (record { number = refl; line = refl; bytes = e })

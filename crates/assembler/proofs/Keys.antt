@@ -71,7 +71,8 @@ module _ (w : List ℕ) (f : isFixed w ≡ true) where
   pub fixed-kind : wordKind w ≡ 128 + place fixedWords w
   unfolding wordKind
   fixed-kind =
-      let e : notDigit w ≡ true = subst (λ (v : List ℕ). notDigit v ≡ true) fixed-word (passes notDigit fixedWords (place fixedWords w) fixed-letters fixed-in) in
+      let e : notDigit w ≡ true = subst (λ (v : List ℕ). notDigit v ≡ true) fixed-word
+      (passes notDigit fixedWords (place fixedWords w) fixed-letters fixed-in) in
       rw (not-true-is (isDigit (first w)) e, f) refl
     where
       not-true-is : (b : Bool) → not b ≡ true → b ≡ false
@@ -215,9 +216,11 @@ module _ (h : List Token) (l : allLead h ≡ true) where
   unfolding formKeys
   org-found e = case (eqb (keyOf orgLead) (keyOf h)) (λ q. key-tells orgLead h org-leads l ∙ q) (λ q. absurd (omega (arith, rw q at e)))
 
-  other-found : (0 < placeOf formKeys (keyOf h)) → (equals orgLead h ≡ false) × (placeOf formKeys (keyOf h) ≡ suc (placeOf (map leadKey forms) (keyOf h)))
+  other-found : (0 < placeOf formKeys (keyOf h)) → (equals orgLead h ≡ false) ×
+      (placeOf formKeys (keyOf h) ≡ suc (placeOf (map leadKey forms) (keyOf h)))
   unfolding formKeys
-  other-found e = case (eqb (keyOf orgLead) (keyOf h)) (λ q. absurd (omega (arith, rw q at e))) (λ q. (key-tells orgLead h org-leads l ∙ q, rw q refl))
+  other-found e = case (eqb (keyOf orgLead) (keyOf h)) (λ q. absurd (omega (arith, rw q at e)))
+      (λ q. (key-tells orgLead h org-leads l ∙ q, rw q refl))
 
   pub not-org : (0 < placeOf formKeys (keyOf h)) → equals orgLead h ≡ false
   not-org e = other-found e .0

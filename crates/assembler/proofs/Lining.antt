@@ -14,7 +14,8 @@ use Rattle.mnemonic.specs.Spelling.{Token, letters, mark, operand, codes}
 use Rattle.operand.specs.Text.{inWord, isDigit, isLetter}
 use Rattle.operand.specs.Words.{first, fixedWords, isFixed, isLabel, place}
 use Rattle.operand.specs.Operand.{Term, before as term-before, followed, minus, missing, operandOf, plus, wanted}
-use Rattle.operand.specs.Read.{Counts, Lexed, Next, OperandRead, Stops, befores, ended, kindOf, namesAt, packed, placeOf, sign, signKind, tokensAt, word, wordAt, wordKind}
+use Rattle.operand.specs.Read.{Counts, Lexed, Next, OperandRead, Stops, befores, ended, kindOf, namesAt, packed, placeOf, sign, signKind, tokensAt}
+use Rattle.operand.specs.Read.{word, wordAt, wordKind}
 use Rattle.operand.specs.Read as R
 use Rattle.operand.specs.declared.operands.Sum.{Sum}
 use Rattle.operand.specs.declared.tokens.Lexeme.{Lexeme}
@@ -23,14 +24,16 @@ use Rattle.operand.proofs.Terms.{befores-none}
 use Rattle.operand.proofs.Texts.{both, case, differ, neither, not-letter}
 use Rattle.operand.proofs.TokenKinds.{as-end, as-label, as-over, as-sign, sign-is, sign-not}
 use Rattle.assembler.specs.Forms.{digits, forms}
-use Rattle.assembler.specs.Statement.{Statement, after, afterTwo, before, blank, body, coded, codeOf, equals, formIn, labelOf, labelled, leads, mnemonic, nothing, operandFor, org, orgOf, statement, unreadable}
+use Rattle.assembler.specs.Statement.{Statement, after, afterTwo, before, blank, body, coded, codeOf, equals, formIn, labelOf, labelled, leads}
+use Rattle.assembler.specs.Statement.{mnemonic, nothing, operandFor, org, orgOf, statement, unreadable}
 use Rattle.assembler.specs.Shapes.{digitsIn, formAt, formKeys, keyOf, leadsIn, orgLead, shapes}
 use Rattle.assembler.specs.Read.{Headed, Labelling, Operanded, Shows, Valued, bad, bodied, good, labelIn, long, whole}
 use Rattle.assembler.specs.Read as L
 use Rattle.assembler.specs.declared.lines.Head.{Head}
 use Rattle.assembler.specs.declared.lines.Label.{Label}
 use Rattle.assembler.specs.declared.lines.Line.{Line}
-use Rattle.assembler.proofs.Keys.{allLead, before-leads, fixed-kind, form-found, form-none, keys-most, kind-range, not-org, org-found, too-long, zero-none}
+use Rattle.assembler.proofs.Keys.{allLead, before-leads, fixed-kind, form-found, form-none, keys-most, kind-range, not-org, org-found}
+use Rattle.assembler.proofs.Keys.{too-long, zero-none}
 use Rattle.assembler.proofs.Shaping.{shape-at}
 
 -- ---- leading tokens, by their kind
@@ -88,7 +91,13 @@ module _ {text : List ℕ} {ts : List Token} {r : Lexeme} where
   pub as-lead : Next text ts r → leadsIn (r .kind) ≡ true → Leading text ts r
   as-lead (ended e q g) h = absurd (differ (sym (ap leadsIn q) ∙ h))
   as-lead (word e q n i w) h =
-      record { token = letters (wordAt text (r .start)); is = e; leads = sym (word-leads (wordAt text (r .start))) ∙ sym (ap leadsIn q) ∙ h; kind = q }
+      record {
+        token = letters (wordAt text (r .start));
+        is = e;
+        leads = sym (word-leads (wordAt text (r .start))) ∙ sym (ap leadsIn q)
+            ∙ h;
+        kind = q;
+      }
   as-lead (sign c e q) h = record { token = mark c; is = e; leads = sym (mark-leads c) ∙ sym (ap leadsIn q) ∙ h; kind = q }
 
   pub as-tail : Next text ts r → leadsIn (r .kind) ≡ false → (before ts ≡ []) × (after ts ≡ ts)
@@ -130,7 +139,15 @@ packed-small (a ∷ b ∷ c ∷ d ∷ x ∷ []) e h =
     let f = left a (b ∷ c ∷ d ∷ x ∷ []) e in
     let g = left b (c ∷ d ∷ x ∷ []) f in
     let i = left c (d ∷ x ∷ []) g in
-    omega (arith, under a (b ∷ c ∷ d ∷ x ∷ []) e, under b (c ∷ d ∷ x ∷ []) f, under c (d ∷ x ∷ []) g, under d (x ∷ []) i, under x [] (left d (x ∷ []) i))
+    omega (
+      arith,
+      under a (b ∷ c ∷ d ∷ x ∷ []) e,
+      under b (c ∷ d ∷ x ∷ []) f,
+      under c (d ∷ x ∷ []) g,
+      under d (x ∷ []) i,
+      under x []
+          (left d (x ∷ []) i),
+    )
 packed-small (a ∷ b ∷ c ∷ d ∷ x ∷ y ∷ ds) e h = absurd (omega arith)
 
 pub heads : {text : List ℕ} {at : ℕ} → at ≤ length text → Heading text at 0 0 at
@@ -157,7 +174,8 @@ module _ {text : List ℕ} {at key count i : ℕ} where
     pub headed : leadsIn (r .kind) ≡ false → Headed text (tokensAt text at) (record { key = key; next = i })
     headed h =
         let t = as-tail (x .next) h in
-        whole (g .number ∙ ap packed (sym (g .row ∙ ap (λ (us : List Token). reverseAux (map kindOf us) (g .done)) (t .0)))) (sym (g .rest ∙ t .1)) (g .within)
+        whole (g .number ∙ ap packed (sym (g .row ∙ ap (λ (us : List Token). reverseAux (map kindOf us) (g .done)) (t .0)))) (sym (g .rest ∙ t .1))
+        (g .within)
 
     pub head-long : leadsIn (r .kind) ≡ true → count ≡ 6 → Headed text (tokensAt text at) (record { key = 0; next = i })
     head-long h c =
@@ -266,7 +284,8 @@ module _ (text : List ℕ) (names : List (List ℕ)) (addresses : List ℕ) (at 
         (record { readable = true; form = form; labelled = name .present; label = name .start; missing = r .missing; plus = r .plus; minus = r .minus })
     operand-whole (R.bad q f) h e = absurd (differ (sym q ∙ h))
     operand-whole (R.good ts q n a b s f) h e =
-        good ts (f [] refl ∙ ap (λ (us : List Token). befores ts (followed us false [])) (as-end (x .next) e .0) ∙ befores-some ts [] ∙ ap some (append-nil ts))
+        good ts (f [] refl ∙ ap (λ (us : List Token). befores ts (followed us false [])) (as-end (x .next) e .0) ∙ befores-some ts [] ∙ ap some
+        (append-nil ts))
         refl refl refl refl
         (record { added = n .added; taken = n .taken; missed = n .missed; small = (omega (arith, n .low), omega (arith, n .less)) })
 
@@ -285,7 +304,8 @@ module _ (text : List ℕ) (above all : List (List ℕ)) (addresses : List ℕ) 
   pub none-shown : (form : ℕ) → form ≡ 97 → (r : Line) → r .readable ≡ false → Shows text above all addresses (bodied form own ts) r
   none-shown form q r b = L.broken (rw (eq-eqb form 97 q) refl) b
 
-  pub org-shown : (form : ℕ) → form ≡ 0 → (r : Line) → Operanded above addresses ts form name r → Shows text above all addresses (bodied form own ts) r
+  pub org-shown : (form : ℕ) → form ≡ 0 → (r : Line) → Operanded above addresses ts form name r → Shows text above all addresses
+      (bodied form own ts) r
   org-shown form q r (bad e b) = L.broken (rw (ne-eqb form 97 (λ z. omega arith), eq-eqb form 0 q, e) refl) b
   org-shown form q r (good terms e b f p s v) =
       L.origin terms (rw (ne-eqb form 97 (λ z. omega arith), eq-eqb form 0 q, e) (ap (λ (l : Option (List ℕ)). org l terms) (own-is r p s)))
@@ -303,7 +323,8 @@ module _ (text : List ℕ) (above all : List (List ℕ)) (addresses : List ℕ) 
     code-shown r d (bad e b) = L.broken (body-is ∙ rw (some-digits (digits (formAt form)) ts (omega (arith, digits-are)), e) refl) b
     code-shown r d (good terms e b f p s v) =
         L.coded terms (body-is ∙ rw (some-digits (digits (formAt form)) ts (omega (arith, digits-are)), e)
-        (ap (λ (l : Option (List ℕ)). mnemonic l (formAt form) terms) (own-is r p s) ∙ ap (λ (k : ℕ). mnemonic (labelIn text (r .labelled) (r .label)) (formAt k) terms) (sym f)))
+        (ap (λ (l : Option (List ℕ)). mnemonic l (formAt form) terms) (own-is r p s) ∙ ap
+        (λ (k : ℕ). mnemonic (labelIn text (r .labelled) (r .label)) (formAt k) terms) (sym f)))
         b (omega (arith, f)) (omega (arith, f)) v (omega (arith, s))
 
     no-digits : (n : ℕ) → n ≡ 0 → operandFor n ts ≡ nothing ts
@@ -316,7 +337,8 @@ module _ (text : List ℕ) (above all : List (List ℕ)) (addresses : List ℕ) 
         L.coded [] (body-is ∙ rw (no-digits (digits (formAt form)) (digits-are ∙ d), e) refl) refl low high
         (record { added = refl; taken = refl; missed = refl; small = (omega arith, omega arith) }) place
 
-    pub plain-broken : digitsIn (getD shapes form 0) ≡ 0 → nothing ts ≡ none → (r : Line) → r .readable ≡ false → Shows text above all addresses (bodied form own ts) r
+    pub plain-broken : digitsIn (getD shapes form 0) ≡ 0 → nothing ts ≡ none → (r : Line) → r .readable ≡ false → Shows text above all addresses
+        (bodied form own ts) r
     plain-broken d e r b = L.broken (body-is ∙ rw (no-digits (digits (formAt form)) (digits-are ∙ d), e) refl) b
 
 -- where a line has not ended something stands
@@ -329,7 +351,8 @@ not-nothing (sign c e q) h = rw e refl
 pub blank-line : (text : List ℕ) (at : ℕ) {k : Lexeme} → Lexed text at k → k .kind ≡ 1 → statement (tokensAt text at) ≡ blank
 blank-line text at x h = rw (as-end (x .next) h .0) refl
 
-statement-body : (ts : List Token) → nothing ts ≡ none → statement ts ≡ body (pick (labelled ts) (labelOf ts) none) (pick (labelled ts) (afterTwo ts) ts)
+statement-body : (ts : List Token) → nothing ts ≡ none → statement ts ≡ body (pick (labelled ts) (labelOf ts) none)
+    (pick (labelled ts) (afterTwo ts) ts)
 statement-body [] e = absurd (no-none e)
   where
     no-none : {a : List Term} → some a ≡ none → ⊥
@@ -360,9 +383,16 @@ pub line-body : (text : List ℕ) (ts : List Token) (name : Label) (r : Head) �
     → Headed text (tokensAt text (name .next)) r
     → statement ts ≡ bodied (placeOf formKeys (r .key)) (labelIn text (name .present) (name .start)) (tokensAt text (r .next))
 line-body text ts name r e n (whole k a w) =
-    statement-body ts e ∙ rw (sym (n .label), sym (n .rest), body-form (labelIn text (name .present) (name .start)) (tokensAt text (name .next)), sym k, sym a) refl
+    statement-body ts e ∙ rw
+    (sym (n .label), sym (n .rest), body-form (labelIn text (name .present) (name .start)) (tokensAt text (name .next)), sym k, sym a) refl
 line-body text ts name r e n (long k a w) =
-    statement-body ts e ∙ rw (sym (n .label), sym (n .rest), body-long (labelIn text (name .present) (name .start)) (tokensAt text (name .next)) (tokensAt text (r .next)) a, sym k) refl
+    statement-body ts e ∙ rw (
+      sym (n .label),
+      sym (n .rest),
+      body-long (labelIn text (name .present) (name .start)) (tokensAt text (name .next))
+          (tokensAt text (r .next)) a,
+      sym k,
+    ) refl
 
 pub headed-within : {text : List ℕ} {ts : List Token} {r : Head} → Headed text ts r → r .next ≤ length text
 headed-within (whole k a w) = w

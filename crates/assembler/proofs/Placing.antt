@@ -22,7 +22,8 @@ use Rattle.assembler.specs.Passing.{Placed, Settled, lineEnd}
 use Rattle.assembler.specs.declared.lines.Line.{Line}
 use Rattle.assembler.proofs.Addresses.{Flags, flag-span, shows-address, shows-place-free, shows-placed, shows-size, shows-stray, size-most}
 use Rattle.assembler.proofs.Splitting.{last-line, programAt}
-use Rattle.assembler.proofs.Walking.{Walk, shows-labelled, walk-begin, next-count, walk-clear, walk-few, walk-found, walk-names, walk-next-few, walk-on, walk-past, walk-readable}
+use Rattle.assembler.proofs.Walking.{Walk, shows-labelled, walk-begin, next-count, walk-clear, walk-few, walk-found, walk-names, walk-next-few}
+use Rattle.assembler.proofs.Walking.{walk-on, walk-past, walk-readable}
 
 pub record Placing (text starts addresses used : List ℕ) (all at number count address : ℕ) : Type 0 where
   pub s : Above
@@ -49,7 +50,8 @@ places text starts addresses used all settled u = record {
   stored = refl;
 }
 
-module _ {text starts addresses used : List ℕ} {all at number count address : ℕ} (g : Placing text starts addresses used all at number count address) {r : Line}
+module _ {text starts addresses used : List ℕ} {all at number count address : ℕ} (g : Placing text starts addresses used all at number count address)
+    {r : Line}
     (x : Shows text (namesAt text starts count) (namesAt text starts 0) addresses (statement (tokensAt text at)) r) where
   abbrev st : Statement
   st = statement (tokensAt text at)
@@ -79,7 +81,11 @@ module _ {text starts addresses used : List ℕ} {all at number count address : 
         ∙ rw (sym here-at, sym size-is) refl
 
     pub here-most : (here ≤ 4096) × (size ≤ 2)
-    here-most = (case (eqb (r .form) 0) (λ e. org e) (λ e. let q : here ≡ address = here-is ∙ rw e refl in omega (arith, g .most)), omega (arith, size-is, size-most (getD shapes (r .form) 0)))
+    here-most = (
+      case (eqb (r .form) 0) (λ e. org e) (λ e. let q : here ≡ address = here-is ∙ rw e refl in omega (arith, g .most)),
+      omega
+          (arith, size-is, size-most (getD shapes (r .form) 0)),
+    )
       where
         yes : (b : Bool) → not b ≡ false → b ≡ true
         yes true q = refl
@@ -89,7 +95,8 @@ module _ {text starts addresses used : List ℕ} {all at number count address : 
         org e =
             let q : here ≡ r .plus - r .minus = here-is ∙ rw e refl in
             let i : not (within 4096 (r .plus) (r .minus)) ≡ false = rw e at inside in
-            let l = ltb-true (r .plus - r .minus) 4096 (both (leb (r .minus) (r .plus)) (ltb (r .plus - r .minus) 4096) (yes (within 4096 (r .plus) (r .minus)) i) .1) in
+            let l = ltb-true (r .plus - r .minus) 4096
+            (both (leb (r .minus) (r .plus)) (ltb (r .plus - r .minus) 4096) (yes (within 4096 (r .plus) (r .minus)) i) .1) in
             omega arith
 
     pub crowded : isFree used here size ≡ false → number ≡ first misplaced start 1 (program text)
@@ -115,7 +122,8 @@ module _ {text starts addresses used : List ℕ} {all at number count address : 
           (counts : count' ≡ pick (r .labelled) (count + 1) count) (one-is : one ≡ pick (ltb 0 size) (set used here 1) used)
           (two-is : two ≡ pick (ltb 1 size) (set one (here + 1) 1) one) (ends : e ≡ lineEnd text at) where
         pub same-room : length addresses' ≡ length addresses
-        same-room = case (r .labelled) (λ l. let a : addresses' ≡ set addresses count here = noted ∙ rw l refl in ap length a ∙ length-set addresses count here)
+        same-room = case (r .labelled)
+            (λ l. let a : addresses' ≡ set addresses count here = noted ∙ rw l refl in ap length a ∙ length-set addresses count here)
             (λ l. let a : addresses' ≡ addresses = noted ∙ rw l refl in ap length a)
 
         settled' : Settled text starts addresses' all

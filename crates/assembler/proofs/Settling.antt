@@ -18,9 +18,11 @@ use Rattle.assembler.specs.Read.{Shows}
 use Rattle.assembler.specs.Passing.{Placed, lineEnd}
 use Rattle.assembler.specs.declared.forms.Bytes.{Bytes}
 use Rattle.assembler.specs.declared.lines.Line.{Line}
-use Rattle.assembler.proofs.Addresses.{first-addresses, next-paired, shows-address, shows-bytes, shows-misfit, shows-placed, shows-put, shows-size, size-most, store-listed}
+use Rattle.assembler.proofs.Addresses.{first-addresses, next-paired, shows-address, shows-bytes, shows-misfit, shows-placed, shows-put}
+use Rattle.assembler.proofs.Addresses.{shows-size, size-most, store-listed}
 use Rattle.assembler.proofs.Splitting.{last-line, next-line, programAt}
-use Rattle.assembler.proofs.Walking.{Walk, walk-begin, walk-clear, walk-few, walk-found, walk-names, walk-none, walk-on, walk-past, walk-readable}
+use Rattle.assembler.proofs.Walking.{Walk, walk-begin, walk-clear, walk-few, walk-found, walk-names, walk-none, walk-on, walk-past}
+use Rattle.assembler.proofs.Walking.{walk-readable}
 
 -- a walk on which each line has its place
 pub record Going (text : List ℕ) (at number count address : ℕ) (s : Above) : Type 0 where
@@ -56,7 +58,8 @@ module _ {text starts addresses : List ℕ} {all : ℕ} (p : Placed text starts 
 
   stored : s .addresses ≡ take (length (namesAt text starts count)) addresses
   stored =
-      first-addresses s (programAt text at) all addresses (ap (λ (a : Above). a .addresses) (sym (g .walk .ends)) ∙ p .addressed) (omega (arith, many, few))
+      first-addresses s (programAt text at) all addresses (ap (λ (a : Above). a .addresses) (sym (g .walk .ends)) ∙ p .addressed)
+      (omega (arith, many, few))
       ∙ ap (λ (n : ℕ). take n addresses) (many ∙ sym (names-count text starts count (omega (arith, few, p .settled .table .held .room))))
 
   whole-stored : whole .addresses ≡ take (length (namesAt text starts all)) addresses
@@ -65,7 +68,8 @@ module _ {text starts addresses : List ℕ} {all : ℕ} (p : Placed text starts 
   in-place : misplaced s st ≡ false
   in-place = walk-none (g .walk) misplaced (g .placed) (p .placed)
 
-  module _ (here size : ℕ) (here-is : here ≡ pick (eqb (r .form) 0) (r .plus - r .minus) address) (size-is : size ≡ sizeIn (getD shapes (r .form) 0)) where
+  module _ (here size : ℕ) (here-is : here ≡ pick (eqb (r .form) 0) (r .plus - r .minus) address)
+      (size-is : size ≡ sizeIn (getD shapes (r .form) 0)) where
     here-at : here ≡ pick (eqb (r .form) 0) (r .plus - r .minus) (s .at)
     here-at = here-is ∙ ap (λ (a : ℕ). pick (eqb (r .form) 0) (r .plus - r .minus) a) (g .at-is)
 
@@ -96,11 +100,14 @@ module _ {text starts addresses : List ℕ} {all : ℕ} (p : Placed text starts 
     }
 
     -- the bytes that are stored
-    module _ (fits : misfit whole s st ≡ false) (b : Bytes) (shape first value : ℕ) (shape-is : shape ≡ getD shapes (r .form) 0) (first-is : first ≡ getD firsts (r .form) 0)
+    module _ (fits : misfit whole s st ≡ false) (b : Bytes) (shape first value : ℕ) (shape-is : shape ≡ getD shapes (r .form) 0)
+        (first-is : first ≡ getD firsts (r .form) 0)
         (value-is : value ≡ (r .plus - r .minus) % 65536) (bytes-are : listed b ≡ lowBytes (bytesIn shape first value)) (sized : b .size ≡ size)
-        (out one two : List ℕ) (one-is : one ≡ pick (ltb 0 (b .size)) (set out here (b .first)) out) (two-is : two ≡ pick (ltb 1 (b .size)) (set one (here + 1) (b .second)) one) where
+        (out one two : List ℕ) (one-is : one ≡ pick (ltb 0 (b .size)) (set out here (b .first)) out)
+        (two-is : two ≡ pick (ltb 1 (b .size)) (set one (here + 1) (b .second)) one) where
       line-bytes : bytes whole st ≡ listed b
-      line-bytes = shows-bytes x readable s names stored whole (p .settled .names) whole-stored fits ∙ sym (bytes-are ∙ rw (shape-is, first-is, value-is) refl)
+      line-bytes = shows-bytes x readable s names stored whole (p .settled .names) whole-stored fits ∙ sym
+          (bytes-are ∙ rw (shape-is, first-is, value-is) refl)
 
       stores : two ≡ sets out (s .at) (bytes whole st)
       stores = store-listed b out one two here (omega (arith, sized, going-most .1)) one-is two-is
@@ -113,7 +120,8 @@ module _ {text starts addresses : List ℕ} {all : ℕ} (p : Placed text starts 
       pub put-last : (e : ℕ) → e ≡ lineEnd text at → e ≡ length text → put whole s (programAt text at) out ≡ two
       put-last e q h = put-line [] (last-line text at (g .walk .within) (sym q ∙ h))
 
-      pub put-on : (e : ℕ) → e ≡ lineEnd text at → e < length text → put whole s (programAt text at) out ≡ put whole (next s st) (programAt text (e + 1)) two
+      pub put-on : (e : ℕ) → e ≡ lineEnd text at → e < length text → put whole s (programAt text at) out ≡ put whole (next s st)
+          (programAt text (e + 1)) two
       put-on e q h = put-line (programAt text (e + 1))
           (next-line text at (g .walk .within) (omega arith) ∙ ap (λ (k : ℕ). st ∷ programAt text k) (sym (add-one e ∙ ap suc q)))
 
@@ -121,12 +129,14 @@ module _ {text starts addresses : List ℕ} {all : ℕ} (p : Placed text starts 
 pub record Valuing (text : List ℕ) (at number count address : ℕ) : Type 0 where
   pub s : Above
   pub going : Going text at number count address s
-  pub found : first (misfit (end start (program text))) start 1 (program text) ≡ first (misfit (end start (program text))) s number (programAt text at)
+  pub found : first (misfit (end start (program text))) start 1 (program text) ≡ first (misfit (end start (program text))) s number
+      (programAt text at)
 
 -- ---- bytes that are written: what is put from here on makes the whole; no value is a misfit
 pub record Writing (text out : List ℕ) (at count address : ℕ) (result : List ℕ) : Type 0 where
   pub s : Above
   pub number : ℕ
   pub going : Going text at number count address s
-  pub found : first (misfit (end start (program text))) start 1 (program text) ≡ first (misfit (end start (program text))) s number (programAt text at)
+  pub found : first (misfit (end start (program text))) start 1 (program text) ≡ first (misfit (end start (program text))) s number
+      (programAt text at)
   pub whole : result ≡ put (end start (program text)) s (programAt text at) out

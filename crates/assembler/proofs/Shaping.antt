@@ -24,7 +24,8 @@ pub record Shaped (f : ℕ → Instruction) (first s : ℕ) : Type 0 where
   pub low : (v : ℕ) → v < 16 ^ digitsIn s → lowBytes (bytesIn s first v) ≡ bytesIn s first v
 
 shaped : {f : ℕ → Instruction} {a s : ℕ} → ((v : ℕ) → bytesOf (f v) ≡ bytesIn s a v) → digits f ≡ digitsIn s → size f ≡ sizeIn s → eqb s 0 ≡ false
-    → ((moved v : ℕ) → reaches f moved v ≡ reachesIn s moved v) → ((v : ℕ) → v < 16 ^ digitsIn s → lowBytes (bytesIn s a v) ≡ bytesIn s a v) → Shaped f a s
+    → ((moved v : ℕ) → reaches f moved v ≡ reachesIn s moved v) → ((v : ℕ) → v < 16 ^ digitsIn s → lowBytes (bytesIn s a v) ≡ bytesIn s a v)
+    → Shaped f a s
 shaped b d z o r l = record { bytes = b; digit = d; sized = z; solid = o; reach = r; low = l }
 
 two : {a b c d : ℕ} → a ≡ b → c ≡ d → _≡_ {A = List ℕ} (a ∷ c ∷ []) (b ∷ d ∷ [])

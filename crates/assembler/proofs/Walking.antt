@@ -21,7 +21,8 @@ use Rattle.operand.specs.Operand.{Term, operandOf}
 use Rattle.operand.specs.Read.{namesAt, tokensAt, upToLf, wordAt}
 use Rattle.operand.proofs.Places.{names-count}
 use Rattle.operand.proofs.Texts.{case, differ}
-use Rattle.assembler.specs.Statement.{Statement, unreadable, blank, org, mnemonic, after, before, body, coded, codeOf, equals, formIn, labelled, operandFor, orgOf, statement}
+use Rattle.assembler.specs.Statement.{Statement, unreadable, blank, org, mnemonic, after, before, body, coded, codeOf, equals, formIn, labelled}
+use Rattle.assembler.specs.Statement.{operandFor, orgOf, statement}
 use Rattle.assembler.specs.Forms.{digits, forms}
 use Rattle.assembler.specs.Program.{Above, again, end, first, ifLabelled, labelOf, mislabelled, named, next, program, start, unread}
 use Rattle.assembler.specs.Read.{Shows, Valued, broken, coded as code, empty, labelIn, origin}
@@ -49,7 +50,11 @@ pub record Split (text : List ℕ) (at : ℕ) : Type 0 where
 pub split : (text : List ℕ) (at : ℕ) → at ≤ length text → Split text at
 split text at h = case (ltb (lineEnd text at) (length text))
     (λ e. record { rest = programAt text (suc (lineEnd text at)); is = next-line text at h (ltb-true (lineEnd text at) (length text) e) })
-    (λ e. record { rest = []; is = last-line text at h (let a = ltb-false (lineEnd text at) (length text) e in let b = end-within text at h in omega arith) })
+    (λ e. record {
+      rest = [];
+      is = last-line text at h
+          (let a = ltb-false (lineEnd text at) (length text) e in let b = end-within text at h in omega arith);
+    })
 
 -- ---- the labels of the lines above
 abbrev pub labels : List Statement → List (List ℕ)
@@ -93,7 +98,8 @@ labels-none-coded ts (some f) = labels-none-code f (operandFor (digits f) ts)
 
 body-none : (ts : List Token) → labelOf (body none ts) ≡ none
 unfolding body
-body-none ts = case (equals (letters (codes "ORG") ∷ []) (before ts)) (λ e. rw e (labels-none-org (operandOf (after ts)))) (λ e. rw e (labels-none-coded (after ts) (formIn forms (before ts))))
+body-none ts = case (equals (letters (codes "ORG") ∷ []) (before ts)) (λ e. rw e (labels-none-org (operandOf (after ts))))
+    (λ e. rw e (labels-none-coded (after ts) (formIn forms (before ts))))
 
 two-tokens : (ts : List Token) → labelled ts ≡ true → 2 ≤ length ts
 two-tokens [] e = absurd (differ e)
@@ -149,19 +155,22 @@ module _ {text : List ℕ} {above all : List (List ℕ)} {addresses : List ℕ} 
   shows-unread (origin ts e b f v p) s = rw (e, b) refl
   shows-unread (code ts e b f h v p) s = rw (e, b) refl
 
-  pub shows-named : Shows text above all addresses st r → r .readable ≡ true → named (labelOf st) ≡ pick (r .labelled) (wordAt text (r .label) ∷ []) []
+  pub shows-named : Shows text above all addresses st r → r .readable ≡ true → named (labelOf st) ≡ pick (r .labelled)
+      (wordAt text (r .label) ∷ []) []
   shows-named (broken e b) h = absurd (differ (sym b ∙ h))
   shows-named (empty e b f l m) h = rw (e, l) refl
   shows-named (origin ts e b f v p) h = rw e (named-in text (r .labelled) (r .label))
   shows-named (code ts e b f g v p) h = rw e (named-in text (r .labelled) (r .label))
 
-  pub shows-labelled : {A : Type 0} → Shows text above all addresses st r → r .readable ≡ true → (a : A) → ifLabelled (labelOf st) a ≡ pick (r .labelled) (a ∷ []) []
+  pub shows-labelled : {A : Type 0} → Shows text above all addresses st r → r .readable ≡ true → (a : A) → ifLabelled (labelOf st) a ≡ pick
+      (r .labelled) (a ∷ []) []
   shows-labelled (broken e b) h a = absurd (differ (sym b ∙ h))
   shows-labelled (empty e b f l m) h a = rw (e, l) refl
   shows-labelled (origin ts e b f v p) h a = rw e (labelled-in text (r .labelled) (r .label) a)
   shows-labelled (code ts e b f g v p) h a = rw e (labelled-in text (r .labelled) (r .label) a)
 
-  pub shows-place : Shows text above all addresses st r → r .readable ≡ true → r .labelled ≡ true → (r .label ≤ length text) × (labelOf st ≡ some (wordAt text (r .label)))
+  pub shows-place : Shows text above all addresses st r → r .readable ≡ true → r .labelled ≡ true → (r .label ≤ length text) ×
+      (labelOf st ≡ some (wordAt text (r .label)))
   shows-place (broken e b) h l = absurd (differ (sym b ∙ h))
   shows-place (empty e b f n m) h l = absurd (differ (sym n ∙ l))
   shows-place (origin ts e b f v p) h l = (p, rw (e, l) refl)
@@ -197,7 +206,12 @@ module _ {text : List ℕ} {at number count : ℕ} {s : Above} (w : Walk text at
   module _ {starts addresses : List ℕ} {all : ℕ} (settled : Settled text starts addresses all) where
     -- the labels above stand at the first places
     pub walk-few : count ≤ all
-    walk-few = omega (arith, w .counted, few-names text starts all (settled .table .held .room) s (programAt text at) (ap (λ (a : Above). a .names) (sym (w .ends)) ∙ settled .names))
+    walk-few = omega (
+      arith,
+      w .counted,
+      few-names text starts all (settled .table .held .room) s (programAt text at)
+          (ap (λ (a : Above). a .names) (sym (w .ends)) ∙ settled .names),
+    )
 
     pub walk-names : s .names ≡ namesAt text starts count
     walk-names =
@@ -206,7 +220,11 @@ module _ {text : List ℕ} {at number count : ℕ} {s : Above} (w : Walk text at
 
     pub walk-table : Tabled text starts addresses count
     walk-table = record {
-      held = record { room = omega (arith, walk-few, settled .table .held .room); places = λ k h. settled .table .held .places k (omega (arith, walk-few)) };
+      held = record {
+        room = omega (arith, walk-few, settled .table .held .room);
+        places = λ k h. settled .table .held .places k
+            (omega (arith, walk-few));
+      };
       room = omega (arith, walk-few, settled .table .room);
     }
 
@@ -223,12 +241,14 @@ module _ {text : List ℕ} {at number count : ℕ} {s : Above} (w : Walk text at
 
     pub next-count : (count' : ℕ) → count' ≡ pick (r .labelled) (count + 1) count → length (next s here .names) ≡ count'
     unfolding next
-    next-count count' e = length-append (s .names) (named (labelOf here)) ∙ ap (λ (ns : List (List ℕ)). length (s .names) + length ns) (shows-named x walk-readable)
+    next-count count' e = length-append (s .names) (named (labelOf here)) ∙ ap (λ (ns : List (List ℕ)). length (s .names) + length ns)
+        (shows-named x walk-readable)
         ∙ case (r .labelled) (λ l. let f : count' ≡ count + 1 = e ∙ rw l refl in rw l (omega (arith, w .counted)))
         (λ l. let f : count' ≡ count = e ∙ rw l refl in rw l (omega (arith, w .counted)))
 
     -- there is a place for its label
-    pub walk-next-few : {starts table : List ℕ} {most : ℕ} → Settled text starts table most → (count' : ℕ) → count' ≡ pick (r .labelled) (count + 1) count → count' ≤ most
+    pub walk-next-few : {starts table : List ℕ} {most : ℕ} → Settled text starts table most → (count' : ℕ) → count' ≡ pick (r .labelled)
+        (count + 1) count → count' ≤ most
     walk-next-few {starts} {table} {most} settled count' c =
         let l = split text at (w .within) in
         omega (

@@ -28,11 +28,13 @@ befores-none (t ∷ a) = rw (befores-none a) refl
 module _ (names : List (List ℕ)) (addresses : List ℕ) where
   pub plus-append : (a b : List Term) → plus names addresses (a ++ b) ≡ plus names addresses a + plus names addresses b
   plus-append [] b = sym (zero-add (plus names addresses b))
-  plus-append (t ∷ a) b = rw (plus-append a b) (sym (add-assoc (pick (t .taken) 0 (valueOf names addresses (t .part))) (plus names addresses a) (plus names addresses b)))
+  plus-append (t ∷ a) b = rw
+      (plus-append a b) (sym (add-assoc (pick (t .taken) 0 (valueOf names addresses (t .part))) (plus names addresses a) (plus names addresses b)))
 
   pub minus-append : (a b : List Term) → minus names addresses (a ++ b) ≡ minus names addresses a + minus names addresses b
   minus-append [] b = sym (zero-add (minus names addresses b))
-  minus-append (t ∷ a) b = rw (minus-append a b) (sym (add-assoc (pick (t .taken) (valueOf names addresses (t .part)) 0) (minus names addresses a) (minus names addresses b)))
+  minus-append (t ∷ a) b = rw
+      (minus-append a b) (sym (add-assoc (pick (t .taken) (valueOf names addresses (t .part)) 0) (minus names addresses a) (minus names addresses b)))
 
 pub missing-append : (names : List (List ℕ)) (a b : List Term) → missing names (a ++ b) ≡ (missing names a || missing names b)
 missing-append names [] b = refl
@@ -47,7 +49,8 @@ or-false true = refl
 or-false false = refl
 
 -- a number or a label by itself
-pub single-counts : (names : List (List ℕ)) (addresses : List ℕ) (at next : ℕ) (taken : Bool) (p : Part) (r : Sum) → valueOf names addresses p ≤ 65535 → at < next
+pub single-counts : (names : List (List ℕ)) (addresses : List ℕ) (at next : ℕ) (taken : Bool) (p : Part) (r : Sum) → valueOf names addresses p ≤ 65535
+    → at < next
     → Single (valueOf names addresses p) (isMissing names p) taken next r → Counts names addresses at (record { taken = taken; part = p } ∷ []) r
 single-counts names addresses at next true p r v h s = record {
   added = s .plus;

@@ -43,7 +43,8 @@ in-word-under c e = case (leb c 90) (λ h. omega (arith, leb-true c 90 h))
     (λ h. case (leb c 57) (λ k. omega (arith, leb-true c 57 k)) (λ k. absurd (differ (sym (none h k) ∙ e))))
   where
     none : leb c 90 ≡ false → leb c 57 ≡ false → (isLetter c || isDigit c) ≡ false
-    none h k = rw (h, k) (case (leb 65 c) (λ a. rw a (case (leb 48 c) (λ b. rw b refl) (λ b. rw b refl))) (λ a. rw a (case (leb 48 c) (λ b. rw b refl) (λ b. rw b refl))))
+    none h k = rw (h, k) (case (leb 65 c) (λ a. rw a (case (leb 48 c) (λ b. rw b refl) (λ b. rw b refl)))
+        (λ a. rw a (case (leb 48 c) (λ b. rw b refl) (λ b. rw b refl))))
 
 pub below-word : (c : ℕ) → c < 48 → inWord c ≡ false
 below-word c h = case (inWord c) (λ e. absurd (omega (arith, in-word-over c e))) (λ e. e)
@@ -153,7 +154,8 @@ word-slice text at n h =
 run-characters : (s : List ℕ) (k : ℕ) → k < length (run s) → inWord (getD (run s) k 0) ≡ true
 run-characters [] k h = absurd (omega arith)
 run-characters (c ∷ s) zero h = case (inWord c) (λ e. rw e e) (λ e. absurd (omega (arith, rw e at h)))
-run-characters (c ∷ s) (suc k) h = case (inWord c) (λ e. rw e (run-characters s k (omega (arith, rw e at h)))) (λ e. absurd (omega (arith, rw e at h)))
+run-characters (c ∷ s) (suc k) h = case (inWord c) (λ e. rw e (run-characters s k (omega (arith, rw e at h))))
+    (λ e. absurd (omega (arith, rw e at h)))
 
 pub word-characters : (text : List ℕ) (at k : ℕ) → k < length (wordAt text at) → (0 < getD (wordAt text at) k 0) × (getD (wordAt text at) k 0 < 256)
 word-characters text at k h =

@@ -29,7 +29,8 @@ sign-not c k l u f = ne-eqb c k (λ e. f (ap signKind e ∙ rw (lt-ltb 32 k l, l
 
 no-sign : (c k : ℕ) → k < 4 → 0 < k → signKind c ≡ k → ⊥
 unfolding signKind
-no-sign c k l u e = case (ltb 32 c && ltb c 128) (λ f. let o = ltb-true 32 c (both (ltb 32 c) (ltb c 128) f .0) in let z : c ≡ k = rw f at e in omega arith)
+no-sign c k l u e = case
+    (ltb 32 c && ltb c 128) (λ f. let o = ltb-true 32 c (both (ltb 32 c) (ltb c 128) f .0) in let z : c ≡ k = rw f at e in omega arith)
     (λ f. let z : 0 ≡ k = rw f at e in omega arith)
 
 -- a word's kind is 2, 3, or 128 and more
@@ -88,7 +89,8 @@ module _ {text : List ℕ} {ts : List Token} {r : Lexeme} where
   as-end (sign c e q) h = absurd (no-sign c 1 (omega arith) (omega arith) (sym q ∙ h))
 
   -- a label, a number, or nothing that an operand can have here
-  pub as-label : Next text ts r → r .kind ≡ 2 → (ts ≡ letters (wordAt text (r .start)) ∷ tokensAt text (r .next)) × (isLabel (wordAt text (r .start)) ≡ true)
+  pub as-label : Next text ts r → r .kind ≡ 2 → (ts ≡ letters (wordAt text (r .start)) ∷ tokensAt text (r .next)) ×
+      (isLabel (wordAt text (r .start)) ≡ true)
   as-label (ended e q g) h = absurd (omega arith)
   as-label (word e q n i w) h = (e, label-is (wordAt text (r .start)) (rw (word-on text (r .start) w) w) (sym q ∙ h))
   as-label (sign c e q) h = absurd (no-sign c 2 (omega arith) (omega arith) (sym q ∙ h))

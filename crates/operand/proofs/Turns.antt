@@ -52,12 +52,14 @@ module _ (text : List ℕ) (names : List (List ℕ)) (addresses : List ℕ) (at 
     reads = λ outer e. refl;
   }
 
-  pub part-broken : {p l : ℕ} {m taken : Bool} {i : ℕ} {r : Sum} → Wanting p l m taken i → PartRead text names addresses i depth taken r → r .readable ≡ false
+  pub part-broken : {p l : ℕ} {m taken : Bool} {i : ℕ} {r : Sum} → Wanting p l m taken i → PartRead text names addresses i depth taken r → r .readable
+      ≡ false
       → (outer : List Bool) → length outer + depth ≡ deepest → wanted (tokensAt text at) all all outer ≡ none
   part-broken s (bad q f) h outer e = s .reads outer e ∙ ap (befores (s .terms)) (f all outer e) ∙ befores-none (s .terms)
   part-broken s (good ts q n a b f) h outer e = absurd (differ (sym h ∙ q))
 
-  pub part-read : {p l : ℕ} {m taken : Bool} {i : ℕ} {r : Sum} → Wanting p l m taken i → PartRead text names addresses i depth taken r → r .readable ≡ true
+  pub part-read : {p l : ℕ} {m taken : Bool} {i : ℕ} {r : Sum} → Wanting p l m taken i → PartRead text names addresses i depth taken r → r .readable
+      ≡ true
       → Past (p + r .plus) (l + r .minus) (m || r .missing) (r .next)
   part-read s (bad q f) h = absurd (differ (sym q ∙ h))
   part-read {p} {l} {m} {taken} {i} {r} s (good ts q n a b f) h = record {
@@ -102,7 +104,8 @@ module _ (text : List ℕ) (names : List (List ℕ)) (addresses : List ℕ) (at 
     reads = λ outer e. s .reads outer e ∙ ap (befores (s .terms)) (sign outer);
   }
     where
-      sign : (outer : List Bool) → followed (tokensAt text i) all outer ≡ wanted (tokensAt text (k .next)) (pick (eqb (k .kind) 45) (not all) all) all outer
+      sign : (outer : List Bool) → followed (tokensAt text i) all outer ≡ wanted (tokensAt text (k .next))
+          (pick (eqb (k .kind) 45) (not all) all) all outer
       sign outer = case (eqb (k .kind) 45)
           (λ f. rw (f, as-sign (x .next) 45 (omega arith) (omega arith) (eqb-true (k .kind) 45 f)) (minus-on (tokensAt text (k .next)) outer))
           (λ f. rw (f, as-sign (x .next) 43 (omega arith) (omega arith) (only f)) (plus-on (tokensAt text (k .next)) outer))
@@ -119,7 +122,8 @@ module _ (text : List ℕ) (names : List (List ℕ)) (addresses : List ℕ) (at 
 module _ (text : List ℕ) (names : List (List ℕ)) (addresses : List ℕ) (at depth : ℕ) (taken : Bool) (opening : Lexeme) (x : Lexed text at opening)
     (opened : opening .kind ≡ 40) where
   opens : (here : Bool) (outer : List Bool)
-      → wanted (tokensAt text at) taken here outer ≡ pick (ltb (length outer) deepest) (wanted (tokensAt text (opening .next)) taken taken (here ∷ outer)) none
+      → wanted (tokensAt text at) taken here outer ≡ pick (ltb (length outer) deepest)
+      (wanted (tokensAt text (opening .next)) taken taken (here ∷ outer)) none
   opens here outer = rw (as-sign (x .next) 40 (omega arith) (omega arith) opened) refl
 
   pub too-deep : depth ≡ 0 → (here : Bool) (outer : List Bool) → length outer + depth ≡ deepest → wanted (tokensAt text at) taken here outer ≡ none

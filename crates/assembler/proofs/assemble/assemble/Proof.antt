@@ -13,7 +13,8 @@ use Rattle.assembler.proofs.assemble.assemble.Tie as tie
 returns : tie.Need-returns
 unfolding answered
 returns c = let s = c .before .before .before in
-    refusing 2 0 (answered (s .args .text .now) (s .args .out .now)) (s .args .out .now) (rw (ne-eqb (length (s .args .out .now)) 4096 (c .if1 .taken)) refl)
+    refusing 2 0 (answered (s .args .text .now) (s .args .out .now)) (s .args .out .now)
+    (rw (ne-eqb (length (s .args .out .now)) 4096 (c .if1 .taken)) refl)
 
 -- the text is too long
 returns-2 : tie.Need-returns-2
@@ -26,7 +27,12 @@ returns-3 : tie.Need-returns-3
 unfolding answered assembled
 returns-3 c = let s = c .before .before .before .before .before .before .before .before .before .before .before .before .before .before in
     let e : answered (s .args .text .now) (s .args .out .now) ≡ answerTo (program (s .args .text .now))
-    = rw (eq-eqb (length (s .args .out .now)) 4096 (c .before .before .before .before .before .before .before .before .before .before .before .if1 .left), le-ltb 65535 (length (s .args .text .now)) (c .before .before .before .before .before .before .before .before .before .before .if2 .left)) refl in
+    = rw (
+      eq-eqb (length (s .args .out .now)) 4096
+          (c .before .before .before .before .before .before .before .before .before .before .before .if1 .left),
+      le-ltb 65535
+          (length (s .args .text .now)) (c .before .before .before .before .before .before .before .before .before .before .if2 .left),
+    ) refl in
     answered-as e (c .before .before .before .before .before .judged .ensures)
 
 pub assemble-spec : {M : Type 1} → statement M

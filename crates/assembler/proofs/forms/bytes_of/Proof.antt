@@ -31,46 +31,132 @@ returns-2 c = let s = c .before .before .before .args .shape in (
 -- HALT
 returns-3 : tie.Need-returns-3
 returns-3 c = let s = c .before .before .before .before .before .args .shape in (
-  rw (ne-eqb s 0 (c .before .before .before .before .if1 .left), ne-eqb s 1 (c .before .before .before .if2 .left), eq-eqb s 2 (c .before .before .if3 .taken)) (two (c .before .byte2 .ensures) (c .byte3 .ensures)),
-  rw (ne-eqb s 0 (c .before .before .before .before .if1 .left), ne-eqb s 1 (c .before .before .before .if2 .left), ne-eqb s 3 (λ q. omega arith)) refl,
+  rw (
+    ne-eqb s 0 (c .before .before .before .before .if1 .left),
+    ne-eqb s 1 (c .before .before .before .if2 .left),
+    eq-eqb s 2
+        (c .before .before .if3 .taken),
+  ) (two (c .before .byte2 .ensures) (c .byte3 .ensures)),
+  rw (
+    ne-eqb s 0 (c .before .before .before .before .if1 .left),
+    ne-eqb s 1 (c .before .before .before .if2 .left),
+    ne-eqb s 3
+        (λ q. omega arith),
+  ) refl,
 )
 
 -- WITHIN
 returns-4 : tie.Need-returns-4
 returns-4 c = let s = c .before .before .before .before .before .args .shape in (
-  rw (ne-eqb s 0 (c .before .before .before .before .if1 .left), ne-eqb s 1 (c .before .before .before .if2 .left), ne-eqb s 2 (c .before .before .if3 .left), eq-eqb s 3 (c .before .if4 .taken)) (one (c .byte4 .ensures)),
-  rw (ne-eqb s 0 (c .before .before .before .before .if1 .left), ne-eqb s 1 (c .before .before .before .if2 .left), eq-eqb s 3 (c .before .if4 .taken)) refl,
+  rw (
+    ne-eqb s 0 (c .before .before .before .before .if1 .left),
+    ne-eqb s 1 (c .before .before .before .if2 .left),
+    ne-eqb s 2
+        (c .before .before .if3 .left),
+    eq-eqb s 3 (c .before .if4 .taken),
+  ) (one (c .byte4 .ensures)),
+  rw (
+    ne-eqb s 0 (c .before .before .before .before .if1 .left),
+    ne-eqb s 1 (c .before .before .before .if2 .left),
+    eq-eqb s 3
+        (c .before .if4 .taken),
+  ) refl,
 )
 
 -- PAIR
 returns-5 : tie.Need-returns-5
 returns-5 c = let s = c .before .before .before .before .before .before .before .args .shape in (
-  rw (ne-eqb s 0 (c .before .before .before .before .before .before .if1 .left), ne-eqb s 1 (c .before .before .before .before .before .if2 .left), ne-eqb s 2 (c .before .before .before .before .if3 .left), ne-eqb s 3 (c .before .before .before .if4 .left), eq-eqb s 5 (c .before .before .if5 .taken)) (two (c .before .byte5 .ensures) (c .byte6 .ensures)),
-  rw (ne-eqb s 0 (c .before .before .before .before .before .before .if1 .left), ne-eqb s 1 (c .before .before .before .before .before .if2 .left), ne-eqb s 3 (c .before .before .before .if4 .left)) refl,
+  rw (
+    ne-eqb s 0 (c .before .before .before .before .before .before .if1 .left),
+    ne-eqb s 1
+        (c .before .before .before .before .before .if2 .left),
+    ne-eqb s 2 (c .before .before .before .before .if3 .left),
+    ne-eqb s 3
+        (c .before .before .before .if4 .left),
+    eq-eqb s 5 (c .before .before .if5 .taken),
+  ) (two (c .before .byte5 .ensures) (c .byte6 .ensures)),
+  rw (
+    ne-eqb s 0 (c .before .before .before .before .before .before .if1 .left),
+    ne-eqb s 1
+        (c .before .before .before .before .before .if2 .left),
+    ne-eqb s 3 (c .before .before .before .if4 .left),
+  ) refl,
 )
 
 -- BRANCH
 returns-6 : tie.Need-returns-6
 returns-6 c = let s = c .before .before .before .before .before .before .before .before .args .shape in (
-  rw (ne-eqb s 0 (c .before .before .before .before .before .before .before .if1 .left), ne-eqb s 1 (c .before .before .before .before .before .before .if2 .left), ne-eqb s 2 (c .before .before .before .before .before .if3 .left), ne-eqb s 3 (c .before .before .before .before .if4 .left), ne-eqb s 5 (c .before .before .before .if5 .left), eq-eqb s 7 (c .before .before .if6 .taken)) (two (c .before .byte7 .ensures) (c .byte8 .ensures)),
-  rw (ne-eqb s 0 (c .before .before .before .before .before .before .before .if1 .left), ne-eqb s 1 (c .before .before .before .before .before .before .if2 .left), ne-eqb s 3 (c .before .before .before .before .if4 .left)) refl,
+  rw (
+    ne-eqb s 0 (c .before .before .before .before .before .before .before .if1 .left),
+    ne-eqb s 1
+        (c .before .before .before .before .before .before .if2 .left),
+    ne-eqb s 2 (c .before .before .before .before .before .if3 .left),
+    ne-eqb s 3
+        (c .before .before .before .before .if4 .left),
+    ne-eqb s 5 (c .before .before .before .if5 .left),
+    eq-eqb s 7 (c .before .before .if6 .taken),
+  )
+      (two (c .before .byte7 .ensures) (c .byte8 .ensures)),
+  rw (
+    ne-eqb s 0 (c .before .before .before .before .before .before .before .if1 .left),
+    ne-eqb s 1
+        (c .before .before .before .before .before .before .if2 .left),
+    ne-eqb s 3 (c .before .before .before .before .if4 .left),
+  ) refl,
 )
 
 -- ADDRESS
 returns-7 : tie.Need-returns-7
 returns-7 c = let s = c .before .before .before .before .before .before .before .before .before .args .shape in (
-  rw (ne-eqb s 0 (c .before .before .before .before .before .before .before .before .if1 .left), ne-eqb s 1 (c .before .before .before .before .before .before .before .if2 .left), ne-eqb s 2 (c .before .before .before .before .before .before .if3 .left), ne-eqb s 3 (c .before .before .before .before .before .if4 .left), ne-eqb s 5 (c .before .before .before .before .if5 .left), ne-eqb s 7 (c .before .before .before .if6 .left), eq-eqb s 8 (c .before .before .if7 .taken)) (two (c .before .byte9 .ensures) (c .byte10 .ensures)),
-  rw (ne-eqb s 0 (c .before .before .before .before .before .before .before .before .if1 .left), ne-eqb s 1 (c .before .before .before .before .before .before .before .if2 .left), ne-eqb s 3 (c .before .before .before .before .before .if4 .left)) refl,
+  rw (
+    ne-eqb s 0 (c .before .before .before .before .before .before .before .before .if1 .left),
+    ne-eqb s 1
+        (c .before .before .before .before .before .before .before .if2 .left),
+    ne-eqb s 2
+        (c .before .before .before .before .before .before .if3 .left),
+    ne-eqb s 3 (c .before .before .before .before .before .if4 .left),
+    ne-eqb s 5
+        (c .before .before .before .before .if5 .left),
+    ne-eqb s 7 (c .before .before .before .if6 .left),
+    eq-eqb s 8 (c .before .before .if7 .taken),
+  )
+      (two (c .before .byte9 .ensures) (c .byte10 .ensures)),
+  rw (
+    ne-eqb s 0 (c .before .before .before .before .before .before .before .before .if1 .left),
+    ne-eqb s 1
+        (c .before .before .before .before .before .before .before .if2 .left),
+    ne-eqb s 3 (c .before .before .before .before .before .if4 .left),
+  ) refl,
 )
 
 -- NIBBLE, BYTE
 returns-8 : tie.Need-returns-8
 returns-8 c = let s = c .before .before .before .before .before .before .before .before .before .args .shape in (
-  rw (ne-eqb s 0 (c .before .before .before .before .before .before .before .before .if1 .left), ne-eqb s 1 (c .before .before .before .before .before .before .before .if2 .left), ne-eqb s 2 (c .before .before .before .before .before .before .if3 .left), ne-eqb s 3 (c .before .before .before .before .before .if4 .left), ne-eqb s 5 (c .before .before .before .before .if5 .left), ne-eqb s 7 (c .before .before .before .if6 .left), ne-eqb s 8 (c .before .before .if7 .left)) (two (c .before .byte11 .ensures) (c .byte12 .ensures)),
-  rw (ne-eqb s 0 (c .before .before .before .before .before .before .before .before .if1 .left), ne-eqb s 1 (c .before .before .before .before .before .before .before .if2 .left), ne-eqb s 3 (c .before .before .before .before .before .if4 .left)) refl,
+  rw (
+    ne-eqb s 0 (c .before .before .before .before .before .before .before .before .if1 .left),
+    ne-eqb s 1
+        (c .before .before .before .before .before .before .before .if2 .left),
+    ne-eqb s 2
+        (c .before .before .before .before .before .before .if3 .left),
+    ne-eqb s 3 (c .before .before .before .before .before .if4 .left),
+    ne-eqb s 5
+        (c .before .before .before .before .if5 .left),
+    ne-eqb s 7 (c .before .before .before .if6 .left),
+    ne-eqb s 8 (c .before .before .if7 .left),
+  )
+      (two (c .before .byte11 .ensures) (c .byte12 .ensures)),
+  rw (
+    ne-eqb s 0 (c .before .before .before .before .before .before .before .before .if1 .left),
+    ne-eqb s 1
+        (c .before .before .before .before .before .before .before .if2 .left),
+    ne-eqb s 3 (c .before .before .before .before .before .if4 .left),
+  ) refl,
 )
 
 pub bytes-of-spec : {M : Type 1} → statement M
 bytes-of-spec =
     tie.close
-    (tie.spec returns (λ c κs. search needs) returns-2 (λ c κs. search needs) (λ c κs. search needs) returns-3 (λ c. search needs) (λ c κs. search needs) returns-4 (λ c. search needs) (λ c κs. search needs) (λ c κs. search needs) returns-5 (λ c. search needs) (λ c κs. search needs) (λ c κs. search needs) returns-6 (λ c. search needs) (λ c κs. search needs) (λ c κs. search needs) returns-7 (λ c κs. search needs) (λ c κs. search needs) returns-8)
+    (tie.spec returns (λ c κs. search needs) returns-2 (λ c κs. search needs) (λ c κs. search needs) returns-3 (λ c. search needs)
+    (λ c κs. search needs) returns-4 (λ c. search needs) (λ c κs. search needs) (λ c κs. search needs) returns-5 (λ c. search needs)
+    (λ c κs. search needs) (λ c κs. search needs) returns-6 (λ c. search needs) (λ c κs. search needs) (λ c κs. search needs) returns-7
+    (λ c κs. search needs) (λ c κs. search needs) returns-8)

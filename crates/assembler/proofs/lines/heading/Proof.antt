@@ -16,10 +16,12 @@ abbrev μ-loop : tie.MeasureT-loop
 μ-loop text at key₀ count₀ i₀ key count i = length text - i
 
 returns : tie.Need-returns Inv-loop μ-loop
-returns c = headed (c .before .before .before .loop .inv) (c .before .before .token .ensures) (sym (c .before .leads .ensures) ∙ not-true _ (c .if1 .taken))
+returns c = headed (c .before .before .before .loop .inv) (c .before .before .token .ensures)
+    (sym (c .before .leads .ensures) ∙ not-true _ (c .if1 .taken))
 
 returns-2 : tie.Need-returns-2 Inv-loop μ-loop
-returns-2 c = head-long (c .before .before .before .before .loop .inv) (c .before .before .before .token .ensures) (sym (c .before .before .leads .ensures) ∙ not-false _ (c .before .if1 .left)) (c .if2 .taken)
+returns-2 c = head-long (c .before .before .before .before .loop .inv) (c .before .before .before .token .ensures)
+    (sym (c .before .before .leads .ensures) ∙ not-false _ (c .before .if1 .left)) (c .if2 .taken)
 
 mul-key : tie.Need-mul-key Inv-loop μ-loop
 mul-key c = let v = c .before .before .before .before .loop .inv in omega (arith, key-small v (omega (arith, v .most)))
@@ -34,11 +36,13 @@ loop-less c = let v = c .before .before .before .before .loop .inv in
 
 loop-again : tie.Need-loop-again Inv-loop μ-loop
 loop-again c = let v = c .before .before .before .before .loop .inv in
-    head-on v (c .before .before .before .token .ensures) (sym (c .before .before .leads .ensures) ∙ not-false _ (c .before .if1 .left)) (omega (arith, v .most))
+    head-on v (c .before .before .before .token .ensures) (sym (c .before .before .leads .ensures) ∙ not-false _ (c .before .if1 .left))
+    (omega (arith, v .most))
 
 pub heading-spec : {M : Type 1} → statement M
 heading-spec =
     tie.close
     (tie.spec
-    Inv-loop μ-loop (λ c. heads (c .before .pre)) (λ c κs. c .loop .inv .within) (λ c κs. search needs) returns returns-2 (λ c. search needs) mul-key add-key
+    Inv-loop μ-loop (λ c. heads (c .before .pre)) (λ c κs. c .loop .inv .within) (λ c κs. search needs) returns returns-2
+    (λ c. search needs) mul-key add-key
     (λ c. omega (arith, c .before .before .before .before .loop .inv .most)) loop-less loop-again)

@@ -25,7 +25,8 @@ returns-2 c = let s = c .before .before .before .before .before in
 
 returns-3 : tie.Need-returns-3
 returns-3 c = let s = c .before .before .before .before .before in
-    with-label (s .args .text .now) (s .args .at) (s .pre) (c .before .before .before .token .ensures) (c .before .before .if1 .left) (c .before .token2 .ensures) (c .if2 .left)
+    with-label (s .args .text .now) (s .args .at) (s .pre) (c .before .before .before .token .ensures) (c .before .before .if1 .left)
+    (c .before .token2 .ensures) (c .if2 .left)
 
 pub labelling-spec : {M : Type 1} → statement M
 labelling-spec = tie.close (tie.spec (λ c κs. search needs) returns (λ c κs. c .before .token .ensures .within) returns-2 returns-3)

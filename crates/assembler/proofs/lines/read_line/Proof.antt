@@ -17,7 +17,13 @@ returns c = let s = c .before .before .before .before .before in
 
 body-requires : tie.Need-body-requires
 body-requires c κs = let s = c .before .before .before .before .before .before .before .before in (
-  (headed-within (c .before .heading .ensures), s .pre .0 .1, omega (arith, c .form-of .ensures, keys-most (c .before .heading .result .key)), c .before .before .labelling .ensures .place),
+  (
+    headed-within (c .before .heading .ensures),
+    s .pre .0 .1,
+    omega
+        (arith, c .form-of .ensures, keys-most (c .before .heading .result .key)),
+    c .before .before .labelling .ensures .place,
+  ),
   (s .pre .1 .0, s .pre .1 .1),
 )
 
@@ -26,11 +32,17 @@ returns-2 c = let s = c .before .before .before .before .before .before .before 
     let text = s .args .text .now in
     let name = c .before .before .before .labelling in
     let h = c .before .before .heading in
-    let e = line-body text (tokensAt text (s .args .at)) (name .result) (h .result) (not-nothing (c .before .before .before .before .before .token .ensures .next) (c .before .before .before .before .if1 .left)) (name .ensures) (h .ensures)
-    ∙ ap (λ (n : ℕ). bodied n (labelIn text (name .result .present) (name .result .start)) (tokensAt text (h .result .next))) (sym (c .before .form-of .ensures)) in
-    subst (λ (st : Statement). Shows text (namesAt (s .args .text .now) (s .args .starts .now) (s .args .above)) (namesAt (s .args .text .now) (s .args .starts .now) (s .args .all)) (s .args .addresses .now) st (c .body .result)) (sym e) (c .body .ensures)
+    let e = line-body text (tokensAt text (s .args .at)) (name .result) (h .result)
+    (not-nothing (c .before .before .before .before .before .token .ensures .next) (c .before .before .before .before .if1 .left)) (name .ensures)
+    (h .ensures)
+    ∙ ap (λ (n : ℕ). bodied n (labelIn text (name .result .present) (name .result .start)) (tokensAt text (h .result .next)))
+    (sym (c .before .form-of .ensures)) in
+    subst (λ (st : Statement). Shows text (namesAt (s .args .text .now) (s .args .starts .now) (s .args .above))
+    (namesAt (s .args .text .now) (s .args .starts .now) (s .args .all)) (s .args .addresses .now) st (c .body .result)) (sym e)
+    (c .body .ensures)
 
 pub read-line-spec : {M : Type 1} → statement M
 read-line-spec =
     tie.close
-    (tie.spec (λ c κs. omega arith) returns (λ c κs. omega arith) (λ c κs. c .labelling .ensures .within) (λ c κs. search needs) body-requires returns-2)
+    (tie.spec (λ c κs. omega arith) returns (λ c κs. omega arith) (λ c κs. c .labelling .ensures .within)
+    (λ c κs. search needs) body-requires returns-2)

@@ -14,7 +14,8 @@ operand-requires c κs = let s = c .before .before .before in (s .pre .0, s .pre
 
 returns : tie.Need-returns
 returns c = let s = c .before .before .before .before .before .before .before in
-    no-operand (s .args .text .now) (namesAt (s .args .text .now) (s .args .starts .now) (s .args .count)) (s .args .addresses .now) (s .args .at) (s .args .form) (s .args .name) (s .pre .1)
+    no-operand (s .args .text .now) (namesAt (s .args .text .now) (s .args .starts .now) (s .args .count)) (s .args .addresses .now) (s .args .at)
+    (s .args .form) (s .args .name) (s .pre .1)
     (c .before .before .before .operand .ensures) (not-true _ (c .before .if1 .taken)) (c .unreadable .result) (c .unreadable .ensures)
 
 token-requires : tie.Need-token-requires
@@ -22,12 +23,15 @@ token-requires c κs = inner-within (c .before .before .operand .ensures) (not-f
 
 returns-2 : tie.Need-returns-2
 returns-2 c = let s = c .before .before .before .before .before .before .before .before .before in
-    operand-over (s .args .text .now) (namesAt (s .args .text .now) (s .args .starts .now) (s .args .count)) (s .args .addresses .now) (s .args .at) (s .args .form) (s .args .name) (s .pre .1)
-    (c .before .before .token .ensures) (c .before .before .before .before .before .operand .ensures) (not-false _ (c .before .before .before .if1 .left)) (c .before .if2 .taken) (c .unreadable2 .result) (c .unreadable2 .ensures)
+    operand-over (s .args .text .now) (namesAt (s .args .text .now) (s .args .starts .now) (s .args .count)) (s .args .addresses .now) (s .args .at)
+    (s .args .form) (s .args .name) (s .pre .1)
+    (c .before .before .token .ensures) (c .before .before .before .before .before .operand .ensures)
+    (not-false _ (c .before .before .before .if1 .left)) (c .before .if2 .taken) (c .unreadable2 .result) (c .unreadable2 .ensures)
 
 returns-3 : tie.Need-returns-3
 returns-3 c = let s = c .before .before .before .before .before .before .before .before in
-    operand-whole (s .args .text .now) (namesAt (s .args .text .now) (s .args .starts .now) (s .args .count)) (s .args .addresses .now) (s .args .at) (s .args .form) (s .args .name) (s .pre .1)
+    operand-whole (s .args .text .now) (namesAt (s .args .text .now) (s .args .starts .now) (s .args .count)) (s .args .addresses .now) (s .args .at)
+    (s .args .form) (s .args .name) (s .pre .1)
     (c .before .token .ensures) (c .before .before .before .before .operand .ensures) (not-false _ (c .before .before .if1 .left)) (c .if2 .left)
 
 pub with-operand-spec : {M : Type 1} → statement M

@@ -26,7 +26,8 @@ read-line-requires c κs = let s = c .before .before .before .before in
     ((c .loop .inv .walk .within, s .pre .short), (walk-table (c .loop .inv .walk) (s .pre), s .pre .table))
 
 returns : tie.Need-returns Inv-loop μ-loop
-returns c = let s = c .before .before .before .before .before .before in is-missing (s .pre) (c .before .before .loop .inv) (c .before .read-line .ensures) (c .if1 .taken)
+returns c = let s = c .before .before .before .before .before .before in is-missing (s .pre) (c .before .before .loop .inv)
+    (c .before .read-line .ensures) (c .if1 .taken)
 
 defined-requires : tie.Need-defined-requires Inv-loop μ-loop
 defined-requires c κs = let s = c .before .before .before .before .before .before in
@@ -47,28 +48,46 @@ counted-requires c κs = let s = c .before .before .before .before .before .befo
 
 returns-3 : tie.Need-returns-3 Inv-loop μ-loop
 returns-3 c = let s = c .before .before .before .before .before .before .before .before .before .before .before in
-    checked (s .pre) (c .before .before .before .before .before .before .before .loop .inv) (c .before .before .before .before .before .before .read-line .ensures) (c .before .before .before .before .before .if1 .left) (sym (c .before .before .before .before .defined .ensures) ∙ c .before .before .before .if2 .left)
+    checked (s .pre) (c .before .before .before .before .before .before .before .loop .inv)
+    (c .before .before .before .before .before .before .read-line .ensures) (c .before .before .before .before .before .if1 .left)
+    (sym (c .before .before .before .before .defined .ensures) ∙ c .before .before .before .if2 .left)
     (c .before .line-end .result) (c .before .line-end .ensures) (c .if3 .taken)
 
 add-at : tie.Need-add-at Inv-loop μ-loop
-add-at c = let l = c .before .before .before .before .before .before .before in omega (arith, c .before .line-end .ensures, end-within (c .before .before .before .before .before .before .before .before .before .before .before .args .text .now) (l .loop .at) (l .loop .inv .walk .within))
+add-at c = let l = c .before .before .before .before .before .before .before in omega (
+  arith,
+  c .before .line-end .ensures,
+  end-within
+      (c .before .before .before .before .before .before .before .before .before .before .before .args .text .now) (l .loop .at)
+      (l .loop .inv .walk .within),
+)
 
 add-number : tie.Need-add-number Inv-loop μ-loop
-add-number c = let l = c .before .before .before .before .before .before .before in omega (arith, l .loop .inv .walk .few, l .loop .inv .walk .within, c .before .before .before .before .before .before .before .before .before .before .before .pre .short)
+add-number c = let l = c .before .before .before .before .before .before .before in omega
+    (arith, l .loop .inv .walk .few, l .loop .inv .walk .within, c .before .before .before .before .before .before .before .before .before .before .before .pre .short)
 
 loop-less : tie.Need-loop-less Inv-loop μ-loop
-loop-less c = let l = c .before .before .before .before .before .before .before in omega (arith, c .before .line-end .ensures, end-within (c .before .before .before .before .before .before .before .before .before .before .before .args .text .now) (l .loop .at) (l .loop .inv .walk .within))
+loop-less c = let l = c .before .before .before .before .before .before .before in omega (
+  arith,
+  c .before .line-end .ensures,
+  end-within
+      (c .before .before .before .before .before .before .before .before .before .before .before .args .text .now) (l .loop .at)
+      (l .loop .inv .walk .within),
+)
 
 loop-again : tie.Need-loop-again Inv-loop μ-loop
 loop-again c = let s = c .before .before .before .before .before .before .before .before .before .before .before in
     let l = c .before .before .before .before .before .before .before in
     let inside = end-within (s .args .text .now) (l .loop .at) (l .loop .inv .walk .within) in
     let e = c .before .line-end .ensures in
-    check-on (s .pre) (l .loop .inv) (c .before .before .before .before .before .before .read-line .ensures) (c .before .before .before .before .before .if1 .left) (sym (c .before .before .before .before .defined .ensures) ∙ c .before .before .before .if2 .left)
+    check-on (s .pre) (l .loop .inv) (c .before .before .before .before .before .before .read-line .ensures)
+    (c .before .before .before .before .before .if1 .left)
+    (sym (c .before .before .before .before .defined .ensures) ∙ c .before .before .before .if2 .left)
     (c .before .line-end .result) e (c .before .before .counted .result) (c .before .before .counted .ensures) (omega arith)
 
 pub check-labels-spec : {M : Type 1} → statement M
 check-labels-spec =
     tie.close
     (tie.spec
-    Inv-loop μ-loop loop-holds read-line-requires returns defined-requires returns-2 counted-requires (λ c κs. omega arith) returns-3 add-at add-number loop-less loop-again)
+    Inv-loop μ-loop loop-holds read-line-requires returns defined-requires returns-2 counted-requires
+    (λ c κs. omega arith) returns-3 add-at add-number loop-less loop-again)

@@ -17,7 +17,11 @@ returns-2 c = let s = c .before .before .before .before in
 
 returns-3 : tie.Need-returns-3
 returns-3 c = let s = c .before .before .before .before .before in
-    rw (le-leb (s .args .at + s .args .size) 4096 (c .before .before .before .if1 .left), sym (c .before .before .taken .ensures) ∙ c .before .if2 .left) (ap not (c .taken2 .ensures))
+    rw (
+      le-leb (s .args .at + s .args .size) 4096 (c .before .before .before .if1 .left),
+      sym (c .before .before .taken .ensures)
+          ∙ c .before .if2 .left,
+    ) (ap not (c .taken2 .ensures))
 
 pub free-spec : {M : Type 1} → statement M
 free-spec =

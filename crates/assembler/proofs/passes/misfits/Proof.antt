@@ -11,7 +11,9 @@ use Rattle.assembler.proofs.passes.misfits.Statement.{statement}
 use Rattle.assembler.proofs.passes.misfits.Tie as tie
 
 few-digits : (s : ℕ) → digitsIn s < 4
-few-digits s = case (ltb s 3) (λ a. rw a (omega arith)) (λ a. rw a (case (ltb s 5) (λ b. rw b (omega arith)) (λ b. rw b (case (ltb s 7) (λ d. rw d (omega arith)) (λ d. rw d (omega arith))))))
+few-digits s = case (ltb s 3)
+    (λ a. rw a (omega arith))
+    (λ a. rw a (case (ltb s 5) (λ b. rw b (omega arith)) (λ b. rw b (case (ltb s 7) (λ d. rw d (omega arith)) (λ d. rw d (omega arith))))))
 
 returns : tie.Need-returns
 returns c = rw (le-ltb 0 (c .before .args .size) (omega arith)) refl
@@ -25,7 +27,12 @@ values-of-requires c κs = omega (arith, c .digits-of .ensures, few-digits (c .b
 returns-3 : tie.Need-returns-3
 returns-3 c = let a = c .before .before .before .before .before .args in
     let v = c .before .values-of .ensures ∙ ap (λ (d : ℕ). 16 ^ d) (c .before .before .digits-of .ensures) in
-    rw (lt-ltb 0 (a .size) (omega arith), le-leb (a .minus) (a .plus) (c .before .before .before .if2 .left), le-ltb (a .plus - a .minus) (16 ^ digitsIn (a .shape)) (omega (arith, v))) refl
+    rw (
+      lt-ltb 0 (a .size) (omega arith),
+      le-leb (a .minus) (a .plus) (c .before .before .before .if2 .left),
+      le-ltb (a .plus - a .minus)
+          (16 ^ digitsIn (a .shape)) (omega (arith, v)),
+    ) refl
 
 returns-4 : tie.Need-returns-4
 returns-4 c = let a = c .before .before .before .before .before .before .args in

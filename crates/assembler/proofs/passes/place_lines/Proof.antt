@@ -26,49 +26,87 @@ loop-holds c = let s = c .before .before .before .before in
 
 read-line-requires : tie.Need-read-line-requires Inv-loop μ-loop
 read-line-requires c κs = let g = c .before .loop .inv .0 in
-    let t = walk-table (g .walk) (g .settled) in
-    ((g .walk .within, g .settled .short), (t, record { held = record { room = omega arith; places = λ k h. absurd (omega arith) }; room = omega arith }))
+    let t = walk-table (g .walk) (g .settled) in (
+      (g .walk .within, g .settled .short),
+      (t, record { held = record { room = omega arith; places = λ k h. absurd (omega arith) }; room = omega arith }),
+    )
 
 same-length : tie.Need-same-length Inv-loop μ-loop
 same-length c = c .before .before .before .before .loop .inv .1
 
 same-length-2 : tie.Need-same-length-2 Inv-loop μ-loop
-same-length-2 c = c .before .before .before .before .loop .inv .0 .flag-count ∙ sym (ap length (c .before .before .before .before .before .before .before .before .before .pre .1) ∙ length-replicate {A = ℕ} 4096 0)
+same-length-2 c = c .before .before .before .before .loop .inv .0 .flag-count ∙ sym
+    (ap length (c .before .before .before .before .before .before .before .before .before .pre .1) ∙ length-replicate {A = ℕ} 4096 0)
 
 returns : tie.Need-returns Inv-loop μ-loop
-returns c = (stray (c .before .before .before .before .loop .inv .0) (c .before .before .read-line .ensures) (sym (c .before .strays .ensures) ∙ c .if1 .taken), λ z. absurd (omega (arith, c .before .before .before .before .loop .inv .0 .walk .some-number)))
+returns c = (
+  stray (c .before .before .before .before .loop .inv .0) (c .before .before .read-line .ensures)
+      (sym (c .before .strays .ensures) ∙ c .if1 .taken),
+  λ z. absurd (omega
+      (arith, c .before .before .before .before .loop .inv .0 .walk .some-number)),
+)
 
 free-requires : tie.Need-free-requires Inv-loop μ-loop
 free-requires c κs =
-    here-most (c .before .before .before .before .before .before .before .before .loop .inv .0) (c .before .before .before .before .before .before .read-line .ensures) (sym (c .before .before .before .before .before .strays .ensures) ∙ c .before .before .before .before .if1 .left) (c .before .before .before .address-of .result) (c .before .size-of .result) (c .before .before .before .address-of .ensures) (c .before .size-of .ensures ∙ ap sizeIn (c .before .before .shape-of .ensures))
+    here-most (c .before .before .before .before .before .before .before .before .loop .inv .0)
+    (c .before .before .before .before .before .before .read-line .ensures)
+    (sym (c .before .before .before .before .before .strays .ensures) ∙ c .before .before .before .before .if1 .left)
+    (c .before .before .before .address-of .result) (c .before .size-of .result) (c .before .before .before .address-of .ensures)
+    (c .before .size-of .ensures ∙ ap sizeIn (c .before .before .shape-of .ensures))
 
 same-length-3 : tie.Need-same-length-3 Inv-loop μ-loop
 same-length-3 c = c .before .before .before .before .before .before .before .before .before .before .loop .inv .1
 
 same-length-4 : tie.Need-same-length-4 Inv-loop μ-loop
-same-length-4 c = c .before .before .before .before .before .before .before .before .before .before .loop .inv .0 .flag-count ∙ sym (ap length (c .before .before .before .before .before .before .before .before .before .before .before .before .before .before .before .pre .1) ∙ length-replicate {A = ℕ} 4096 0)
+same-length-4 c = c .before .before .before .before .before .before .before .before .before .before .loop .inv .0 .flag-count ∙ sym
+    (ap length (c .before .before .before .before .before .before .before .before .before .before .before .before .before .before .before .pre .1)
+    ∙ length-replicate {A = ℕ} 4096 0)
 
 returns-2 : tie.Need-returns-2 Inv-loop μ-loop
 returns-2 c = (
-  crowded (c .before .before .before .before .before .before .before .before .before .before .loop .inv .0) (c .before .before .before .before .before .before .before .before .read-line .ensures) (sym (c .before .before .before .before .before .before .before .strays .ensures) ∙ c .before .before .before .before .before .before .if1 .left) (c .before .before .before .before .before .address-of .result) (c .before .before .before .size-of .result) (c .before .before .before .before .before .address-of .ensures) (c .before .before .before .size-of .ensures ∙ ap sizeIn (c .before .before .before .before .shape-of .ensures)) (sym (c .before .free .ensures) ∙ not-true _ (c .if2 .taken)),
+  crowded (c .before .before .before .before .before .before .before .before .before .before .loop .inv .0)
+      (c .before .before .before .before .before .before .before .before .read-line .ensures)
+      (sym (c .before .before .before .before .before .before .before .strays .ensures)
+      ∙ c .before .before .before .before .before .before .if1 .left) (c .before .before .before .before .before .address-of .result)
+      (c .before .before .before .size-of .result) (c .before .before .before .before .before .address-of .ensures)
+      (c .before .before .before .size-of .ensures ∙ ap sizeIn (c .before .before .before .before .shape-of .ensures))
+      (sym (c .before .free .ensures) ∙ not-true _ (c .if2 .taken)),
   λ z. absurd (omega (arith, c .before .before .before .before .before .before .before .before .before .before .loop .inv .0 .walk .some-number)),
 )
 
 note-requires : tie.Need-note-requires Inv-loop μ-loop
-note-requires c κs = let g = c .before .before .before .before .before .before .before .before .before .before .before .loop .inv .0 in
-    (label-room (c .before .before .before .before .before .before .before .before .before .before .before .loop .inv .0) (c .before .before .before .before .before .before .before .before .before .read-line .ensures) (sym (c .before .before .before .before .before .before .before .before .strays .ensures) ∙ c .before .before .before .before .before .before .before .if1 .left) (c .before .before .before .before .before .before .address-of .result) (c .before .before .before .before .size-of .result) (c .before .before .before .before .before .before .address-of .ensures) (c .before .before .before .before .size-of .ensures ∙ ap sizeIn (c .before .before .before .before .before .shape-of .ensures)) (sym (c .before .before .free .ensures) ∙ not-false _ (c .before .if2 .left)), omega (arith, walk-few (g .walk) (g .settled), g .settled .table .room, g .settled .most))
+note-requires c κs = let g = c .before .before .before .before .before .before .before .before .before .before .before .loop .inv .0 in (
+  label-room (c .before .before .before .before .before .before .before .before .before .before .before .loop .inv .0)
+      (c .before .before .before .before .before .before .before .before .before .read-line .ensures)
+      (sym (c .before .before .before .before .before .before .before .before .strays .ensures)
+      ∙ c .before .before .before .before .before .before .before .if1 .left)
+      (c .before .before .before .before .before .before .address-of .result) (c .before .before .before .before .size-of .result)
+      (c .before .before .before .before .before .before .address-of .ensures)
+      (c .before .before .before .before .size-of .ensures ∙ ap sizeIn (c .before .before .before .before .before .shape-of .ensures))
+      (sym (c .before .before .free .ensures) ∙ not-false _ (c .before .if2 .left)),
+  omega
+      (arith, walk-few (g .walk) (g .settled), g .settled .table .room, g .settled .most),
+)
 
 add-store : tie.Need-add-store Inv-loop μ-loop
-add-store c = omega (arith, end-most (c .before .before .before .before .before .before .before .before .before .before .before .before .before .before .before .before .before .before .before .loop .inv .0) (c .before .before .before .before .before .before .before .before .before .before .before .before .before .before .before .before .before .read-line .ensures) (sym (c .before .before .before .before .before .before .before .before .before .before .before .before .before .before .before .before .strays .ensures) ∙ c .before .before .before .before .before .before .before .before .before .before .before .before .before .before .before .if1 .left) (c .before .before .before .before .before .before .before .before .before .before .before .before .before .before .address-of .result) (c .before .before .before .before .before .before .before .before .before .before .before .before .size-of .result) (c .before .before .before .before .before .before .before .before .before .before .before .before .before .before .address-of .ensures) (c .before .before .before .before .before .before .before .before .before .before .before .before .size-of .ensures ∙ ap sizeIn (c .before .before .before .before .before .before .before .before .before .before .before .before .before .shape-of .ensures)) (sym (c .before .before .before .before .before .before .before .before .before .before .free .ensures) ∙ not-false _ (c .before .before .before .before .before .before .before .before .before .if2 .left)))
+add-store c = omega (
+  arith,
+  end-most
+      (c .before .before .before .before .before .before .before .before .before .before .before .before .before .before .before .before .before .before .before .loop .inv .0) (c .before .before .before .before .before .before .before .before .before .before .before .before .before .before .before .before .before .read-line .ensures) (sym (c .before .before .before .before .before .before .before .before .before .before .before .before .before .before .before .before .strays .ensures) ∙ c .before .before .before .before .before .before .before .before .before .before .before .before .before .before .before .if1 .left) (c .before .before .before .before .before .before .before .before .before .before .before .before .before .before .address-of .result) (c .before .before .before .before .before .before .before .before .before .before .before .before .size-of .result) (c .before .before .before .before .before .before .before .before .before .before .before .before .before .before .address-of .ensures) (c .before .before .before .before .before .before .before .before .before .before .before .before .size-of .ensures ∙ ap sizeIn (c .before .before .before .before .before .before .before .before .before .before .before .before .before .shape-of .ensures)) (sym (c .before .before .before .before .before .before .before .before .before .before .free .ensures) ∙ not-false _ (c .before .before .before .before .before .before .before .before .before .if2 .left)),
+)
 
 add-address : tie.Need-add-address Inv-loop μ-loop
-add-address c = omega (arith, end-most (c .before .before .before .before .before .before .before .before .before .before .before .before .before .before .before .before .before .before .before .before .before .before .loop .inv .0) (c .before .before .before .before .before .before .before .before .before .before .before .before .before .before .before .before .before .before .before .before .read-line .ensures) (sym (c .before .before .before .before .before .before .before .before .before .before .before .before .before .before .before .before .before .before .before .strays .ensures) ∙ c .before .before .before .before .before .before .before .before .before .before .before .before .before .before .before .before .before .before .if1 .left) (c .before .before .before .before .before .before .before .before .before .before .before .before .before .before .before .before .before .address-of .result) (c .before .before .before .before .before .before .before .before .before .before .before .before .before .before .before .size-of .result) (c .before .before .before .before .before .before .before .before .before .before .before .before .before .before .before .before .before .address-of .ensures) (c .before .before .before .before .before .before .before .before .before .before .before .before .before .before .before .size-of .ensures ∙ ap sizeIn (c .before .before .before .before .before .before .before .before .before .before .before .before .before .before .before .before .shape-of .ensures)) (sym (c .before .before .before .before .before .before .before .before .before .before .before .before .before .free .ensures) ∙ not-false _ (c .before .before .before .before .before .before .before .before .before .before .before .before .if2 .left)))
+add-address c = omega
+    (arith, end-most (c .before .before .before .before .before .before .before .before .before .before .before .before .before .before .before .before .before .before .before .before .before .before .loop .inv .0) (c .before .before .before .before .before .before .before .before .before .before .before .before .before .before .before .before .before .before .before .before .read-line .ensures) (sym (c .before .before .before .before .before .before .before .before .before .before .before .before .before .before .before .before .before .before .before .strays .ensures) ∙ c .before .before .before .before .before .before .before .before .before .before .before .before .before .before .before .before .before .before .if1 .left) (c .before .before .before .before .before .before .before .before .before .before .before .before .before .before .before .before .before .address-of .result) (c .before .before .before .before .before .before .before .before .before .before .before .before .before .before .before .size-of .result) (c .before .before .before .before .before .before .before .before .before .before .before .before .before .before .before .before .before .address-of .ensures) (c .before .before .before .before .before .before .before .before .before .before .before .before .before .before .before .size-of .ensures ∙ ap sizeIn (c .before .before .before .before .before .before .before .before .before .before .before .before .before .before .before .before .shape-of .ensures)) (sym (c .before .before .before .before .before .before .before .before .before .before .before .before .before .free .ensures) ∙ not-false _ (c .before .before .before .before .before .before .before .before .before .before .before .before .if2 .left)))
 
 same-length-5 : tie.Need-same-length-5 Inv-loop μ-loop
-same-length-5 c = c .before .before .before .before .before .before .before .before .before .before .before .before .note .kept .0 ∙ c .before .before .before .before .before .before .before .before .before .before .before .before .before .before .before .before .before .before .before .before .before .before .before .before .loop .inv .1
+same-length-5 c = c .before .before .before .before .before .before .before .before .before .before .before .before .note .kept .0
+    ∙ c .before .before .before .before .before .before .before .before .before .before .before .before .before .before .before .before .before .before .before .before .before .before .before .before .loop .inv .1
 
 same-length-6 : tie.Need-same-length-6 Inv-loop μ-loop
-same-length-6 c = c .before .before .before .before .store2 .kept .0 ∙ c .before .before .before .before .before .before .before .before .store .kept .0 ∙ c .before .before .before .before .before .before .before .before .before .before .before .before .before .before .before .before .before .before .before .before .before .before .before .before .loop .inv .0 .flag-count
+same-length-6 c = c .before .before .before .before .store2 .kept .0
+    ∙ c .before .before .before .before .before .before .before .before .store .kept .0
+    ∙ c .before .before .before .before .before .before .before .before .before .before .before .before .before .before .before .before .before .before .before .before .before .before .before .before .loop .inv .0 .flag-count
     ∙ sym (ap length (c .before .before .before .before .before .before .before .before .before .before .before .before .before .before .before .before .before .before .before .before .before .before .before .before .before .before .before .before .before .pre .1) ∙ length-replicate {A = ℕ} 4096 0)
 
 returns-3 : tie.Need-returns-3 Inv-loop μ-loop
@@ -85,7 +123,8 @@ loop-less c = let g = c .before .before .before .before .before .before .before 
 
 loop-again : tie.Need-loop-again Inv-loop μ-loop
 loop-again c = let g = c .before .before .before .before .before .before .before .before .before .before .before .before .before .before .before .before .before .before .before .before .before .before .before .before .loop .inv .0 in
-    let inside = end-within (c .before .before .before .before .before .before .before .before .before .before .before .before .before .before .before .before .before .before .before .before .before .before .before .before .before .before .before .before .before .args .text .now) (c .before .before .before .before .before .before .before .before .before .before .before .before .before .before .before .before .before .before .before .before .before .before .before .before .loop .at) (g .walk .within) in (
+    let inside = end-within
+    (c .before .before .before .before .before .before .before .before .before .before .before .before .before .before .before .before .before .before .before .before .before .before .before .before .before .before .before .before .before .args .text .now) (c .before .before .before .before .before .before .before .before .before .before .before .before .before .before .before .before .before .before .before .before .before .before .before .before .loop .at) (g .walk .within) in (
       place-on (c .before .before .before .before .before .before .before .before .before .before .before .before .before .before .before .before .before .before .before .before .before .before .before .before .loop .inv .0) (c .before .before .before .before .before .before .before .before .before .before .before .before .before .before .before .before .before .before .before .before .before .before .read-line .ensures) (sym (c .before .before .before .before .before .before .before .before .before .before .before .before .before .before .before .before .before .before .before .before .before .strays .ensures) ∙ c .before .before .before .before .before .before .before .before .before .before .before .before .before .before .before .before .before .before .before .before .if1 .left) (c .before .before .before .before .before .before .before .before .before .before .before .before .before .before .before .before .before .before .before .address-of .result) (c .before .before .before .before .before .before .before .before .before .before .before .before .before .before .before .before .before .size-of .result) (c .before .before .before .before .before .before .before .before .before .before .before .before .before .before .before .before .before .before .before .address-of .ensures) (c .before .before .before .before .before .before .before .before .before .before .before .before .before .before .before .before .before .size-of .ensures ∙ ap sizeIn (c .before .before .before .before .before .before .before .before .before .before .before .before .before .before .before .before .before .before .shape-of .ensures)) (sym (c .before .before .before .before .before .before .before .before .before .before .before .before .before .before .before .free .ensures) ∙ not-false _ (c .before .before .before .before .before .before .before .before .before .before .before .before .before .before .if2 .left)) _ _ _ (c .before .before .before .before .before .before .before .before .before .before .before .before .note .result) (c .before .line-end .result) (c .before .before .before .before .before .before .before .before .before .before .before .before .note .ensures .0) (c .before .before .before .before .before .before .before .before .before .before .before .before .note .ensures .1) (c .before .before .before .before .before .before .before .before .store .ensures) (c .before .before .before .before .store2 .ensures) (c .before .line-end .ensures) (omega (arith, c .before .line-end .ensures, c .if3 .left)),
       same-room (c .before .before .before .before .before .before .before .before .before .before .before .before .before .before .before .before .before .before .before .before .before .before .before .before .loop .inv .0) (c .before .before .before .before .before .before .before .before .before .before .before .before .before .before .before .before .before .before .before .before .before .before .read-line .ensures) (sym (c .before .before .before .before .before .before .before .before .before .before .before .before .before .before .before .before .before .before .before .before .before .strays .ensures) ∙ c .before .before .before .before .before .before .before .before .before .before .before .before .before .before .before .before .before .before .before .before .if1 .left) (c .before .before .before .before .before .before .before .before .before .before .before .before .before .before .before .before .before .before .before .address-of .result) (c .before .before .before .before .before .before .before .before .before .before .before .before .before .before .before .before .before .size-of .result) (c .before .before .before .before .before .before .before .before .before .before .before .before .before .before .before .before .before .before .before .address-of .ensures) (c .before .before .before .before .before .before .before .before .before .before .before .before .before .before .before .before .before .size-of .ensures ∙ ap sizeIn (c .before .before .before .before .before .before .before .before .before .before .before .before .before .before .before .before .before .before .shape-of .ensures)) (sym (c .before .before .before .before .before .before .before .before .before .before .before .before .before .before .before .free .ensures) ∙ not-false _ (c .before .before .before .before .before .before .before .before .before .before .before .before .before .before .if2 .left)) _ _ _ (c .before .before .before .before .before .before .before .before .before .before .before .before .note .result) (c .before .line-end .result) (c .before .before .before .before .before .before .before .before .before .before .before .before .note .ensures .0) (c .before .before .before .before .before .before .before .before .before .before .before .before .note .ensures .1) (c .before .before .before .before .before .before .before .before .store .ensures) (c .before .before .before .before .store2 .ensures) (c .before .line-end .ensures) ∙ c .before .before .before .before .before .before .before .before .before .before .before .before .before .before .before .before .before .before .before .before .before .before .before .before .loop .inv .1,
     )
@@ -94,6 +133,8 @@ pub place-lines-spec : {M : Type 1} → statement M
 place-lines-spec =
     tie.close
     (tie.spec
-    Inv-loop μ-loop loop-holds read-line-requires (λ c κs. search needs) same-length same-length-2 returns (λ c κs. search needs) (λ c κs. search needs) (λ c κs. search needs)
-    free-requires same-length-3 same-length-4 returns-2 note-requires (λ c κs. search needs) add-store (λ c κs. search needs) add-address (λ c κs. c .before .before .before .before .before .before .before .before .before .before .before .before .before .before .before .before .before .before .before .before .before .before .loop .inv .0 .walk .within)
+    Inv-loop μ-loop loop-holds read-line-requires (λ c κs. search needs) same-length same-length-2 returns (λ c κs. search needs)
+    (λ c κs. search needs) (λ c κs. search needs)
+    free-requires same-length-3 same-length-4 returns-2 note-requires (λ c κs. search needs) add-store (λ c κs. search needs) add-address
+    (λ c κs. c .before .before .before .before .before .before .before .before .before .before .before .before .before .before .before .before .before .before .before .before .before .before .loop .inv .0 .walk .within)
     same-length-5 same-length-6 returns-3 add-at add-number loop-less loop-again)

@@ -38,8 +38,11 @@ returns c = let s = c .before .before .before .before .before .before .before in
 note-requires : tie.Need-note-requires Inv-loop μ-loop
 note-requires c κs = let s = c .before .before .before .before .before .before .before .before in
     let g = c .before .before .before .before .loop .inv in
-    let x = c .before .before .before .read-line .ensures in
-    ((λ l. let p = label-place (s .pre .0) g x (not-false _ (c .before .if1 .left)) l in (p .0, omega (arith, p .1, s .pre .0))), omega (arith, g .many, g .within, s .pre .0))
+    let x = c .before .before .before .read-line .ensures in (
+      (λ l. let p = label-place (s .pre .0) g x (not-false _ (c .before .if1 .left)) l in (p .0, omega (arith, p .1, s .pre .0))),
+      omega
+          (arith, g .many, g .within, s .pre .0),
+    )
 
 line-end-requires : tie.Need-line-end-requires Inv-loop μ-loop
 line-end-requires c κs = omega arith
@@ -48,23 +51,40 @@ same-length-2 : tie.Need-same-length-2 Inv-loop μ-loop
 same-length-2 c = let s = c .before .before .before .before .before .before .before .before .before .before .before .before .before in
     let l = c .before .before .before .before .before .before .before .before .before in
     let n = c .before .before .before .before .note .ensures in
-    collected (s .pre .0) (l .loop .inv) (c .before .before .before .before .before .before .before .before .read-line .ensures) (not-false _ (c .before .before .before .before .before .before .if1 .left)) _ _ (n .0) (n .1) (sym (c .before .line-end .ensures) ∙ c .if2 .taken) .room
+    collected (s .pre .0) (l .loop .inv) (c .before .before .before .before .before .before .before .before .read-line .ensures)
+    (not-false _ (c .before .before .before .before .before .before .if1 .left)) _ _ (n .0) (n .1)
+    (sym (c .before .line-end .ensures) ∙ c .if2 .taken) .room
     ∙ sym (s .pre .1)
 
 returns-2 : tie.Need-returns-2 Inv-loop μ-loop
 returns-2 c = let s = c .before .before .before .before .before .before .before .before .before .before .before .before .before in
     let l = c .before .before .before .before .before .before .before .before .before in
     let n = c .before .before .before .before .note .ensures in
-    collected (s .pre .0) (l .loop .inv) (c .before .before .before .before .before .before .before .before .read-line .ensures) (not-false _ (c .before .before .before .before .before .before .if1 .left)) _ _ (n .0) (n .1) (sym (c .before .line-end .ensures) ∙ c .if2 .taken)
+    collected (s .pre .0) (l .loop .inv) (c .before .before .before .before .before .before .before .before .read-line .ensures)
+    (not-false _ (c .before .before .before .before .before .before .if1 .left)) _ _ (n .0) (n .1)
+    (sym (c .before .line-end .ensures) ∙ c .if2 .taken)
 
 add-at : tie.Need-add-at Inv-loop μ-loop
-add-at c = let l = c .before .before .before .before .before .before .before .before .before in omega (arith, c .before .line-end .ensures, end-within (c .before .before .before .before .before .before .before .before .before .before .before .before .before .args .text .now) (l .loop .at) (l .loop .inv .within))
+add-at c = let l = c .before .before .before .before .before .before .before .before .before in omega (
+  arith,
+  c .before .line-end .ensures,
+  end-within
+      (c .before .before .before .before .before .before .before .before .before .before .before .before .before .args .text .now) (l .loop .at)
+      (l .loop .inv .within),
+)
 
 add-number : tie.Need-add-number Inv-loop μ-loop
-add-number c = let l = c .before .before .before .before .before .before .before .before .before in omega (arith, l .loop .inv .few, l .loop .inv .within, c .before .before .before .before .before .before .before .before .before .before .before .before .before .pre .0)
+add-number c = let l = c .before .before .before .before .before .before .before .before .before in omega
+    (arith, l .loop .inv .few, l .loop .inv .within, c .before .before .before .before .before .before .before .before .before .before .before .before .before .pre .0)
 
 loop-less : tie.Need-loop-less Inv-loop μ-loop
-loop-less c = let l = c .before .before .before .before .before .before .before .before .before in omega (arith, c .before .line-end .ensures, end-within (c .before .before .before .before .before .before .before .before .before .before .before .before .before .args .text .now) (l .loop .at) (l .loop .inv .within))
+loop-less c = let l = c .before .before .before .before .before .before .before .before .before in omega (
+  arith,
+  c .before .line-end .ensures,
+  end-within
+      (c .before .before .before .before .before .before .before .before .before .before .before .before .before .args .text .now) (l .loop .at)
+      (l .loop .inv .within),
+)
 
 loop-again : tie.Need-loop-again Inv-loop μ-loop
 loop-again c = let s = c .before .before .before .before .before .before .before .before .before .before .before .before .before in
@@ -72,7 +92,8 @@ loop-again c = let s = c .before .before .before .before .before .before .before
     let n = c .before .before .before .before .note .ensures in
     let e = c .before .line-end .ensures in
     let inside = end-within (s .args .text .now) (l .loop .at) (l .loop .inv .within) in
-    read-more (s .pre .0) (l .loop .inv) (c .before .before .before .before .before .before .before .before .read-line .ensures) (not-false _ (c .before .before .before .before .before .before .if1 .left)) _ _ (n .0) (n .1) (c .before .line-end .result) e (omega arith)
+    read-more (s .pre .0) (l .loop .inv) (c .before .before .before .before .before .before .before .before .read-line .ensures)
+    (not-false _ (c .before .before .before .before .before .before .if1 .left)) _ _ (n .0) (n .1) (c .before .line-end .result) e (omega arith)
 
 pub read-lines-spec : {M : Type 1} → statement M
 read-lines-spec =

@@ -10,7 +10,8 @@ use Rattle.assembler.proofs.passes.strays.Statement.{statement}
 use Rattle.assembler.proofs.passes.strays.Tie as tie
 
 over : (x : ℕ) → ltb 4095 x ≡ not (ltb x 4096)
-over x = case (ltb x 4096) (λ e. rw e (le-ltb 4095 x (omega (arith, ltb-true x 4096 e)))) (λ e. rw e (lt-ltb 4095 x (omega (arith, ltb-false x 4096 e))))
+over x = case (ltb x 4096) (λ e. rw e (le-ltb 4095 x (omega (arith, ltb-true x 4096 e))))
+    (λ e. rw e (lt-ltb 4095 x (omega (arith, ltb-false x 4096 e))))
 
 returns : tie.Need-returns
 returns c = rw (ne-eqb (c .before .args .form) 0 (c .if1 .taken)) refl

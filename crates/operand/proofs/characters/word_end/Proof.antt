@@ -29,7 +29,12 @@ loop-again c =
     let text = l .before .before .args .text .now in (
       omega arith,
       omega arith,
-      rw add-one (omega (arith, l .loop .inv .2, ap length (word-on text (l .loop .i) (sym (c .before .in-word .ensures) ∙ not-false _ (c .if1 .left))))),
+      rw add-one (omega (
+        arith,
+        l .loop .inv .2,
+        ap length
+            (word-on text (l .loop .i) (sym (c .before .in-word .ensures) ∙ not-false _ (c .if1 .left))),
+      )),
     )
 
 returns-2 : tie.Need-returns-2 Inv-loop μ-loop

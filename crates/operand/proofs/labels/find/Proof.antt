@@ -64,12 +64,15 @@ returns-2 c = let l = c .before in
       arith,
       l .loop .inv .1,
       find-past (s .args .text .now) (s .args .starts .now) (s .args .count) (wordAt (s .args .text .now) (s .args .word)),
-      ap (λ (k : ℕ). place (map (wordAt (s .args .text .now)) (slice k (s .args .count) (s .args .starts .now))) (wordAt (s .args .text .now) (s .args .word))) e,
+      ap (λ (k : ℕ). place (map (wordAt (s .args .text .now)) (slice k (s .args .count) (s .args .starts .now)))
+          (wordAt (s .args .text .now) (s .args .word))) e,
     )
 
 pub find-spec : {M : Type 1} → statement M
 find-spec =
     tie.close
     (tie.spec
-    Inv-loop μ-loop loop-holds (λ c. search needs) read (λ c. omega (arith, c .shared-slice-known3 .given (c .before .before .loop .i))) same-requires returns (λ c. omega arith) (λ c. omega arith)
+    Inv-loop μ-loop loop-holds
+    (λ c. search needs) read (λ c. omega (arith, c .shared-slice-known3 .given (c .before .before .loop .i))) same-requires returns
+    (λ c. omega arith) (λ c. omega arith)
     loop-again returns-2)

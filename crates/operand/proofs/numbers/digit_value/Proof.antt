@@ -24,13 +24,23 @@ returns-3 : tie.Need-returns-3
 unfolding digitValue
 returns-3 c =
     let x = c .before .before .before .before .args .c in
-    rw (sym (c .before .before .before .is-digit .ensures) ∙ c .before .before .if1 .left, le-leb 65 x (c .before .if2 .left), lt-leb x 70 (c .if3 .taken)) refl
+    rw (
+      sym (c .before .before .before .is-digit .ensures) ∙ c .before .before .if1 .left,
+      le-leb 65 x (c .before .if2 .left),
+      lt-leb x 70
+          (c .if3 .taken),
+    ) refl
 
 returns-4 : tie.Need-returns-4
 unfolding digitValue
 returns-4 c =
     let x = c .before .before .before .before .args .c in
-    rw (sym (c .before .before .before .is-digit .ensures) ∙ c .before .before .if1 .left, le-leb 65 x (c .before .if2 .left), le-leb x 70 (c .if3 .left)) refl
+    rw (
+      sym (c .before .before .before .is-digit .ensures) ∙ c .before .before .if1 .left,
+      le-leb 65 x (c .before .if2 .left),
+      le-leb x 70
+          (c .if3 .left),
+    ) refl
 
 pub digit-value-spec : {M : Type 1} → statement M
 digit-value-spec =

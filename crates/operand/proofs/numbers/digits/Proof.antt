@@ -59,7 +59,8 @@ loop-again c =
       omega arith,
       omega arith,
       omega arith,
-      rw (add-one, d) (sym (ap counted (digit-on text (s .args .base) (l .loop .value) (l .loop .i) (s .args .to) (omega arith) (omega arith) (omega (arith, d))))
+      rw (add-one, d) (sym (ap counted
+          (digit-on text (s .args .base) (l .loop .value) (l .loop .i) (s .args .to) (omega arith) (omega arith) (omega (arith, d))))
           ∙ l .loop .inv .3),
     )
 
@@ -69,7 +70,8 @@ returns-3 c =
     let s = l .before .before in
     let text = s .args .text .now in
     let e : l .loop .i ≡ s .args .to = omega arith in
-    sym (ap counted (ap (λ (n : ℕ). inBase (s .args .base) (l .loop .value) (slice n (s .args .to) text)) e ∙ digits-end text (s .args .base) (l .loop .value) (s .args .to))
+    sym (ap counted (ap (λ (n : ℕ). inBase (s .args .base) (l .loop .value) (slice n (s .args .to) text)) e ∙ digits-end text (s .args .base)
+    (l .loop .value) (s .args .to))
     ∙ rw (le-leb (l .loop .value) 65535 (omega arith)) refl) ∙ l .loop .inv .3
 
 pub digits-spec : {M : Type 1} → statement M

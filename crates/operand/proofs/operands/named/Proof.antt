@@ -23,7 +23,8 @@ returns c = let s = c .before .before .before .before .before .before .before in
     let e = c .before .before .before .find .ensures in
     let n = names-count (s .args .text .now) (s .args .starts .now) (s .args .count) (s .pre .1 .room) in
     rw (lt-ltb (place names w) (length names) (omega (arith, n, e)))
-    (subst (λ (k : ℕ). Single (getD (s .args .addresses .now) k 0) false (s .args .taken) (s .args .word .next) (c .single .result)) e (c .single .ensures))
+    (subst (λ (k : ℕ). Single (getD (s .args .addresses .now) k 0) false (s .args .taken) (s .args .word .next) (c .single .result)) e
+    (c .single .ensures))
 
 returns-2 : tie.Need-returns-2
 returns-2 c = let s = c .before .before .before .before .before .before in

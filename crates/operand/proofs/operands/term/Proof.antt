@@ -27,14 +27,16 @@ returns c = let s = c .before .before .before .before .before in
     let moved = lexed .moves (λ e. omega (arith, c .before .if1 .taken)) in
     good (record { taken = s .args .taken; part = label w } ∷ []) (c .named .ensures .readable)
     (single-counts names addresses (s .args .at) (s .args .word .next) (s .args .taken) (label w) (c .named .result)
-    (label-small names addresses w (λ k. omega (arith, c .before .before .shared-slice-known3 .given k))) (omega (arith, lexed .from)) (c .named .ensures))
+    (label-small names addresses w (λ k. omega (arith, c .before .before .shared-slice-known3 .given k))) (omega (arith, lexed .from))
+    (c .named .ensures))
     (omega (arith, lexed .from, lexed .starts, c .named .ensures .next)) (omega (arith, lexed .within, c .named .ensures .next))
     (λ here outer h. rw (is .0, is .1, c .named .ensures .next) refl)
 
 -- neither a label nor a number
 returns-2 : tie.Need-returns-2
 returns-2 c = let s = c .before .before .before .before .before .before in
-    bad (c .unreadable .ensures) (λ here outer h. as-none (s .pre .0 .0 .next) (c .before .before .if1 .left) (c .before .if2 .taken) (s .pre .1) (s .args .taken) here outer)
+    bad (c .unreadable .ensures)
+    (λ here outer h. as-none (s .pre .0 .0 .next) (c .before .before .if1 .left) (c .before .if2 .taken) (s .pre .1) (s .args .taken) here outer)
 
 -- a number over 65,535, or none
 returns-3 : tie.Need-returns-3
@@ -56,7 +58,8 @@ returns-4 c = let s = c .before .before .before .before .before .before .before 
     let moved = lexed .moves (λ q. omega (arith, c .before .before .before .if2 .left)) in
     let n = c .before .before .number .result in
     good (record { taken = s .args .taken; part = number n } ∷ []) (c .single .ensures .readable)
-    (single-counts names addresses (s .args .at) (s .args .word .next) (s .args .taken) (number n) (c .single .result) (omega arith) (omega (arith, lexed .from)) (c .single .ensures))
+    (single-counts names addresses (s .args .at) (s .args .word .next) (s .args .taken) (number n) (c .single .result) (omega arith)
+    (omega (arith, lexed .from)) (c .single .ensures))
     (omega (arith, lexed .from, lexed .starts, c .single .ensures .next)) (omega (arith, lexed .within, c .single .ensures .next))
     (λ here outer h. rw (is .0, is .1, some-number w (omega arith), sym e, c .single .ensures .next) refl)
 
@@ -71,4 +74,5 @@ named-requires c κs = let s = c .before .before .before .before in
 pub term-spec : {M : Type 1} → statement M
 term-spec =
     tie.close
-    (tie.spec named-requires returns (λ c κs. search needs) returns-2 number-requires (λ c κs. search needs) returns-3 (λ c. search needs) (λ c κs. search needs) returns-4)
+    (tie.spec named-requires returns (λ c κs. search needs) returns-2 number-requires (λ c κs. search needs) returns-3 (λ c. search needs)
+    (λ c κs. search needs) returns-4)

@@ -14,8 +14,11 @@ shared-slice-read-result c = let s = c .before .before in
     omega (arith, word-within (s .args .text .now) (s .args .start) (omega arith))
 
 returns : tie.Need-returns
-returns c = let s = c .before .before in
-    (sym (getD-word (s .args .text .now) (s .args .start) (s .args .k) (omega arith)), omega (arith, c .shared-slice-known .given (s .args .start + s .args .k)))
+returns c = let s = c .before .before in (
+  sym (getD-word (s .args .text .now) (s .args .start) (s .args .k) (omega arith)),
+  omega
+      (arith, c .shared-slice-known .given (s .args .start + s .args .k)),
+)
 
 returns-2 : tie.Need-returns-2
 returns-2 c = let s = c .before in

@@ -55,5 +55,6 @@ returns-3 c = let f = c .before .before .before in
 pub word-kind-spec : {M : Type 1} → statement M
 word-kind-spec =
     tie.close
-    (tie.spec (λ c κs. search needs) (λ c κs. search needs) returns (λ c κs. (c .before .before .before .before .pre .0 .0, omega arith)) (λ c κs. search needs)
+    (tie.spec (λ c κs. search needs) (λ c κs. search needs) returns (λ c κs. (c .before .before .before .before .pre .0 .0, omega arith))
+    (λ c κs. search needs)
     (λ c. omega arith) (λ c. omega arith) returns-2 returns-3)
