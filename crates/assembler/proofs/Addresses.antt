@@ -1,29 +1,26 @@
 -- Addresses of labels: what an operand counts sees only as many addresses as there are labels; the addresses above a line are the first ones of
 -- all; and what a line that is read says of addresses, sizes, places, values and bytes. Assumes nothing.
-use Prim.Native.Nat.{ℕ, zero, suc, _+_, _*_, _-_, _/_, _%_, _^_, _<_, _≤_}
+use Prim.Native.Nat.{ℕ, zero, suc, _+_, _-_, _%_, _^_, _<_, _≤_}
 use mathlib.Core.Path.{_≡_, refl, sym, ap, subst, _∙_}
 use mathlib.Core.Bool.{Bool, true, false, _&&_, _||_, not}
-use mathlib.Core.List.{List, [], _∷_, _++_, append-assoc, append-nil, map}
+use mathlib.Core.List.{List, [], _∷_, _++_, append-assoc, append-nil}
 use mathlib.Core.Option.{Option, none, some}
-use native.Mathlib.Nat.{add-zero}
 use native.Mathlib.Numerals.{add-one}
 use native.Mathlib.Omega.{arith}
-use borrow.Author.Tests.{eq-eqb, eqb-false, eqb-true, le-leb, le-ltb, leb-false, leb-true, lt-leb, lt-ltb, ltb-false, ltb-true, ne-eqb}
+use borrow.Author.Tests.{eqb-false, eqb-true, le-leb, le-ltb, leb-false, leb-true, lt-ltb, ltb-false, ltb-true, ne-eqb}
 use lib.Dec.{eqb, leb, ltb}
 use lib.ListN.{getD, length, set, take, length-append, length-set}
 use lib.Seq.{getD-set-other, getD-set-same, getD-take, sets, take-append-seam, take-take}
 use Rattle.isa.specs.Choice.{pick}
-use Rattle.isa.specs.Code.{bytesOf}
 use Rattle.operand.specs.Words.{among, place}
 use Rattle.operand.specs.Operand.{Part, Term, label, minus, number, plus, valueOf}
-use Rattle.operand.specs.Read.{wordAt}
 use Rattle.operand.proofs.Texts.{both, case, differ, neither}
-use Rattle.assembler.specs.Forms.{digits, field, reaches, size}
-use Rattle.assembler.specs.Statement.{Statement, unreadable, blank, org, mnemonic}
+use Rattle.assembler.specs.Forms.{field, size}
+use Rattle.assembler.specs.Statement.{Statement}
 use Rattle.assembler.specs.Program.{Above, addressOf, bytes, end, first, fitting, ifLabelled, isIn, labelOf, meets, misfit, misplaced, named}
-use Rattle.assembler.specs.Program.{next, program, sizeOf, span, start, within}
-use Rattle.assembler.specs.Shapes.{bytesIn, digitsIn, firsts, formAt, isFree, isMisfit, isTaken, listed, lowBytes, reachesIn, shapes, sizeIn}
-use Rattle.assembler.specs.Read.{Shows, Valued, broken, coded, empty, labelIn, origin}
+use Rattle.assembler.specs.Program.{next, sizeOf, span, within}
+use Rattle.assembler.specs.Shapes.{bytesIn, digitsIn, firsts, formAt, isFree, isMisfit, listed, lowBytes, shapes, sizeIn}
+use Rattle.assembler.specs.Read.{Shows, broken, coded, empty, origin}
 use Rattle.assembler.specs.declared.forms.Bytes.{Bytes}
 use Rattle.assembler.specs.declared.lines.Line.{Line}
 use Rattle.assembler.proofs.Shaping.{shape-at}

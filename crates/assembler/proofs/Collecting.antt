@@ -1,25 +1,24 @@
 -- The first pass, on plain values: every line so far can be read, and the labels' words stand at the places noted. Assumes nothing.
-use Prim.Native.Nat.{ℕ, zero, suc, _+_, _*_, _<_, _≤_}
+use Prim.Native.Nat.{ℕ, suc, _+_, _*_, _<_, _≤_}
 use mathlib.Core.Path.{_≡_, refl, sym, ap, subst, _∙_}
-use mathlib.Core.Bool.{Bool, true, false, not}
+use mathlib.Core.Bool.{true, false}
 use mathlib.Core.List.{List, [], _∷_, _++_, append-nil, map, map-append}
 use native.Mathlib.Numerals.{add-one}
 use native.Mathlib.Omega.{arith}
-use lib.Dec.{eqb, ltb}
+use lib.Dec.{eqb}
 use borrow.Author.Tests.{eqb-false, eqb-true}
 use lib.ListN.{getD, length, set, take, length-set}
 use lib.Seq.{getD-set-other, getD-set-same, take-suc-set}
 use Rattle.isa.specs.Choice.{pick}
 use Rattle.operand.specs.Read.{Held, namesAt, tokensAt, wordAt}
-use Rattle.operand.proofs.Texts.{case, differ}
+use Rattle.operand.proofs.Texts.{case}
 use Rattle.assembler.specs.Statement.{Statement, statement}
-use Rattle.assembler.specs.Program.{Above, end, first, labelOf, named, next, program, start, unread}
+use Rattle.assembler.specs.Program.{Above, end, first, next, program, start, unread}
 use Rattle.assembler.specs.Read.{Shows}
 use Rattle.assembler.specs.Passing.{Collected, lineEnd}
 use Rattle.assembler.specs.declared.lines.Line.{Line}
-use Rattle.assembler.specs.declared.passes.Labels.{Labels}
 use Rattle.assembler.proofs.Splitting.{end-within, last-line, next-line, programAt}
-use Rattle.assembler.proofs.Walking.{Split, first-found, first-on, labelled-long, shows-named, shows-place, shows-unread, split}
+use Rattle.assembler.proofs.Walking.{first-found, first-on, labelled-long, shows-named, shows-place, shows-unread, split}
 
 pub record Reading (text starts : List ℕ) (at number count : ℕ) : Type 0 where
   pub s : Above

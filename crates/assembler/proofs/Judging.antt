@@ -1,12 +1,12 @@
 -- The passes' findings as an answer, in their order. Assumes nothing.
 use Prim.Native.Nat.{ℕ, zero, suc, _≤_}
-use mathlib.Core.Path.{_≡_, refl, sym, ap, subst, _∙_}
+use mathlib.Core.Path.{_≡_, refl, sym, subst, _∙_}
 use mathlib.Core.List.{List}
 use native.Mathlib.Omega.{arith}
-use lib.ListN.{length, replicate}
+use lib.ListN.{length}
 use Rattle.assembler.specs.Statement.{Statement}
 use Rattle.assembler.specs.Program as Program
-use Rattle.assembler.specs.Program.{answerTo, end, first, image, judged, left, line, misfit, mislabelled, misplaced, program, put, refused}
+use Rattle.assembler.specs.Program.{answerTo, end, first, image, judged, line, misfit, mislabelled, misplaced, refused}
 use Rattle.assembler.specs.Program.{refusal, start, unread, written}
 use Rattle.assembler.specs.Passing.{Answered, Collected, Settled}
 use Rattle.assembler.specs.declared.assemble.Answer.{Answer}

@@ -1,24 +1,22 @@
 -- A form is told by the kinds of its words and signs in a row. Kinds tell the fixed words, commas and brackets apart, and a number of such kinds
 -- tells them and their order. Assumes nothing.
 use Prim.Native.Nat.{ℕ, zero, suc, _+_, _<_, _≤_}
-use Prim.Native.Char.{code}
 use mathlib.Core.Path.{_≡_, refl, sym, ap, subst, _∙_}
-use mathlib.Core.Bool.{Bool, true, false, _&&_, _||_, not}
-use mathlib.Core.List.{List, [], _∷_, _++_, map, reverse, reverseAux, reverse-reverse}
-use mathlib.Core.Option.{Option, none, some}
+use mathlib.Core.Bool.{Bool, true, false, _&&_, not}
+use mathlib.Core.List.{List, [], _∷_, map, reverse, reverseAux, reverse-reverse}
+use mathlib.Core.Option.{none, some}
 use native.Mathlib.Omega.{arith}
-use borrow.Author.Tests.{eq-eqb, eqb-false, eqb-true, leb-true, le-ltb, lt-ltb, ltb-false, ltb-true, ne-eqb}
+use borrow.Author.Tests.{eq-eqb, eqb-true, leb-true, lt-ltb, ltb-true, ne-eqb}
 use lib.Dec.{eqb, leb, ltb}
 use lib.ListN.{getD, length, length-map}
-use Rattle.isa.specs.Choice.{pick}
 use Rattle.isa.specs.declared.Instruction.{Instruction}
 use Rattle.isa.specs.declared.Instruction.the-variants as I
 use Rattle.mnemonic.specs.Line.{lineOf}
-use Rattle.mnemonic.specs.Spelling.{Token, letters, mark, operand, codes}
+use Rattle.mnemonic.specs.Spelling.{Token, letters, mark, operand}
 use Rattle.operand.specs.Text.{isDigit}
-use Rattle.operand.specs.Words.{among, first, fixedWords, isFixed, place, same}
+use Rattle.operand.specs.Words.{first, fixedWords, isFixed, place, same}
 use Rattle.operand.specs.Read.{kindOf, packed, placeOf, signKind, wordKind}
-use Rattle.operand.proofs.Texts.{both, case, differ, neither}
+use Rattle.operand.proofs.Texts.{both, case, differ}
 use Rattle.operand.proofs.Places.{characters, characters-are, same-packed, same-refl}
 use Rattle.assembler.specs.Forms.{always, forms, lead}
 use Rattle.assembler.specs.Statement.{before, equal, equals, formIn, leads}

@@ -1,20 +1,20 @@
 -- Laws of one line, on plain values: its label, the tokens before its operand, its operand, and what statement they make. Assumes nothing.
 use Prim.Native.Nat.{ℕ, zero, suc, _+_, _*_, _<_, _≤_}
-use mathlib.Core.Path.{_≡_, refl, sym, ap, subst, _∙_}
+use mathlib.Core.Path.{_≡_, refl, sym, ap, _∙_}
 use mathlib.Core.Bool.{Bool, true, false, _&&_, _||_, not}
 use mathlib.Core.List.{List, [], _∷_, _++_, append-nil, map, reverse, reverseAux}
 use mathlib.Core.Option.{Option, none, some}
 use native.Mathlib.Nat.{zero-add}
 use native.Mathlib.Omega.{arith}
-use borrow.Author.Tests.{eq-eqb, eqb-false, eqb-true, le-leb, le-ltb, leb-false, leb-true, lt-leb, lt-ltb, ltb-true, ne-eqb}
-use lib.Dec.{eqb, leb, ltb}
+use borrow.Author.Tests.{eq-eqb, eqb-false, eqb-true, le-leb, lt-leb, lt-ltb, ltb-true, ne-eqb}
+use lib.Dec.{eqb, ltb}
 use lib.ListN.{getD, length}
 use Rattle.isa.specs.Choice.{pick}
-use Rattle.mnemonic.specs.Spelling.{Token, letters, mark, operand, codes}
-use Rattle.operand.specs.Text.{inWord, isDigit, isLetter}
-use Rattle.operand.specs.Words.{first, fixedWords, isFixed, isLabel, place}
-use Rattle.operand.specs.Operand.{Term, before as term-before, followed, minus, missing, operandOf, plus, wanted}
-use Rattle.operand.specs.Read.{Counts, Lexed, Next, OperandRead, Stops, befores, ended, kindOf, namesAt, packed, placeOf, sign, signKind, tokensAt}
+use Rattle.mnemonic.specs.Spelling.{Token, letters, mark, operand}
+use Rattle.operand.specs.Text.{isDigit, isLetter}
+use Rattle.operand.specs.Words.{first, isFixed, isLabel, place}
+use Rattle.operand.specs.Operand.{Term, followed, minus, missing, operandOf, plus}
+use Rattle.operand.specs.Read.{Lexed, Next, OperandRead, befores, ended, kindOf, packed, placeOf, sign, signKind, tokensAt}
 use Rattle.operand.specs.Read.{word, wordAt, wordKind}
 use Rattle.operand.specs.Read as R
 use Rattle.operand.specs.declared.operands.Sum.{Sum}
@@ -23,16 +23,16 @@ use Rattle.operand.proofs.Places.{characters}
 use Rattle.operand.proofs.Terms.{befores-none}
 use Rattle.operand.proofs.Texts.{both, case, differ, neither, not-letter}
 use Rattle.operand.proofs.TokenKinds.{as-end, as-label, as-over, as-sign, sign-is, sign-not}
-use Rattle.assembler.specs.Forms.{digits, forms}
-use Rattle.assembler.specs.Statement.{Statement, after, afterTwo, before, blank, body, coded, codeOf, equals, formIn, labelOf, labelled, leads}
-use Rattle.assembler.specs.Statement.{mnemonic, nothing, operandFor, org, orgOf, statement, unreadable}
-use Rattle.assembler.specs.Shapes.{digitsIn, formAt, formKeys, keyOf, leadsIn, orgLead, shapes}
-use Rattle.assembler.specs.Read.{Headed, Labelling, Operanded, Shows, Valued, bad, bodied, good, labelIn, long, whole}
+use Rattle.assembler.specs.Forms.{digits}
+use Rattle.assembler.specs.Statement.{after, afterTwo, before, blank, body, coded, codeOf, labelOf, labelled, leads}
+use Rattle.assembler.specs.Statement.{mnemonic, nothing, operandFor, org, statement}
+use Rattle.assembler.specs.Shapes.{digitsIn, formAt, formKeys, keyOf, leadsIn, shapes}
+use Rattle.assembler.specs.Read.{Headed, Labelling, Operanded, Shows, bad, bodied, good, labelIn, long, whole}
 use Rattle.assembler.specs.Read as L
 use Rattle.assembler.specs.declared.lines.Head.{Head}
 use Rattle.assembler.specs.declared.lines.Label.{Label}
 use Rattle.assembler.specs.declared.lines.Line.{Line}
-use Rattle.assembler.proofs.Keys.{allLead, before-leads, fixed-kind, form-found, form-none, keys-most, kind-range, not-org, org-found}
+use Rattle.assembler.proofs.Keys.{before-leads, fixed-kind, form-found, form-none, keys-most, kind-range, not-org, org-found}
 use Rattle.assembler.proofs.Keys.{too-long, zero-none}
 use Rattle.assembler.proofs.Shaping.{shape-at}
 

@@ -1,9 +1,9 @@
 -- The third pass, on plain values: every line so far has its place, flags say which addresses are written, and the labels have their addresses.
 -- Assumes nothing.
-use Prim.Native.Nat.{ℕ, zero, suc, _+_, _-_, _<_, _≤_}
-use mathlib.Core.Path.{_≡_, refl, sym, ap, subst, _∙_}
+use Prim.Native.Nat.{ℕ, suc, _+_, _-_, _<_, _≤_}
+use mathlib.Core.Path.{_≡_, refl, sym, ap, _∙_}
 use mathlib.Core.Bool.{Bool, true, false, _&&_, not}
-use mathlib.Core.List.{List, [], _∷_, _++_, append-nil}
+use mathlib.Core.List.{List, _++_, append-nil}
 use native.Mathlib.Numerals.{add-one}
 use native.Mathlib.Omega.{arith}
 use borrow.Author.Tests.{leb-true, ltb-true}
@@ -15,12 +15,12 @@ use Rattle.operand.specs.Read.{namesAt, tokensAt}
 use Rattle.operand.proofs.Places.{names-count}
 use Rattle.operand.proofs.Texts.{both, case, differ}
 use Rattle.assembler.specs.Statement.{Statement, statement}
-use Rattle.assembler.specs.Program.{Above, addressOf, end, first, ifLabelled, labelOf, misplaced, next, program, sizeOf, span, start, within}
-use Rattle.assembler.specs.Shapes.{isFree, isTaken, shapes, sizeIn}
+use Rattle.assembler.specs.Program.{Above, addressOf, end, first, misplaced, next, program, span, start, within}
+use Rattle.assembler.specs.Shapes.{isFree, shapes, sizeIn}
 use Rattle.assembler.specs.Read.{Shows}
 use Rattle.assembler.specs.Passing.{Placed, Settled, lineEnd}
 use Rattle.assembler.specs.declared.lines.Line.{Line}
-use Rattle.assembler.proofs.Addresses.{Flags, flag-span, shows-address, shows-place-free, shows-placed, shows-size, shows-stray, size-most}
+use Rattle.assembler.proofs.Addresses.{Flags, flag-span, shows-address, shows-place-free, shows-size, shows-stray, size-most}
 use Rattle.assembler.proofs.Splitting.{last-line, programAt}
 use Rattle.assembler.proofs.Walking.{Walk, shows-labelled, walk-begin, next-count, walk-clear, walk-few, walk-found, walk-names, walk-next-few}
 use Rattle.assembler.proofs.Walking.{walk-on, walk-past, walk-readable}

@@ -1,7 +1,7 @@
 -- The last two passes, on plain values: every line has its place, and the labels their addresses. Assumes nothing.
-use Prim.Native.Nat.{ℕ, zero, suc, _+_, _-_, _%_, _<_, _≤_}
-use mathlib.Core.Path.{_≡_, refl, sym, ap, subst, _∙_}
-use mathlib.Core.Bool.{Bool, true, false}
+use Prim.Native.Nat.{ℕ, suc, _+_, _-_, _%_, _<_, _≤_}
+use mathlib.Core.Path.{_≡_, refl, sym, ap, _∙_}
+use mathlib.Core.Bool.{true, false}
 use mathlib.Core.List.{List, [], _∷_}
 use native.Mathlib.Numerals.{add-one}
 use native.Mathlib.Omega.{arith}
@@ -12,7 +12,7 @@ use Rattle.isa.specs.Choice.{pick}
 use Rattle.operand.specs.Read.{namesAt, tokensAt}
 use Rattle.operand.proofs.Places.{names-count}
 use Rattle.assembler.specs.Statement.{Statement, statement}
-use Rattle.assembler.specs.Program.{Above, addressOf, bytes, end, first, misfit, misplaced, next, program, put, sizeOf, start}
+use Rattle.assembler.specs.Program.{Above, addressOf, bytes, end, first, misfit, misplaced, next, program, put, start}
 use Rattle.assembler.specs.Shapes.{bytesIn, firsts, isMisfit, listed, lowBytes, shapes, sizeIn}
 use Rattle.assembler.specs.Read.{Shows}
 use Rattle.assembler.specs.Passing.{Placed, lineEnd}
@@ -21,7 +21,7 @@ use Rattle.assembler.specs.declared.lines.Line.{Line}
 use Rattle.assembler.proofs.Addresses.{first-addresses, next-paired, shows-address, shows-bytes, shows-misfit, shows-placed, shows-put}
 use Rattle.assembler.proofs.Addresses.{shows-size, size-most, store-listed}
 use Rattle.assembler.proofs.Splitting.{last-line, next-line, programAt}
-use Rattle.assembler.proofs.Walking.{Walk, walk-begin, walk-clear, walk-few, walk-found, walk-names, walk-none, walk-on, walk-past}
+use Rattle.assembler.proofs.Walking.{Walk, walk-begin, walk-few, walk-names, walk-none, walk-on, walk-past}
 use Rattle.assembler.proofs.Walking.{walk-readable}
 
 -- a walk on which each line has its place

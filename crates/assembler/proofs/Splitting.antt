@@ -1,20 +1,17 @@
 -- A text from a position on as its first line and the rest. Assumes nothing.
-use Prim.Native.Nat.{ℕ, zero, suc, _+_, _<_, _≤_}
-use mathlib.Core.Path.{_≡_, refl, sym, ap, _∙_}
-use mathlib.Core.Bool.{Bool, true, false}
+use Prim.Native.Nat.{ℕ, suc, _<_, _≤_}
+use mathlib.Core.Path.{_≡_, refl, ap, _∙_}
 use mathlib.Core.List.{List, [], _∷_, map}
 use native.Mathlib.Nat.{add-suc, add-zero, suc-add}
 use native.Mathlib.Omega.{arith}
-use borrow.Author.Tests.{eq-eqb, ne-eqb}
+use borrow.Author.Tests.{ne-eqb}
 use lib.Dec.{eqb}
 use lib.ListN.{getD, length, drop, drop-of-length-le, length-drop}
 use lib.Seq.{drop-cons, drop-drop}
-use Rattle.isa.specs.Choice.{pick}
-use Rattle.operand.specs.Text.{LF, lines, onFirst, tokens}
+use Rattle.operand.specs.Text.{LF, lines, tokens}
 use Rattle.operand.specs.Read.{tokensAt, upToLf}
 use Rattle.operand.proofs.Texts.{case}
 use Rattle.assembler.specs.Statement.{Statement, statement}
-use Rattle.assembler.specs.Program.{program}
 use Rattle.assembler.specs.Passing.{lineEnd}
 
 module _ (text : List ℕ) (at : ℕ) where

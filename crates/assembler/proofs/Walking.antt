@@ -1,31 +1,30 @@
 -- Walking over the lines of a program: the first line with a fault, what the lines above leave, and what a line that is read says of it. Assumes
 -- nothing.
-use Prim.Native.Nat.{ℕ, zero, suc, _+_, _*_, _-_, _<_, _≤_}
-use mathlib.Core.Path.{_≡_, refl, sym, ap, subst, _∙_}
+use Prim.Native.Nat.{ℕ, zero, suc, _+_, _-_, _<_, _≤_}
+use mathlib.Core.Path.{_≡_, refl, sym, ap, _∙_}
 use mathlib.Core.Bool.{Bool, true, false, _&&_, _||_, not}
 use mathlib.Core.List.{List, [], _∷_, _++_, append-assoc, append-nil, map}
 use mathlib.Core.Option.{Option, none, some}
-use native.Mathlib.Nat.{add-suc, add-zero, suc-add}
 use native.Mathlib.Numerals.{add-one}
 use native.Mathlib.Omega.{arith}
-use borrow.Author.Tests.{eq-eqb, eqb-true, ltb-false, ltb-true, ne-eqb}
+use borrow.Author.Tests.{ltb-false, ltb-true}
 use lib.Dec.{eqb, ltb}
-use lib.ListN.{getD, length, drop, take, length-append}
+use lib.ListN.{length, drop, take, length-append}
 use lib.Seq.{take-append-seam, take-take}
 use Rattle.isa.specs.Choice.{pick}
 use Rattle.isa.specs.declared.Instruction.{Instruction}
 use Rattle.mnemonic.specs.Spelling.{Token, letters, mark, operand, codes}
-use Rattle.operand.specs.Text.{LF, begins, inWord, onWord, tokens}
+use Rattle.operand.specs.Text.{begins, inWord, onWord, tokens}
 use Rattle.operand.specs.Words.{among}
 use Rattle.operand.specs.Operand.{Term, operandOf}
 use Rattle.operand.specs.Read.{namesAt, tokensAt, upToLf, wordAt}
 use Rattle.operand.proofs.Places.{names-count}
 use Rattle.operand.proofs.Texts.{case, differ}
-use Rattle.assembler.specs.Statement.{Statement, unreadable, blank, org, mnemonic, after, before, body, coded, codeOf, equals, formIn, labelled}
+use Rattle.assembler.specs.Statement.{Statement, after, before, body, coded, codeOf, equals, formIn, labelled}
 use Rattle.assembler.specs.Statement.{operandFor, orgOf, statement}
 use Rattle.assembler.specs.Forms.{digits, forms}
 use Rattle.assembler.specs.Program.{Above, again, end, first, ifLabelled, labelOf, mislabelled, named, next, program, start, unread}
-use Rattle.assembler.specs.Read.{Shows, Valued, broken, coded as code, empty, labelIn, origin}
+use Rattle.assembler.specs.Read.{Shows, broken, coded as code, empty, labelIn, origin}
 use Rattle.assembler.specs.Read.{Tabled}
 use Rattle.assembler.specs.Passing.{Settled, lineEnd}
 use Rattle.assembler.specs.declared.lines.Line.{Line}

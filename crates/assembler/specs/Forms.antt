@@ -1,7 +1,7 @@
 -- The forms of a line: each line of document 001's "Instruction Set Summary", in its order, as the instruction that it is for a value of its
 -- operand. Its words, signs and operand place are those of its text (mnemonic/specs/Line). Assumes nothing.
-use Prim.Native.Nat.{ℕ, zero, suc, _+_, _*_, _/_, _%_, _^_}
-use mathlib.Core.Bool.{Bool, true, false}
+use Prim.Native.Nat.{ℕ, _/_, _%_, _^_}
+use mathlib.Core.Bool.{Bool, true}
 use mathlib.Core.List.{List, [], _∷_}
 use lib.Dec.{eqb}
 use lib.ListN.{length}

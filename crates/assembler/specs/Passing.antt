@@ -1,13 +1,11 @@
 -- What the passes leave and need. Assumes nothing.
-use Prim.Native.Nat.{ℕ, zero, suc, _+_, _≤_, _<_}
+use Prim.Native.Nat.{ℕ, _+_, _≤_}
 use mathlib.Core.Path.{_≡_}
-use mathlib.Core.List.{List, [], _∷_, map}
+use mathlib.Core.List.{List}
 use lib.ListN.{length, drop, take}
-use Rattle.operand.specs.Text.{lines, tokens}
 use Rattle.operand.specs.Read.{Held, namesAt, upToLf}
-use Rattle.assembler.specs.Statement.{Statement, statement}
 use Rattle.assembler.specs.Program as Program
-use Rattle.assembler.specs.Program.{Above, end, first, left, line, mislabelled, misplaced, program, refusal, start, unread}
+use Rattle.assembler.specs.Program.{end, first, left, line, misplaced, program, refusal, start, unread}
 use Rattle.assembler.specs.Read.{Tabled}
 use Rattle.assembler.specs.declared.assemble.Answer.{Answer}
 use Rattle.assembler.specs.declared.passes.Labels.{Labels}

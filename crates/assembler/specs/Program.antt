@@ -13,7 +13,7 @@ use Rattle.rom.specs.Fetching.{movedBy}
 use Rattle.operand.specs.Text.{lines, tokens}
 use Rattle.operand.specs.Words.{among}
 use Rattle.operand.specs.Operand.{Term, minus, missing, plus}
-use Rattle.assembler.specs.Forms.{digits, field, reaches, size}
+use Rattle.assembler.specs.Forms.{field, reaches, size}
 use Rattle.assembler.specs.Statement.{Statement, unreadable, blank, org, mnemonic, statement}
 
 abbrev pub program : List ℕ → List Statement

@@ -7,7 +7,7 @@ ghost use lib.Dec.{eqb};
 ghost use Rattle.isa.specs.Choice.{pick};
 ghost use Rattle.operand.specs.Words.{among};
 ghost use Rattle.operand.specs.Read.{namesAt, wordAt};
-ghost use Rattle.assembler.specs.Program.{end, first, mislabelled, misfit, misplaced, program, put, start, unread, within};
+ghost use Rattle.assembler.specs.Program.{end, first, mislabelled, misfit, misplaced, program, put, start, within};
 ghost use Rattle.assembler.specs.Shapes.{isFree, isMisfit};
 ghost use Rattle.assembler.specs.Read.{Tabled};
 ghost use Rattle.assembler.specs.Passing.{Collected, Placed, Settled, lineEnd};

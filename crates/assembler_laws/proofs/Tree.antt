@@ -9,7 +9,7 @@ use Rattle.isa.specs.Choice.{pick}
 use Rattle.mnemonic.specs.Spelling.{Token, letters, mark, operand, sign}
 use Rattle.operand.specs.Operand as Reading
 use Rattle.operand.specs.Operand.{Part, partOf}
-use Rattle.assembler_laws.specs.Grammar.{Tree, number, label, sum, difference, Single, numeral, name, parenthesis}
+use Rattle.assembler_laws.specs.Grammar.{Tree, number, label, sum, difference, numeral, name, parenthesis}
 use Rattle.assembler_laws.specs.Grammar.{Operand, single, added, less}
 use Rattle.assembler_laws.proofs.Full.{numeral-part, name-part}
 

@@ -1,16 +1,15 @@
 -- Digits and their values. Assumes nothing.
 use Prim.Native.Nat.{ℕ, zero, suc, _+_, _*_, _-_, _<_, _≤_}
 use mathlib.Core.Path.{_≡_, refl, sym, ap, _∙_}
-use mathlib.Core.Bool.{Bool, true, false, _&&_}
+use mathlib.Core.Bool.{true}
 use mathlib.Core.List.{List, [], _∷_}
 use mathlib.Core.Option.{Option, none, some}
 use native.Mathlib.Nat.{add-zero, mul-le-mul, mul-suc}
 use native.Mathlib.Omega.{arith}
-use borrow.Author.Tests.{eq-eqb, le-leb, le-ltb, leb-true, lt-leb, lt-ltb, ne-eqb}
-use lib.Dec.{eqb, leb, ltb}
+use borrow.Author.Tests.{eq-eqb, le-ltb, leb-true, lt-leb, lt-ltb, ne-eqb}
+use lib.Dec.{leb, ltb}
 use lib.ListN.{getD, length}
 use lib.Seq.{slice, slice-cons, slice-empty, take-length}
-use Rattle.isa.specs.Choice.{pick}
 use Rattle.operand.specs.Text.{inWord, isDigit, isLetter}
 use Rattle.operand.specs.Words.{atMost, digitValue, first, front, inBase, last, numberOf}
 use Rattle.operand.specs.Read.{counted, wordAt}

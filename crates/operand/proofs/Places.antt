@@ -5,14 +5,13 @@ use mathlib.Core.Bool.{Bool, true, false, _&&_}
 use mathlib.Core.List.{List, [], _∷_, map}
 use native.Mathlib.Nat.{zero-add}
 use native.Mathlib.Omega.{arith}
-use borrow.Author.Tests.{eq-eqb, eqb-false, eqb-true, leb-true, le-ltb, lt-ltb, ltb-false, ltb-true, ne-eqb}
+use borrow.Author.Tests.{eq-eqb, eqb-false, eqb-true, leb-true, ltb-true, ne-eqb}
 use lib.Dec.{eqb, leb, ltb}
 use lib.ListN.{getD, length, drop, drop-of-length-le, length-map, take}
 use lib.Seq.{drop-cons, length-take-le, slice, slice-cons, slice-empty}
-use Rattle.isa.specs.Choice.{pick}
-use Rattle.operand.specs.Words.{among, fixedWords, isFixed, place, same}
+use Rattle.operand.specs.Words.{fixedWords, place, same}
 use Rattle.operand.specs.Read.{namesAt, packed, packedWords, packing, placeOf, wordAt}
-use Rattle.operand.proofs.Texts.{both, case, differ}
+use Rattle.operand.proofs.Texts.{both, case}
 
 module _ (list : List ℕ) (i x : ℕ) where
   pub place-past : length list ≤ i → placeOf (drop i list) x ≡ 0

@@ -1,21 +1,21 @@
 -- What terms count, one after another, and a term by itself. Assumes nothing.
-use Prim.Native.Nat.{ℕ, zero, suc, _+_, _*_, _<_, _≤_}
-use mathlib.Core.Path.{_≡_, refl, sym, ap, subst, _∙_}
-use mathlib.Core.Bool.{Bool, true, false, _||_, not}
+use Prim.Native.Nat.{ℕ, _+_, _<_, _≤_}
+use mathlib.Core.Path.{_≡_, refl, sym, ap, _∙_}
+use mathlib.Core.Bool.{Bool, true, false, _||_}
 use mathlib.Core.List.{List, [], _∷_, _++_}
 use mathlib.Core.Option.{Option, none, some}
 use native.Mathlib.Nat.{add-assoc, add-zero, zero-add}
 use native.Mathlib.Omega.{arith}
-use borrow.Author.Tests.{leb-true, lt-leb}
+use borrow.Author.Tests.{leb-true}
 use lib.Dec.{eqb, leb}
-use lib.ListN.{getD, length}
+use lib.ListN.{getD}
 use Rattle.isa.specs.Choice.{pick}
 use Rattle.operand.specs.Text.{isDigit}
 use Rattle.operand.specs.Words.{among, atMost, first, front, inBase, last, numberOf, place}
-use Rattle.operand.specs.Operand.{Part, Term, before, isMissing, label, minus, missing, number, plus, valueOf}
+use Rattle.operand.specs.Operand.{Part, Term, before, isMissing, label, minus, missing, plus, valueOf}
 use Rattle.operand.specs.Read.{Counts, Single, befores, counted}
 use Rattle.operand.specs.declared.operands.Sum.{Sum}
-use Rattle.operand.proofs.Texts.{case, differ}
+use Rattle.operand.proofs.Texts.{case}
 
 pub befores-append : (a b : List Term) (o : Option (List Term)) → befores (a ++ b) o ≡ befores a (befores b o)
 befores-append [] b o = refl

@@ -11,8 +11,8 @@ use lib.Dec.{eqb, leb, ltb}
 use lib.ListN.{getD, length, drop, drop-of-length-le, length-drop, List·getD-eq-default, take}
 use lib.Seq.{drop-cons, drop-drop, slice, take-nil, take-take}
 use Rattle.isa.specs.Choice.{pick}
-use Rattle.mnemonic.specs.Spelling.{Token, letters, mark, operand}
-use Rattle.operand.specs.Text.{LF, begins, inWord, isDigit, isLetter, onWord, run, tokens}
+use Rattle.mnemonic.specs.Spelling.{letters, mark}
+use Rattle.operand.specs.Text.{LF, begins, inWord, isDigit, isLetter, run, tokens}
 use Rattle.operand.specs.Words.{same}
 use Rattle.operand.specs.Read.{tokensAt, upToLf, wordAt}
 

@@ -1,19 +1,17 @@
 -- A token by its kind: which token stands where a reader answers one, and what an operand makes of it. Assumes nothing.
-use Prim.Native.Nat.{ℕ, zero, suc, _+_, _<_, _≤_}
-use Prim.Native.Char.{code}
-use mathlib.Core.Path.{_≡_, refl, sym, ap, subst, _∙_}
-use mathlib.Core.Bool.{Bool, true, false, _&&_, _||_, not}
+use Prim.Native.Nat.{ℕ, _+_, _<_}
+use mathlib.Core.Path.{_≡_, refl, sym, ap, _∙_}
+use mathlib.Core.Bool.{Bool, true, false, _&&_, _||_}
 use mathlib.Core.List.{List, [], _∷_}
-use mathlib.Core.Option.{Option, none, some}
+use mathlib.Core.Option.{none}
 use native.Mathlib.Omega.{arith}
-use borrow.Author.Tests.{eq-eqb, eqb-false, eqb-true, lt-ltb, ltb-true, ne-eqb}
+use borrow.Author.Tests.{eqb-false, lt-ltb, ltb-true, ne-eqb}
 use lib.Dec.{eqb, ltb}
 use lib.ListN.{getD, length}
-use Rattle.isa.specs.Choice.{pick}
-use Rattle.mnemonic.specs.Spelling.{Token, letters, mark, operand}
+use Rattle.mnemonic.specs.Spelling.{Token, letters, mark}
 use Rattle.operand.specs.Text.{LF, inWord, isDigit, isLetter}
 use Rattle.operand.specs.Words.{first, fixedWords, isFixed, isLabel, numberOf, place}
-use Rattle.operand.specs.Operand.{Part, asNumber, followed, label, number, partOf, wanted}
+use Rattle.operand.specs.Operand.{asNumber, followed, partOf, wanted}
 use Rattle.operand.specs.Read.{Next, Stops, ended, sign, signKind, tokensAt, word, wordAt, wordKind}
 use Rattle.operand.specs.declared.tokens.Lexeme.{Lexeme}
 use Rattle.operand.proofs.Texts.{both, case, differ, neither, not-letter, word-on}

@@ -1,22 +1,22 @@
 -- The turns of the operand reader and the steps of the parenthesis reader, on plain values: what is wanted from the operand's start on is the
 -- terms that are read, and then what is wanted, or follows, from here on. Assumes nothing.
-use Prim.Native.Nat.{ℕ, zero, suc, _+_, _*_, _-_, _<_, _≤_}
+use Prim.Native.Nat.{ℕ, _+_, _*_, _-_, _<_, _≤_}
 use mathlib.Core.Path.{_≡_, refl, sym, ap, subst, _∙_}
-use mathlib.Core.Bool.{Bool, true, false, _&&_, _||_, not}
+use mathlib.Core.Bool.{Bool, true, false, _||_, not}
 use mathlib.Core.List.{List, [], _∷_, _++_}
-use mathlib.Core.Option.{Option, none, some}
+use mathlib.Core.Option.{Option, none}
 use native.Mathlib.Omega.{arith}
-use borrow.Author.Tests.{eq-eqb, eqb-true, le-ltb, lt-ltb, ne-eqb}
+use borrow.Author.Tests.{eqb-true, le-ltb, lt-ltb}
 use lib.Dec.{eqb, ltb}
 use lib.ListN.{length}
 use Rattle.isa.specs.Choice.{pick}
-use Rattle.mnemonic.specs.Spelling.{Token, letters, mark, operand}
+use Rattle.mnemonic.specs.Spelling.{Token, mark}
 use Rattle.operand.specs.Operand.{Term, deepest, followed, minus, missing, plus, wanted}
-use Rattle.operand.specs.Read.{Counts, Lexed, OperandRead, PartRead, Stops, bad, befores, good, tokensAt}
+use Rattle.operand.specs.Read.{Lexed, OperandRead, PartRead, bad, befores, good, tokensAt}
 use Rattle.operand.specs.declared.operands.Sum.{Sum}
 use Rattle.operand.specs.declared.tokens.Lexeme.{Lexeme}
 use Rattle.operand.proofs.Terms.{befores-append, befores-none, minus-append, missing-append, plus-append}
-use Rattle.operand.proofs.Texts.{case, differ, neither}
+use Rattle.operand.proofs.Texts.{case, differ}
 use Rattle.operand.proofs.TokenKinds.{as-closing, as-sign, as-stop}
 
 -- what is read so far, and how the operand goes on: from a place where a part is wanted, or one where it has ended

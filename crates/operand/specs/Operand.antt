@@ -1,9 +1,9 @@
 -- "An operand is a number, a label, or sums and differences of operands, with parentheses up to 16 deep" (document 02, wish 4). It is read from
 -- left to right as its numbers and labels, each with whether it is added or taken away; its value is the sum of those added less the sum of those
 -- taken away, so it may be negative. Assumes nothing.
-use Prim.Native.Nat.{ℕ, zero, _+_}
+use Prim.Native.Nat.{ℕ, _+_}
 use Prim.Native.Char.{code}
-use mathlib.Core.Bool.{Bool, true, false, _&&_, _||_, not}
+use mathlib.Core.Bool.{Bool, false, _&&_, _||_, not}
 use mathlib.Core.List.{List, [], _∷_}
 use mathlib.Core.Option.{Option, none, some}
 use lib.Dec.{eqb, ltb}

@@ -2,7 +2,6 @@
 -- mnemonic (as MOV, A, R4) nor ORG"; "a number (decimal, or hexadecimal ending in H; it starts with a digit and is at most 65,535)". Assumes nothing.
 use Prim.Native.Nat.{ℕ, zero, suc, _+_, _*_, _-_}
 use Prim.Native.Char.{code}
-use Prim.Native.String.{String}
 use mathlib.Core.Bool.{Bool, true, false, _&&_, not}
 use mathlib.Core.List.{List, [], _∷_, map}
 use mathlib.Core.Option.{Option, none, some}

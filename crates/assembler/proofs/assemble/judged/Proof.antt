@@ -1,7 +1,6 @@
 -- `assembler::assemble::judged` meets its contract: each pass's finding, in their order. Assumes nothing.
 use Prim.Native.Nat.{ℕ}
-use mathlib.Core.Path.{_≡_, refl, sym, ap, _∙_}
-use mathlib.Core.List.{List}
+use mathlib.Core.Path.{sym, ap, _∙_}
 use borrow.Author.Needs.{needs}
 use lib.ListN.{replicate}
 use Rattle.assembler.specs.Program.{end, program, put, start}

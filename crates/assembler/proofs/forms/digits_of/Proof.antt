@@ -1,5 +1,5 @@
 -- `assembler::forms::digits_of` meets its contract. Assumes nothing.
-use mathlib.Core.Path.{_≡_, refl}
+use mathlib.Core.Path.{refl}
 use borrow.Author.Tests.{le-ltb, lt-ltb}
 use Rattle.assembler.proofs.forms.digits_of.Statement.{statement}
 use Rattle.assembler.proofs.forms.digits_of.Tie as tie

@@ -1,8 +1,6 @@
 -- `assembler::forms::form_of` meets its contract: its list is the forms' keys, which antt computes. Assumes nothing.
 use borrow.Author.Needs.{needs}
-use Rattle.isa.specs.Code.{bytesOf}
 use Rattle.mnemonic.specs.Line.{lineOf}
-use Rattle.operand.specs.Text.{inWord}
 use Rattle.operand.specs.Words.{fixedWords, isFixed}
 use Rattle.operand.specs.Read.{signKind, wordKind}
 use Rattle.assembler.specs.Forms.{forms}

@@ -1,5 +1,5 @@
 -- `assembler::forms::size_of` meets its contract. Assumes nothing.
-use mathlib.Core.Path.{_≡_, refl}
+use mathlib.Core.Path.{refl}
 use borrow.Author.Tests.{eq-eqb, ne-eqb}
 use Rattle.assembler.proofs.forms.size_of.Statement.{statement}
 use Rattle.assembler.proofs.forms.size_of.Tie as tie

@@ -1,6 +1,6 @@
 -- `assembler::forms::values_of` meets its contract. Assumes nothing.
 use Prim.Native.Nat.{ℕ, _^_}
-use mathlib.Core.Path.{_≡_, refl, sym, ap}
+use mathlib.Core.Path.{_≡_, sym, ap}
 use native.Mathlib.Omega.{arith}
 use Rattle.assembler.proofs.forms.values_of.Statement.{statement}
 use Rattle.assembler.proofs.forms.values_of.Tie as tie

@@ -1,10 +1,6 @@
 -- `assembler::lines::labelling` meets its contract. Assumes nothing.
-use mathlib.Core.Path.{_≡_, refl, sym, ap, _∙_}
-use mathlib.Core.List.{List, _∷_}
-use mathlib.Core.Bool.{Bool, false}
-use native.Mathlib.Omega.{arith}
+use mathlib.Core.Path.{ap, _∙_}
 use borrow.Author.Needs.{needs}
-use Rattle.mnemonic.specs.Spelling.{Token}
 use Rattle.operand.specs.Read.{wordAt}
 use Rattle.operand.proofs.TokenKinds.{as-label}
 use Rattle.assembler.specs.Statement.{labelled}

@@ -1,5 +1,5 @@
 -- `assembler::lines::leads` meets its contract. Assumes nothing.
-use mathlib.Core.Path.{_≡_, refl}
+use mathlib.Core.Path.{refl}
 use borrow.Author.Tests.{eq-eqb, le-leb, lt-leb, ne-eqb}
 use Rattle.assembler.proofs.lines.leads.Statement.{statement}
 use Rattle.assembler.proofs.lines.leads.Tie as tie

@@ -1,6 +1,6 @@
 -- `assembler::lines::read_line` meets its contract: a line that is not blank is what follows its label, by the number of its form. Assumes nothing.
 use Prim.Native.Nat.{ℕ}
-use mathlib.Core.Path.{_≡_, refl, sym, ap, subst, _∙_}
+use mathlib.Core.Path.{refl, sym, ap, subst, _∙_}
 use native.Mathlib.Omega.{arith}
 use borrow.Author.Needs.{needs}
 use Rattle.operand.specs.Read.{namesAt, tokensAt}

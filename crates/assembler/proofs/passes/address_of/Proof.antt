@@ -1,5 +1,5 @@
 -- `assembler::passes::address_of` meets its contract. Assumes nothing.
-use mathlib.Core.Path.{_≡_, refl}
+use mathlib.Core.Path.{refl}
 use native.Mathlib.Omega.{arith}
 use borrow.Author.Tests.{eq-eqb, ne-eqb}
 use Rattle.assembler.proofs.passes.address_of.Statement.{statement}

@@ -1,11 +1,8 @@
 -- `assembler::passes::check_labels` meets its contract. What a turn does stands in Checking. Assumes nothing.
-use Prim.Native.Nat.{ℕ, _+_, _-_}
-use mathlib.Core.Path.{_≡_, refl, sym, ap, _∙_}
-use mathlib.Core.Bool.{Bool, true, false, _||_}
+use Prim.Native.Nat.{_-_}
+use mathlib.Core.Path.{sym, _∙_}
 use native.Mathlib.Omega.{arith}
-use borrow.Author.Needs.{needs}
 use lib.ListN.{length}
-use Rattle.operand.specs.Read.{namesAt, wordAt}
 use Rattle.assembler.proofs.Checking.{Checking, check-on, checked, checks, is-again, is-missing}
 use Rattle.assembler.proofs.Splitting.{end-within}
 use Rattle.assembler.proofs.Walking.{shows-place, walk-few, walk-readable, walk-table}

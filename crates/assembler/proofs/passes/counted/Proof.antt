@@ -1,5 +1,5 @@
 -- `assembler::passes::counted` meets its contract. Assumes nothing.
-use mathlib.Core.Path.{_≡_, refl}
+use mathlib.Core.Path.{refl}
 use borrow.Author.Needs.{needs}
 use Rattle.assembler.proofs.passes.counted.Statement.{statement}
 use Rattle.assembler.proofs.passes.counted.Tie as tie

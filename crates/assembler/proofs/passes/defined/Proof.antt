@@ -1,9 +1,8 @@
 -- `assembler::passes::defined` meets its contract. Assumes nothing.
 use Prim.Native.Nat.{ℕ}
-use mathlib.Core.Path.{_≡_, refl, sym, ap, _∙_}
+use mathlib.Core.Path.{sym, ap, _∙_}
 use borrow.Author.Needs.{needs}
 use lib.Dec.{ltb}
-use lib.ListN.{length}
 use Rattle.operand.specs.Words.{place}
 use Rattle.operand.specs.Read.{namesAt, wordAt}
 use Rattle.operand.proofs.Places.{names-count}

@@ -1,11 +1,10 @@
 -- `assembler::passes::place_lines` meets its contract. What a turn does stands in Placing. Assumes nothing.
-use Prim.Native.Nat.{ℕ, _+_, _-_}
+use Prim.Native.Nat.{ℕ, _-_}
 use mathlib.Core.Path.{_≡_, refl, sym, ap, _∙_}
 use native.Mathlib.Omega.{arith}
 use borrow.Author.Needs.{needs}
 use borrow.Author.Tests.{not-false, not-true}
 use lib.ListN.{length, length-replicate}
-use Rattle.assembler.specs.Read.{Tabled}
 use Rattle.assembler.specs.Shapes.{sizeIn}
 use Rattle.assembler.proofs.Placing.{Placing, crowded, end-most, here-most, label-room, place-on, placed, places, same-room, stray}
 use Rattle.assembler.proofs.Splitting.{end-within}

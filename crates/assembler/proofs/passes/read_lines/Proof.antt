@@ -1,12 +1,10 @@
 -- `assembler::passes::read_lines` meets its contract. What a turn does stands in Collecting. Assumes nothing.
-use Prim.Native.Nat.{ℕ, _+_, _-_}
-use mathlib.Core.Path.{_≡_, refl, sym, ap, _∙_}
+use Prim.Native.Nat.{_-_}
+use mathlib.Core.Path.{sym, _∙_}
 use native.Mathlib.Omega.{arith}
-use borrow.Author.Needs.{needs}
 use borrow.Author.Tests.{not-false, not-true}
 use lib.ListN.{length}
 use Rattle.assembler.specs.Read.{Tabled}
-use Rattle.assembler.specs.Passing.{lineEnd}
 use Rattle.assembler.proofs.Collecting.{Reading, begin, collected, label-place, read-more, unreadable-line}
 use Rattle.assembler.proofs.Splitting.{end-within}
 use Rattle.assembler.proofs.passes.read_lines.Statement.{statement}

@@ -1,5 +1,5 @@
 -- `assembler::passes::store` meets its contract: past the end of a list nothing is set. Assumes nothing.
-use mathlib.Core.Path.{_≡_, refl, sym}
+use mathlib.Core.Path.{refl, sym}
 use native.Mathlib.Omega.{arith}
 use borrow.Author.Needs.{needs}
 use lib.Seq.{set-out}

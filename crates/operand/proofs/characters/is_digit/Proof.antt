@@ -1,5 +1,5 @@
 -- `operand::characters::is_digit` meets its contract. Assumes nothing.
-use mathlib.Core.Path.{_≡_, refl, sym, ap, _∙_}
+use mathlib.Core.Path.{refl}
 use borrow.Author.Tests.{le-leb, lt-leb}
 use Rattle.operand.proofs.characters.is_digit.Statement.{statement}
 use Rattle.operand.proofs.characters.is_digit.Tie as tie

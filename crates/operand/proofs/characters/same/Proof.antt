@@ -1,12 +1,12 @@
 -- `operand::characters::same` meets its contract. The invariant: the two words are the same where what is left of them is. Assumes nothing.
-use Prim.Native.Nat.{ℕ, suc, _+_, _-_, _≤_}
+use Prim.Native.Nat.{_-_, _≤_}
 use mathlib.Core.Path.{_≡_, refl, sym, ap, _∙_}
 use mathlib.Core.Bool.{not}
 use native.Mathlib.Numerals.{add-one}
 use native.Mathlib.Omega.{arith}
 use borrow.Author.Needs.{needs}
 use borrow.Author.Tests.{not-false, not-true}
-use lib.ListN.{getD, length}
+use lib.ListN.{length}
 use Rattle.operand.specs.Text.{inWord}
 use Rattle.operand.specs.Words.{same}
 use Rattle.operand.specs.Read.{wordAt}

@@ -1,11 +1,11 @@
 -- `operand::characters::word_end` meets its contract. The invariant: the word from `i` on ends where the whole word does. Assumes nothing.
-use Prim.Native.Nat.{ℕ, suc, _+_, _-_, _≤_}
+use Prim.Native.Nat.{_+_, _-_, _≤_}
 use mathlib.Core.Path.{_≡_, refl, sym, ap, _∙_}
 use native.Mathlib.Numerals.{add-one}
 use native.Mathlib.Omega.{arith}
 use borrow.Author.Needs.{needs}
 use borrow.Author.Tests.{not-false, not-true}
-use lib.ListN.{getD, length}
+use lib.ListN.{length}
 use Rattle.operand.specs.Read.{wordAt}
 use Rattle.operand.proofs.Texts.{no-word, word-on, word-past}
 use Rattle.operand.proofs.characters.word_end.Statement.{statement}

@@ -1,11 +1,10 @@
 -- `operand::labels::find` meets its contract. The invariant: the word stands as far on from `i` as it stands from the start. Assumes nothing.
-use Prim.Native.Nat.{ℕ, suc, _+_, _-_, _≤_}
-use mathlib.Core.Path.{_≡_, refl, sym, ap, _∙_}
+use Prim.Native.Nat.{ℕ, _+_, _-_, _≤_}
+use mathlib.Core.Path.{_≡_, sym, ap, _∙_}
 use mathlib.Core.List.{map}
 use native.Mathlib.Numerals.{add-one}
 use native.Mathlib.Omega.{arith}
 use borrow.Author.Needs.{needs}
-use lib.ListN.{getD, length}
 use lib.Seq.{slice}
 use Rattle.operand.specs.Words.{place}
 use Rattle.operand.specs.Read.{namesAt, wordAt}

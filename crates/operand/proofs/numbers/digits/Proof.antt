@@ -6,7 +6,7 @@ use native.Mathlib.Numerals.{add-one}
 use native.Mathlib.Omega.{arith}
 use borrow.Author.Needs.{needs}
 use borrow.Author.Tests.{le-leb}
-use lib.ListN.{getD, length}
+use lib.ListN.{getD}
 use lib.Seq.{slice}
 use Rattle.operand.specs.Words.{digitValue, inBase}
 use Rattle.operand.specs.Read.{counted}

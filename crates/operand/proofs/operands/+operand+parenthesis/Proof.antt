@@ -1,13 +1,12 @@
 -- The operand reader and the parenthesis reader meet their contracts. The measure of each is the remaining depth and the remaining text: a
 -- parenthesis takes one of the depth and its sign of the text. What a turn does stands in Turns. Assumes nothing.
-use mathlib.Core.Path.{_≡_, refl, sym, ap, subst, _∙_}
-use mathlib.Core.Bool.{Bool, true, false}
+use mathlib.Core.Path.{sym, _∙_}
 use native.Mathlib.Omega.{arith}
 use borrow.Author.Needs.{needs}
 use borrow.Author.Tests.{ne-eqb, not-false, not-true}
 use lib.ListN.{length}
-use Rattle.operand.specs.Read.{bad, good, namesAt}
-use Rattle.operand.proofs.Turns.{Past, Wanting, adds-moves, closes, goes-on, inner-broken, inner-within, not-closed, part-broken, part-from}
+use Rattle.operand.specs.Read.{bad, namesAt}
+use Rattle.operand.proofs.Turns.{Wanting, adds-moves, closes, goes-on, inner-broken, inner-within, not-closed, part-broken, part-from}
 use Rattle.operand.proofs.Turns.{part-read, past-as, starts, stops, too-deep, wanting-as}
 use Prim.Native.Nat.{ℕ, _+_, _*_, _-_, _<_}
 use borrow.Fn.Kinds.{In}

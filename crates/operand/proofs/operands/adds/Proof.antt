@@ -1,5 +1,5 @@
 -- `operand::operands::adds` meets its contract. Assumes nothing.
-use mathlib.Core.Path.{_≡_, refl, sym, ap, _∙_}
+use mathlib.Core.Path.{refl}
 use borrow.Author.Tests.{eq-eqb, ne-eqb}
 use Rattle.operand.proofs.operands.adds.Statement.{statement}
 use Rattle.operand.proofs.operands.adds.Tie as tie

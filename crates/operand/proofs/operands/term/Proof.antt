@@ -1,14 +1,10 @@
 -- `operand::operands::term` meets its contract: by the word's kind it is a label, a number, or nothing that an operand can have. Assumes nothing.
-use Prim.Native.Nat.{ℕ, _≤_, _<_}
-use mathlib.Core.Path.{_≡_, refl, sym, ap, subst, _∙_}
-use mathlib.Core.List.{List, [], _∷_}
-use mathlib.Core.Option.{none, some}
+use mathlib.Core.Path.{refl, sym}
+use mathlib.Core.List.{[], _∷_}
 use native.Mathlib.Omega.{arith}
 use borrow.Author.Needs.{needs}
-use lib.ListN.{getD, length}
-use Rattle.operand.specs.Words.{isLabel, numberOf}
 use Rattle.operand.specs.Operand.{label, number, partOf}
-use Rattle.operand.specs.Read.{bad, counted, good, namesAt, wordAt}
+use Rattle.operand.specs.Read.{bad, good, namesAt, wordAt}
 use Rattle.operand.proofs.Terms.{label-small, no-number, single-counts, some-number}
 use Rattle.operand.proofs.TokenKinds.{as-label, as-none, as-number}
 use Rattle.operand.proofs.operands.term.Statement.{statement}

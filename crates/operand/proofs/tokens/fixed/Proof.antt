@@ -1,5 +1,4 @@
 -- `operand::tokens::fixed` meets its contract: its list is the words' numbers, which antt computes. Assumes nothing.
-use mathlib.Core.Path.{_≡_, refl, sym, _∙_}
 use borrow.Author.Needs.{needs}
 use Rattle.operand.specs.Words.{fixedWords}
 use Rattle.operand.specs.Read.{packedWords}

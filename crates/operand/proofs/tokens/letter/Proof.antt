@@ -1,9 +1,8 @@
 -- `operand::tokens::letter` meets its contract. Assumes nothing.
 use Prim.Native.Nat.{_+_}
-use mathlib.Core.Path.{_≡_, refl, sym, _∙_}
+use mathlib.Core.Path.{sym}
 use native.Mathlib.Omega.{arith}
-use borrow.Author.Needs.{needs}
-use lib.ListN.{List·getD-eq-default, getD, length}
+use lib.ListN.{List·getD-eq-default}
 use Rattle.operand.specs.Read.{wordAt}
 use Rattle.operand.proofs.Texts.{getD-word, word-within}
 use Rattle.operand.proofs.tokens.letter.Statement.{statement}

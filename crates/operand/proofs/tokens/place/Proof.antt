@@ -1,11 +1,10 @@
 -- `operand::tokens::place` meets its contract. The invariant: the number stands as far on from `i` as it stands from the start. Assumes nothing.
-use Prim.Native.Nat.{ℕ, suc, _+_, _-_, _≤_}
-use mathlib.Core.Path.{_≡_, refl, sym, ap, _∙_}
+use Prim.Native.Nat.{_+_, _-_, _≤_}
+use mathlib.Core.Path.{_≡_}
 use native.Mathlib.Numerals.{add-one}
 use native.Mathlib.Omega.{arith}
 use borrow.Author.Needs.{needs}
-use borrow.Author.Tests.{eq-eqb, ne-eqb}
-use lib.ListN.{getD, length, drop}
+use lib.ListN.{length, drop}
 use Rattle.operand.specs.Read.{placeOf}
 use Rattle.operand.proofs.Places.{place-here, place-on, place-past}
 use Rattle.operand.proofs.tokens.place.Statement.{statement}

@@ -1,6 +1,5 @@
 -- `operand::tokens::sign_kind` meets its contract. Assumes nothing.
-use mathlib.Core.Path.{_≡_, refl}
-use native.Mathlib.Omega.{arith}
+use mathlib.Core.Path.{refl}
 use borrow.Author.Tests.{le-ltb, lt-ltb}
 use Rattle.operand.specs.Read.{signKind}
 use Rattle.operand.proofs.tokens.sign_kind.Statement.{statement}
