@@ -17,7 +17,7 @@ use Rattle.operand.specs.Operand.{Part, Term, label, minus, number, plus, value
 use Rattle.operand.proofs.Texts.{both, case, differ, neither}
 use Rattle.assembler.specs.Forms.{field, size}
 use Rattle.assembler.specs.Statement.{Statement}
-use Rattle.assembler.specs.Program.{Above, addressOf, bytes, end, first, fitting, ifLabelled, isIn, labelOf, meets, misfit, misplaced, named}
+use Rattle.assembler.specs.Program.{Above, addressOf, bytes, end, fitting, ifLabelled, isIn, labelOf, meets, misfit, misplaced, named}
 use Rattle.assembler.specs.Program.{next, sizeOf, span, within}
 use Rattle.assembler.specs.Shapes.{bytesIn, digitsIn, firsts, formAt, isFree, isMisfit, listed, lowBytes, shapes, sizeIn}
 use Rattle.assembler.specs.Read.{Shows, broken, coded, empty, origin}

@@ -7,8 +7,8 @@ use lib.ListN.{length}
 use Rattle.assembler.specs.Statement.{Statement}
 use Rattle.assembler.specs.Program as Program
 use Rattle.assembler.specs.Program.{answerTo, end, first, image, judged, line, misfit, mislabelled, misplaced, refused}
-use Rattle.assembler.specs.Program.{refusal, start, unread, written}
-use Rattle.assembler.specs.Passing.{Answered, Collected, Settled}
+use Rattle.assembler.specs.Program.{Answered, refusal, start, unread, written}
+use Rattle.assembler.specs.Passing.{Collected, Settled}
 use Rattle.assembler.specs.declared.assemble.Answer.{Answer}
 use Rattle.assembler.specs.declared.passes.Labels.{Labels}
 

@@ -51,7 +51,7 @@ forms =
     ∷ always (I.ReadR4A Current) ∷ always (I.ReadMr0A Current) ∷ always (I.ReadR4A F) ∷ always (I.ReadMr0A F) ∷ I.SoundN ∷ always I.SoundA
     ∷ always I.SoundOne ∷ always I.SoundLoop ∷ always I.SoundOff ∷ always I.Halt ∷ []
 
--- the words and signs of a text before its operand, and the digits of the operand, 0 where it has none
+-- the words and signs of a text before its operand, and how many hexadecimal digits the operand has, 0 where there is none
 abbrev pub leadOf : List Token → List Token
 leadOf [] = []
 leadOf (letters w ∷ ts) = letters w ∷ leadOf ts
@@ -74,7 +74,7 @@ digits f = digitsOf (lineOf (f 0))
 abbrev pub size : (ℕ → Instruction) → ℕ
 size f = length (bytesOf (f 0))
 
--- how many values its operand can have
+-- how many values its operand can have; one, 0, where it has none
 abbrev pub field : (ℕ → Instruction) → ℕ
 field f = 16 ^ digits f
 

@@ -1,13 +1,11 @@
--- What the passes leave and need. Assumes nothing.
+-- What the passes leave and need: for contracts inside this crate alone, `assemble` promises nothing of it. Assumes nothing.
 use Prim.Native.Nat.{ℕ, _+_, _≤_}
 use mathlib.Core.Path.{_≡_}
 use mathlib.Core.List.{List}
 use lib.ListN.{length, drop, take}
 use Rattle.operand.specs.Read.{Held, namesAt, upToLf}
-use Rattle.assembler.specs.Program as Program
-use Rattle.assembler.specs.Program.{end, first, left, line, misplaced, program, refusal, start, unread}
+use Rattle.assembler.specs.Program.{end, first, misplaced, program, start, unread}
 use Rattle.assembler.specs.Read.{Tabled}
-use Rattle.assembler.specs.declared.assemble.Answer.{Answer}
 use Rattle.assembler.specs.declared.passes.Labels.{Labels}
 
 abbrev pub lineEnd : List ℕ → ℕ → ℕ
@@ -33,9 +31,3 @@ pub record Placed (text starts addresses : List ℕ) (all : ℕ) : Type 0 where
   pub settled : Settled text starts addresses all
   pub placed : first misplaced start 1 (program text) ≡ 0
   pub addressed : end start (program text) .addresses ≡ take all addresses
-
--- an answer with its number and its line, and the lent bytes as it leaves them
-pub record Answered (answer : Program.Answer) (out : List ℕ) (r : Answer) (after : List ℕ) : Type 0 where
-  pub number : r .refusal ≡ refusal answer
-  pub line : r .line ≡ line answer
-  pub bytes : after ≡ left answer out

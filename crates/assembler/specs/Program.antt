@@ -1,5 +1,7 @@
--- The answers to a text, in document 02's order, wish 4, and the bytes. Assumes nothing.
+-- What `assemble` promises: the answers to a text, in document 02's order, wish 4, and the bytes. A reader believes this file, Statement and Forms, and
+-- operand's Text, Words and Operand. Assumes nothing.
 use Prim.Native.Nat.{ℕ, zero, suc, _+_, _-_}
+use mathlib.Core.Path.{_≡_}
 use mathlib.Core.Bool.{Bool, true, false, _&&_, _||_, not}
 use mathlib.Core.List.{List, [], _∷_, _++_, map}
 use mathlib.Core.Option.{Option, none, some}
@@ -15,11 +17,13 @@ use Rattle.operand.specs.Words.{among}
 use Rattle.operand.specs.Operand.{Term, minus, missing, plus}
 use Rattle.assembler.specs.Forms.{field, reaches, size}
 use Rattle.assembler.specs.Statement.{Statement, unreadable, blank, org, mnemonic, statement}
+use Rattle.assembler.specs.declared.assemble.Answer as Given
 
 abbrev pub program : List ℕ → List Statement
 program text = map statement (map tokens (lines text))
 
--- What stands above a line: the labels and their addresses, the address that comes next, and the addresses that are written.
+-- What stands above a line: the symbol table (labels and their addresses), the location counter (the address that comes next), and the addresses that
+-- are written.
 pub record Above : Type 0 where
   pub names : List (List ℕ)
   pub addresses : List ℕ
@@ -42,7 +46,7 @@ sizeOf blank = 0
 sizeOf (org l ts) = 0
 sizeOf (mnemonic l f ts) = size f
 
--- the line's address: "on an ORG line it has the new address"
+-- the line's address: "on an ORG line it has the new address"; an ORG below 0 is refused at that line, so what it gives there is never used
 abbrev pub addressOf : Above → Statement → ℕ
 addressOf s unreadable = s .at
 addressOf s blank = s .at
@@ -99,7 +103,7 @@ mislabelled all s blank = false
 mislabelled all s (org l ts) = missing (s .names) ts || again (s .names) l
 mislabelled all s (mnemonic l f ts) = missing all ts || again (s .names) l
 
--- a whole number below n, as what is added and what is taken away
+-- whether what is added less what is taken away is a whole number from 0 to n - 1
 abbrev pub within : ℕ → ℕ → ℕ → Bool
 within n added taken = leb taken added && ltb (added - taken) n
 
@@ -118,16 +122,18 @@ misplaced s blank = false
 misplaced s (org l ts) = not (within 4096 (plus (s .names) (s .addresses) ts) (minus (s .names) (s .addresses) ts))
 misplaced s (mnemonic l f ts) = ltb 4096 (s .at + size f) || meets (s .written) (span (s .at) (size f))
 
--- "13 any other value outside its field, or a branch that does not fit", where the labels have these addresses
+-- a value in its field, and a branch that fits
 abbrev pub fitting : ℕ → (ℕ → Instruction) → ℕ → ℕ → Bool
 fitting at f added taken = within (field f) added taken && reaches f (movedBy (size f) at) (added - taken)
 
+-- "13 any other value outside its field, or a branch that does not fit", where `whole` has all labels
 abbrev pub misfit : Above → Above → Statement → Bool
 misfit whole s unreadable = false
 misfit whole s blank = false
 misfit whole s (org l ts) = false
 misfit whole s (mnemonic l f ts) = not (fitting (s .at) f (plus (whole .names) (whole .addresses) ts) (minus (whole .names) (whole .addresses) ts))
 
+-- the line's instruction; `misfit` has refused a value below 0
 abbrev pub instruction : Above → (ℕ → Instruction) → List Term → Instruction
 instruction whole f ts = f (plus (whole .names) (whole .addresses) ts - minus (whole .names) (whole .addresses) ts)
 
@@ -168,11 +174,11 @@ answerTo ls = judged 12 (first unread start 1 ls)
 unfoldable pub assembled : List ℕ → Answer
 assembled text = pick (ltb 65535 (length text)) (refused 12 1) (answerTo (program text))
 
--- "after 2 for a result buffer not 4,096"
+-- "after 2 for a result buffer not 4,096"; it has no line, so 0
 unfoldable pub answered : List ℕ → List ℕ → Answer
 answered text out = pick (eqb (length out) 4096) (assembled text) (refused 2 0)
 
--- the number, the line, and what the lent bytes are then
+-- the number, the line, and the lent bytes then: "Nothing is written" where it is refused (document 01)
 abbrev pub refusal : Answer → ℕ
 refusal (refused n line) = n
 refusal (written out) = 0
@@ -184,3 +190,9 @@ line (written out) = 0
 abbrev pub left : Answer → List ℕ → List ℕ
 left (refused n k) out = out
 left (written bs) out = bs
+
+-- what `assemble` promises: the number and the line that it gives, and the lent bytes as it leaves them
+pub record Answered (answer : Answer) (out : List ℕ) (r : Given.Answer) (after : List ℕ) : Type 0 where
+  pub number : r .refusal ≡ refusal answer
+  pub line : r .line ≡ line answer
+  pub bytes : after ≡ left answer out

@@ -1,4 +1,4 @@
--- What the readers' answers say of a line. Assumes nothing.
+-- What the readers' answers say of a line: for contracts inside this crate. Assumes nothing.
 use Prim.Native.Nat.{ℕ, _≤_, _<_}
 use mathlib.Core.Path.{_≡_}
 use mathlib.Core.Bool.{Bool, true, false}

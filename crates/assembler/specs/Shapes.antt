@@ -1,5 +1,5 @@
--- The forms by number, as the code has them: what tells a form, and how its bytes hold its operand. proofs/ shows that each form is so. Assumes
--- nothing.
+-- The forms by number, as the code has them: what tells a form, and how its bytes hold its operand. proofs/ shows that each form is so. For contracts
+-- inside this crate. Assumes nothing.
 use Prim.Native.Nat.{ℕ, _+_, _-_, _/_, _%_, _^_}
 use mathlib.Core.Bool.{Bool, true, _&&_, _||_, not}
 use mathlib.Core.List.{List, [], _∷_, map, reverse}

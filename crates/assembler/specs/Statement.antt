@@ -63,6 +63,7 @@ abbrev pub codeOf : Option (List ℕ) → (ℕ → Instruction) → Option (List
 codeOf l f none = unreadable
 codeOf l f (some terms) = mnemonic l f terms
 
+-- no operand: no terms, which count 0
 abbrev pub nothing : List Token → Option (List Term)
 nothing [] = some []
 nothing (t ∷ ts) = none

@@ -2,8 +2,7 @@
 ghost use mathlib.Core.Path.{_≡_};
 ghost use Prim.Native.Nat.{_≤_};
 ghost use lib.ListN.{length, replicate};
-ghost use Rattle.assembler.specs.Program.{answerTo, answered, program};
-ghost use Rattle.assembler.specs.Passing.{Answered};
+ghost use Rattle.assembler.specs.Program.{Answered, answerTo, answered, program};
 use crate::passes::check_labels;
 use crate::passes::check_values;
 use crate::passes::place_lines;
@@ -78,6 +77,7 @@ fn judged(
     }
 }
 
+// Assembles a text: the bytes of a mask, or a refusal that leaves the result as it was.
 pub fn assemble(text: &[u8], out: &mut [u8]) -> Answer
     ensures { λ r. ⌜ Answered (answered (now (text .entry)) (now (out .entry))) (now (out .entry)) r (now (out .exit)) ⌝ }
 {
@@ -93,7 +93,7 @@ pub fn assemble(text: &[u8], out: &mut [u8]) -> Answer
             line: 1,
         };
     }
-    // a label takes two characters, so a text has no more than these
+    // a label and its colon take two characters at least, so a text has no more than these
     let mut starts = [0u16; 32768];
     let mut addresses = [0u16; 32768];
     let mut used = [0u8; 4096];

@@ -67,6 +67,7 @@ pub struct Labels {
     pub count: usize,
 }
 
+// Every line can be read; notes where the labels' words stand. No address is known yet: `none` is looked at by no line.
 pub(crate) fn read_lines(text: &[u8], starts: &mut [u16], none: &[u16]) -> Labels
     requires { ⌜ (length (now text) ≤ 65535) × (length (now starts) ≡ 32768) ⌝ }
     ensures { λ r. ⌜ Collected (now (text .entry)) (now (starts .exit)) r ⌝ }
@@ -115,6 +116,7 @@ fn counted(count: usize, wanted: bool) -> usize
     count
 }
 
+// No label is missing, not above its ORG or defined again. No address is known yet: only what is missing is looked at.
 pub(crate) fn check_labels(text: &[u8], starts: &[u16], none: &[u16], all: usize) -> u32
     requires { ⌜ Settled (now text) (now starts) (now none) all ⌝ }
     ensures { λ r. ⌜ r ≡ first (mislabelled (end start (program (now (text .entry))) .names)) start 1 (program (now (text .entry))) ⌝ }
@@ -256,6 +258,7 @@ fn misfits(size: usize, shape: u8, address: usize, plus: u64, minus: u64) -> boo
     value / 2048 != moved as u64 / 2048
 }
 
+// Every value is in its field, and every branch fits.
 pub(crate) fn check_values(text: &[u8], starts: &[u16], addresses: &[u16], all: usize) -> u32
     requires { ⌜ Placed (now text) (now starts) (now addresses) all ⌝ }
     ensures { λ r. ⌜ r ≡ first (misfit (end start (program (now (text .entry))))) start 1 (program (now (text .entry))) ⌝ }

@@ -1,24 +1,26 @@
 -- The laws of the forms: with a value of its field a form's instruction is in range, and has the form's size, which is at most two bytes; a line that
 -- a text has is one of the forms. They are stated of each form once and computed with the value as a variable. Assumes nothing.
-use Prim.Native.Nat.{ℕ, _/_, _%_, _<_, _≤_}
+use Prim.Native.Nat.{ℕ, _+_, _*_, _/_, _%_, _<_, _≤_}
 use mathlib.Core.Path.{_≡_, refl, sym, subst, _∙_}
 use mathlib.Core.Bool.{Bool, true, false, _&&_}
 use mathlib.Core.List.{List, [], _∷_}
 use mathlib.Core.Option.{Option, none, some}
 use native.Mathlib.Omega.{arith}
-use lib.Dec.{T, leb, ltb, lit≤}
+use lib.Dec.{T, eqb, leb, ltb, lit≤}
 use lib.ListN.{length}
-use borrow.Author.Tests.{lt-ltb}
+use borrow.Author.Tests.{eqb-true, lt-ltb}
 use Rattle.isa.specs.Choice.{pick}
 use Rattle.isa.specs.Code.{bytesOf, inRange, leading, bitInRange}
+use Rattle.isa.specs.Views.{view}
 use Rattle.isa.specs.declared.Instruction.{Instruction}
 use Rattle.isa.proofs.Exact.{and-both, and-left, and-right}
 use Rattle.mnemonic.specs.Line.{lineOf}
 use Rattle.mnemonic.specs.Spelling.{Token, letters, codes}
 use Rattle.operand.specs.Operand.{Term, operandOf}
-use Rattle.assembler.specs.Forms.{always, forms, lead, digits, size, field}
+use Rattle.assembler.specs.Forms.{always, forms, lead, digits, size, field, reaches}
 use Rattle.assembler.specs.Statement.{Statement, unreadable, blank, org, mnemonic, before, after, equals, formIn, orgOf, codeOf, operandFor, coded}
 use Rattle.assembler.specs.Statement.{body, labelled, labelOf, afterTwo, statement}
+use Rattle.assembler_laws.specs.Lines.{GoesBy}
 use Rattle.assembler_laws.proofs.Each as Each
 use Rattle.assembler_laws.proofs.Each.{Each, _and_}
 
@@ -27,46 +29,51 @@ pub record Fits (f : ℕ → Instruction) : Type 0 where
   pub in-range : (v : ℕ) → v < field f → inRange (f v) ≡ true
   pub sized : (v : ℕ) → length (bytesOf (f v)) ≡ size f
   pub short : size f ≤ 2
+  pub goes : (moved v : ℕ) → v < field f → reaches f moved v ≡ true → GoesBy (view (f v)) moved v
 
 limited : {f : ℕ → Instruction} → ((v : ℕ) → v < field f → inRange (f v) ≡ true) → ((v : ℕ) → length (bytesOf (f v)) ≡ size f)
-    → T (leb (size f) 2) → Fits f
-limited r e h = record { in-range = r; sized = e; short = lit≤ h }
+    → T (leb (size f) 2) → ((moved v : ℕ) → v < field f → reaches f moved v ≡ true → GoesBy (view (f v)) moved v) → Fits f
+limited r e h g = record { in-range = r; sized = e; short = lit≤ h; goes = g }
 
 -- a form whose field is the range of its value
 direct : {f : ℕ → Instruction} → ((v : ℕ) → inRange (f v) ≡ ltb v (field f)) → ((v : ℕ) → length (bytesOf (f v)) ≡ size f)
-    → T (leb (size f) 2) → Fits f
+    → T (leb (size f) 2) → ((moved v : ℕ) → v < field f → reaches f moved v ≡ true → GoesBy (view (f v)) moved v) → Fits f
 direct {f} r = limited (λ v l. r v ∙ lt-ltb v (field f) l)
 
 -- a form with no operand
-still : {i : Instruction} → inRange i && leb (length (bytesOf i)) 2 ≡ true → Fits (always i)
-still {i} e = limited (λ v l. and-left (inRange i) (leb (length (bytesOf i)) 2) e) (λ v. refl)
-    (subst T (sym (and-right (inRange i) (leb (length (bytesOf i)) 2) e)) tt)
+still : {i : Instruction} → inRange i && leb (length (bytesOf i)) 2 ≡ true → ((moved v : ℕ) → GoesBy (view i) moved v) → Fits (always i)
+still {i} e g = limited (λ v l. and-left (inRange i) (leb (length (bytesOf i)) 2) e) (λ v. refl)
+    (subst T (sym (and-right (inRange i) (leb (length (bytesOf i)) 2) e)) tt) (λ moved v l r. g moved v)
 
 nibbles : (v : ℕ) → v < 256 → ltb (v % 16) 16 && ltb (v / 16) 16 ≡ true
 nibbles v h = and-both (ltb (v % 16) 16) (ltb (v / 16) 16) (lt-ltb (v % 16) 16 (omega arith)) (lt-ltb (v / 16) 16 (omega arith))
+
+-- the whole target, where bit 11 is the moved PC's
+whole-target : (moved v : ℕ) → v < 4096 → eqb (v / 2048) (moved / 2048) ≡ true → moved / 2048 * 2048 + v % 2048 % 2048 ≡ v
+whole-target moved v h e = let q = eqb-true (v / 2048) (moved / 2048) e in omega arith
 
 low-bits : (v : ℕ) → v < 4096 → ltb (v % 2048) 2048 ≡ true
 low-bits v h = lt-ltb (v % 2048) 2048 (omega arith)
 
 pub forms-fit : Each Fits forms
-unfolding forms bytesOf inRange leading bitInRange lineOf
+unfolding forms bytesOf inRange leading bitInRange lineOf view
 forms-fit =
-    still refl and still refl and still refl and still refl and direct (λ v. refl) (λ v. refl) tt and direct (λ v. refl) (λ v. refl) tt
-    and still refl and still refl and still refl and still refl and still refl and still refl and still refl and direct (λ v. refl) (λ v. refl) tt
-    and direct (λ v. refl) (λ v. refl) tt and direct (λ v. refl) (λ v. refl) tt and still refl and still refl and still refl and still refl
-    and still refl and still refl and still refl and still refl and still refl and still refl and still refl and still refl and still refl
-    and still refl and still refl and still refl and still refl and still refl and still refl and still refl and still refl and still refl
-    and still refl and still refl and still refl and still refl and still refl and still refl and still refl and still refl
-    and direct (λ v. refl) (λ v. refl) tt and limited nibbles (λ v. refl) tt and limited nibbles (λ v. refl) tt
-    and direct (λ v. refl) (λ v. refl) tt and still refl and still refl and still refl and still refl and still refl and still refl and still refl
-    and still refl and direct (λ v. refl) (λ v. refl) tt and limited low-bits (λ v. refl) tt and limited low-bits (λ v. refl) tt
-    and limited low-bits (λ v. refl) tt and limited low-bits (λ v. refl) tt and limited low-bits (λ v. refl) tt
-    and limited low-bits (λ v. refl) tt and limited low-bits (λ v. refl) tt and limited low-bits (λ v. refl) tt
-    and limited low-bits (λ v. refl) tt and limited low-bits (λ v. refl) tt and limited low-bits (λ v. refl) tt
-    and limited low-bits (λ v. refl) tt and direct (λ v. refl) (λ v. refl) tt and still refl and still refl and still refl and still refl
-    and still refl and still refl and still refl and direct (λ v. refl) (λ v. refl) tt and still refl and still refl and still refl and still refl
-    and still refl and still refl and still refl and still refl and still refl and still refl and direct (λ v. refl) (λ v. refl) tt and still refl
-    and still refl and still refl and still refl and still refl and Each.none
+    still refl (λ m v. tt) and still refl (λ m v. tt) and still refl (λ m v. tt) and still refl (λ m v. tt) and direct (λ v. refl) (λ v. refl) tt (λ m v l r. tt) and direct (λ v. refl) (λ v. refl) tt (λ m v l r. tt)
+    and still refl (λ m v. tt) and still refl (λ m v. tt) and still refl (λ m v. tt) and still refl (λ m v. tt) and still refl (λ m v. tt) and still refl (λ m v. tt) and still refl (λ m v. tt) and direct (λ v. refl) (λ v. refl) tt (λ m v l r. tt)
+    and direct (λ v. refl) (λ v. refl) tt (λ m v l r. tt) and direct (λ v. refl) (λ v. refl) tt (λ m v l r. tt) and still refl (λ m v. tt) and still refl (λ m v. tt) and still refl (λ m v. tt) and still refl (λ m v. tt)
+    and still refl (λ m v. tt) and still refl (λ m v. tt) and still refl (λ m v. tt) and still refl (λ m v. tt) and still refl (λ m v. tt) and still refl (λ m v. tt) and still refl (λ m v. tt) and still refl (λ m v. tt) and still refl (λ m v. tt)
+    and still refl (λ m v. tt) and still refl (λ m v. tt) and still refl (λ m v. tt) and still refl (λ m v. tt) and still refl (λ m v. tt) and still refl (λ m v. tt) and still refl (λ m v. tt) and still refl (λ m v. tt) and still refl (λ m v. tt)
+    and still refl (λ m v. tt) and still refl (λ m v. tt) and still refl (λ m v. tt) and still refl (λ m v. tt) and still refl (λ m v. tt) and still refl (λ m v. tt) and still refl (λ m v. tt) and still refl (λ m v. tt)
+    and direct (λ v. refl) (λ v. refl) tt (λ m v l r. tt) and limited nibbles (λ v. refl) tt (λ m v l r. tt) and limited nibbles (λ v. refl) tt (λ m v l r. tt)
+    and direct (λ v. refl) (λ v. refl) tt (λ m v l r. tt) and still refl (λ m v. tt) and still refl (λ m v. tt) and still refl (λ m v. tt) and still refl (λ m v. tt) and still refl (λ m v. tt) and still refl (λ m v. tt) and still refl (λ m v. tt)
+    and still refl (λ m v. tt) and direct (λ v. refl) (λ v. refl) tt (λ m v l r. tt) and limited low-bits (λ v. refl) tt whole-target and limited low-bits (λ v. refl) tt whole-target
+    and limited low-bits (λ v. refl) tt whole-target and limited low-bits (λ v. refl) tt whole-target and limited low-bits (λ v. refl) tt whole-target
+    and limited low-bits (λ v. refl) tt whole-target and limited low-bits (λ v. refl) tt whole-target and limited low-bits (λ v. refl) tt whole-target
+    and limited low-bits (λ v. refl) tt whole-target and limited low-bits (λ v. refl) tt whole-target and limited low-bits (λ v. refl) tt whole-target
+    and limited low-bits (λ v. refl) tt whole-target and direct (λ v. refl) (λ v. refl) tt (λ m v l r. tt) and still refl (λ m v. tt) and still refl (λ m v. tt) and still refl (λ m v. tt) and still refl (λ m v. tt)
+    and still refl (λ m v. tt) and still refl (λ m v. tt) and still refl (λ m v. tt) and direct (λ v. refl) (λ v. refl) tt (λ m v l r. tt) and still refl (λ m v. tt) and still refl (λ m v. tt) and still refl (λ m v. tt) and still refl (λ m v. tt)
+    and still refl (λ m v. tt) and still refl (λ m v. tt) and still refl (λ m v. tt) and still refl (λ m v. tt) and still refl (λ m v. tt) and still refl (λ m v. tt) and direct (λ v. refl) (λ v. refl) tt (λ m v l r. tt) and still refl (λ m v. tt)
+    and still refl (λ m v. tt) and still refl (λ m v. tt) and still refl (λ m v. tt) and still refl (λ m v. tt) and Each.none
 
 -- ---- the form of a line
 -- what holds of the form that is found, if one is

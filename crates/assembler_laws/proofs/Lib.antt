@@ -1,6 +1,7 @@
 pub mod Answer
 pub mod Cases
 pub mod Each
+pub mod Examples
 pub mod Fixed
 pub mod Form
 pub mod Full

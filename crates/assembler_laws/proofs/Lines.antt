@@ -88,6 +88,8 @@ module _ (ls : List Statement) (out : List ℕ) (room : length out ≡ 4096) (fi
           bytes = two-read (bytesOf (f v)) (put whole start ls out) (u .at) short inside (λ j b. put-line whole out j all-clear h (rw room inside) b);
         };
         fits = here;
+        in-field = value;
+        goes = p .goes (movedBy (size f) (u .at)) v low (and-right (within (field f) (added ts) (taken ts)) (reaches f (movedBy (size f) (u .at)) v) fit);
       }
 
 module _ (text bs : List ℕ) (p : Passed (program text) bs) where

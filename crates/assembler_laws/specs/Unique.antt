@@ -1,4 +1,4 @@
--- No two instructions in range are printed alike. Assumes nothing.
+-- No two instructions in range are printed alike: of request 2's printing, by the laws of tokens and forms. Assumes nothing.
 use mathlib.Core.Path.{_≡_}
 use mathlib.Core.Bool.{true}
 use Rattle.isa.specs.Code.{inRange}

@@ -11,7 +11,7 @@ abbrev pub codes : String → List ℕ
 codes none = []
 codes (c then s) = code c ∷ codes s
 
--- a fixed word, of letters and digits; a sign; an operand, a number of so many hexadecimal digits
+-- a word, of letters and digits (in a printed line a fixed one); a sign; an operand, a number of so many hexadecimal digits
 pub data Token : Type 0 where
   letters : List ℕ → Token
   mark : ℕ → Token

@@ -12,9 +12,9 @@ use lib.ListN.{getD, length, drop, drop-of-length-le, length-drop, List·getD-eq
 use lib.Seq.{drop-cons, drop-drop, slice, take-nil, take-take}
 use Rattle.isa.specs.Choice.{pick}
 use Rattle.mnemonic.specs.Spelling.{letters, mark}
-use Rattle.operand.specs.Text.{LF, begins, inWord, isDigit, isLetter, run, tokens}
+use Rattle.operand.specs.Text.{LF, begins, inWord, isDigit, isLetter, tokens}
 use Rattle.operand.specs.Words.{same}
-use Rattle.operand.specs.Read.{tokensAt, upToLf, wordAt}
+use Rattle.operand.specs.Read.{run, tokensAt, upToLf, wordAt}
 
 pub case : {A : Type 0} (b : Bool) → (b ≡ true → A) → (b ≡ false → A) → A
 case true f g = f refl

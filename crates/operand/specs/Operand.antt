@@ -1,6 +1,7 @@
 -- "An operand is a number, a label, or sums and differences of operands, with parentheses up to 16 deep" (document 02, wish 4). It is read from
 -- left to right as its numbers and labels, each with whether it is added or taken away; its value is the sum of those added less the sum of those
--- taken away, so it may be negative. Assumes nothing.
+-- taken away, so it may be negative. assembler_laws/specs/Grammar has the same as a grammar with whole numbers, and shows that both agree. Assumes
+-- nothing.
 use Prim.Native.Nat.{ℕ, _+_}
 use Prim.Native.Char.{code}
 use mathlib.Core.Bool.{Bool, false, _&&_, _||_, not}
@@ -41,7 +42,7 @@ abbrev pub deepest : ℕ
 deepest = 16
 
 -- The operand from here to the end of the line. `here` is whether things are taken away in the parenthesis that is open here, or false outside
--- of any; `outer` the same of each one around it.
+-- of any; `outer` the same of each one around it, so that its length is the depth.
 abbrev mutual
   -- where a number, a label or a parenthesis must stand, which is taken away if `minus`
   pub wanted : List Token → Bool → Bool → List Bool → Option (List Term)

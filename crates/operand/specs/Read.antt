@@ -1,4 +1,5 @@
--- What the readers' answers say of a text at a position. Assumes nothing.
+-- What the readers' answers say of a text at a position: for contracts inside operand and assembler. What `assemble` promises needs none of it.
+-- Assumes nothing.
 use Prim.Native.Nat.{ℕ, zero, suc, _+_, _*_, _≤_, _<_}
 use Prim.Native.Char.{code}
 use mathlib.Core.Path.{_≡_}
@@ -9,7 +10,7 @@ use lib.Dec.{eqb, ltb, leb}
 use lib.ListN.{getD, length, take, drop}
 use Rattle.isa.specs.Choice.{pick}
 use Rattle.mnemonic.specs.Spelling.{Token, letters, mark, operand}
-use Rattle.operand.specs.Text.{LF, inWord, isDigit, run, tokens}
+use Rattle.operand.specs.Text.{LF, inWord, isDigit, tokens}
 use Rattle.operand.specs.Words.{first, fixedWords, isFixed, place}
 use Rattle.operand.specs.Operand.{Term, label, before, deepest, followed, isMissing, minus, missing, plus, valueOf, wanted}
 use Rattle.operand.specs.declared.tokens.Lexeme.{Lexeme}
@@ -22,6 +23,11 @@ upToLf (c ∷ s) = pick (eqb c LF) [] (c ∷ upToLf s)
 
 abbrev pub tokensAt : List ℕ → ℕ → List Token
 tokensAt text at = tokens (upToLf (drop at text))
+
+-- the word that a text starts with
+abbrev pub run : List ℕ → List ℕ
+run [] = []
+run (c ∷ s) = pick (inWord c) (c ∷ run s) []
 
 abbrev pub wordAt : List ℕ → ℕ → List ℕ
 wordAt text at = run (drop at text)

@@ -31,11 +31,6 @@ abbrev pub lines : List ℕ → List (List ℕ)
 lines [] = [] ∷ []
 lines (c ∷ s) = pick (eqb c LF) ([] ∷ lines s) (onFirst c (lines s))
 
--- the word that a text starts with
-abbrev pub run : List ℕ → List ℕ
-run [] = []
-run (c ∷ s) = pick (inWord c) (c ∷ run s) []
-
 -- whether a word starts here
 abbrev pub begins : List ℕ → Bool
 begins [] = false
@@ -48,6 +43,7 @@ onWord c (letters w ∷ ts) = letters (c ∷ w) ∷ ts
 onWord c (mark d ∷ ts) = mark d ∷ ts
 onWord c (operand n v ∷ ts) = operand n v ∷ ts
 
+-- the words and signs of a line; `operand` is for printed lines and never stands here
 abbrev pub tokens : List ℕ → List Token
 tokens [] = []
 tokens (c ∷ s) = pick (eqb c (code " ")) (tokens s)

@@ -11,7 +11,8 @@ use Rattle.isa.specs.Choice.{pick}
 use Rattle.mnemonic.specs.Spelling.{codes}
 use Rattle.operand.specs.Text.{isDigit, isLetter}
 
--- the fixed words, in the order in which document 001's summary first has them, and ORG
+-- the fixed words, in the order in which document 001's summary first has them, and ORG (assembler_laws/specs/Fixed: exactly the words of `lineOf`,
+-- and ORG)
 unfoldable pub fixedWords : List (List ℕ)
 fixedWords = map codes
     ("ADD" ∷ "A" ∷ "R1R0" ∷ "ADC" ∷ "SUB" ∷ "SBC" ∷ "DAA" ∷ "AND" ∷ "OR" ∷ "XOR" ∷ "INC" ∷ "R0" ∷ "R1" ∷ "R2" ∷ "R3" ∷ "R4" ∷ "R3R2" ∷ "DEC"
@@ -39,6 +40,7 @@ isFixed w = among fixedWords w
 abbrev pub first : List ℕ → ℕ
 first w = getD w 0 0
 
+-- of a word, which `tokens` makes of letters and digits alone
 unfoldable pub isLabel : List ℕ → Bool
 isLabel w = isLetter (first w) && not (isFixed w)
 

@@ -1,6 +1,6 @@
 // The labels of a text: where the word of each stands, in the order of the lines that define them, and its address.
 ghost use mathlib.Core.Path.{_≡_};
-ghost use Prim.Native.Nat.{_+_, _≤_};
+ghost use Prim.Native.Nat.{_≤_};
 ghost use lib.ListN.{length};
 ghost use Rattle.operand.specs.Words.{place};
 ghost use Rattle.operand.specs.Read.{Held, namesAt, wordAt};

@@ -1,7 +1,7 @@
 // Operands: "sums and differences of operands, with parentheses up to 16 deep". The operand reader and the parenthesis reader call each other.
 ghost use mathlib.Core.Path.{_≡_};
 ghost use mathlib.Core.Bool.{false, not, _||_};
-ghost use Prim.Native.Nat.{_+_, _≤_};
+ghost use Prim.Native.Nat.{_≤_};
 ghost use lib.ListN.{length};
 ghost use lib.Dec.{eqb};
 ghost use Rattle.isa.specs.Choice.{pick};
