@@ -74,18 +74,14 @@ returns-2 c = (
 )
 
 note-requires : tie.Need-note-requires Inv-loop μ-loop
-note-requires c κs = let g = c .before .before .before .before .before .before .before .before .before .before .before .loop .inv .0 in (
-  label-room (c .before .before .before .before .before .before .before .before .before .before .before .loop .inv .0)
-      (c .before .before .before .before .before .before .before .before .before .read-line .ensures)
-      (sym (c .before .before .before .before .before .before .before .before .strays .ensures)
-      ∙ c .before .before .before .before .before .before .before .if1 .left)
-      (c .before .before .before .before .before .before .address-of .result) (c .before .before .before .before .size-of .result)
-      (c .before .before .before .before .before .before .address-of .ensures)
-      (c .before .before .before .before .size-of .ensures ∙ ap sizeIn (c .before .before .before .before .before .shape-of .ensures))
-      (sym (c .before .before .free .ensures) ∙ not-false _ (c .before .if2 .left)),
-  omega
-      (arith, walk-few (g .walk) (g .settled), g .settled .table .room, g .settled .most),
-)
+note-requires c κs =
+    let g = c .before .before .before .before .before .before .before .before .before .before .before .loop .inv .0 in
+    let room =
+    label-room g (c .before .before .before .before .before .before .before .before .before .read-line .ensures) (sym (c .before .before .before .before .before .before .before .before .strays .ensures) ∙ c .before .before .before .before .before .before .before .if1 .left)
+    (c .before .before .before .before .before .before .address-of .result) (c .before .before .before .before .size-of .result) (c .before .before .before .before .before .before .address-of .ensures)
+    (c .before .before .before .before .size-of .ensures ∙ ap sizeIn (c .before .before .before .before .before .shape-of .ensures))
+    (sym (c .before .before .free .ensures) ∙ not-false _ (c .before .if2 .left)) in
+    (room, omega (arith, walk-few (g .walk) (g .settled), g .settled .table .room, g .settled .most))
 
 add-store : tie.Need-add-store Inv-loop μ-loop
 add-store c = omega (
