@@ -1,6 +1,6 @@
 -- `assembler::lines::labelling` meets its contract. Assumes nothing.
 use mathlib.Core.Path.{ap, _∙_}
-use borrow.Author.Needs.{needs}
+use native.Mathlib.Omega.{arith}
 use Rattle.operand.specs.Read.{wordAt}
 use Rattle.operand.proofs.TokenKinds.{as-label}
 use Rattle.assembler.specs.Statement.{labelled}
@@ -25,4 +25,4 @@ returns-3 c = let s = c .before .before .before .before .before in
     (c .before .token2 .ensures) (c .if2 .left)
 
 pub labelling-spec : {M : Type 1} → statement M
-labelling-spec = tie.close (tie.spec (λ c κs. search needs) returns (λ c κs. c .before .token .ensures .within) returns-2 returns-3)
+labelling-spec = tie.close (tie.spec (λ c κs. omega arith) returns (λ c κs. c .before .token .ensures .within) returns-2 returns-3)
