@@ -143,7 +143,7 @@ bytes whole blank = []
 bytes whole (org l ts) = []
 bytes whole (mnemonic l f ts) = bytesOf (instruction whole f ts)
 
--- each line's bytes at its address
+-- each line's bytes at its address; an ORG, whose address is not the next one, has none
 abbrev pub put : Above → Above → List Statement → List ℕ → List ℕ
 put whole s [] out = out
 put whole s (l ∷ ls) out = put whole (next s l) ls (sets out (s .at) (bytes whole l))

@@ -144,7 +144,8 @@ fn with_operand(
     count: usize,
 ) -> Line
     requires { ⌜ (at ≤ length (now text)) × (length (now text) ≤ 65535) × Tabled (now text) (now starts) (now addresses) count ⌝ }
-    ensures { λ r. ⌜ Operanded (namesAt (now (text .entry)) (now (starts .entry)) count) (now (addresses .entry)) (tokensAt (now (text .entry)) at) form name r ⌝ }
+    ensures { λ r. ⌜ Operanded (namesAt (now (text .entry)) (now (starts .entry)) count) (now (addresses .entry))
+        (tokensAt (now (text .entry)) at) form name r ⌝ }
 {
     let o = operand(text, at, DEEPEST, false, starts, addresses, count);
     if !o.readable {
@@ -185,7 +186,9 @@ fn body(
 ) -> Line
     requires { ⌜ (at ≤ length (now text)) × (length (now text) ≤ 65535) × (form ≤ 97) × (name .start ≤ length (now text)) ⌝ }
     requires { ⌜ Tabled (now text) (now starts) (now addresses) above × Tabled (now text) (now starts) (now addresses) all ⌝ }
-    ensures { λ r. ⌜ Shows (now (text .entry)) (namesAt (now (text .entry)) (now (starts .entry)) above) (namesAt (now (text .entry)) (now (starts .entry)) all) (now (addresses .entry)) (bodied form (labelIn (now (text .entry)) (name .present) (name .start)) (tokensAt (now (text .entry)) at)) r ⌝ }
+    ensures { λ r. ⌜ Shows (now (text .entry)) (namesAt (now (text .entry)) (now (starts .entry)) above)
+        (namesAt (now (text .entry)) (now (starts .entry)) all) (now (addresses .entry))
+        (bodied form (labelIn (now (text .entry)) (name .present) (name .start)) (tokensAt (now (text .entry)) at)) r ⌝ }
 {
     if form == NONE {
         return unreadable();
@@ -226,7 +229,8 @@ pub(crate) fn read_line(
 ) -> Line
     requires { ⌜ (at ≤ length (now text)) × (length (now text) ≤ 65535) ⌝ }
     requires { ⌜ Tabled (now text) (now starts) (now addresses) above × Tabled (now text) (now starts) (now addresses) all ⌝ }
-    ensures { λ r. ⌜ Shows (now (text .entry)) (namesAt (now (text .entry)) (now (starts .entry)) above) (namesAt (now (text .entry)) (now (starts .entry)) all) (now (addresses .entry)) (statement (tokensAt (now (text .entry)) at)) r ⌝ }
+    ensures { λ r. ⌜ Shows (now (text .entry)) (namesAt (now (text .entry)) (now (starts .entry)) above)
+        (namesAt (now (text .entry)) (now (starts .entry)) all) (now (addresses .entry)) (statement (tokensAt (now (text .entry)) at)) r ⌝ }
 {
     let first = token(text, at);
     let kind = first.kind;

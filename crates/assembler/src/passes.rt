@@ -204,7 +204,8 @@ pub(crate) fn place_lines(
 ) -> u32
     requires { ⌜ Settled (now text) (now starts) (now addresses) all ⌝ }
     requires { ⌜ now used ≡ replicate 4096 0 ⌝ }
-    ensures { λ r. ⌜ (r ≡ first misplaced start 1 (program (now (text .entry)))) × (r ≡ 0 → Placed (now (text .entry)) (now (starts .entry)) (now (addresses .exit)) all) ⌝ }
+    ensures { λ r. ⌜ (r ≡ first misplaced start 1 (program (now (text .entry))))
+        × (r ≡ 0 → Placed (now (text .entry)) (now (starts .entry)) (now (addresses .exit)) all) ⌝ }
 {
     let mut at = 0;
     let mut number: u32 = 1;

@@ -147,7 +147,8 @@ fn parenthesis(
     addresses: &[u16],
     count: usize,
 ) -> Sum
-    requires { ⌜ (at ≤ length (now text)) × (length (now text) ≤ 65535) × (depth ≤ 16) × Held (now text) (now starts) count × (count ≤ length (now addresses)) ⌝ }
+    requires { ⌜ (at ≤ length (now text)) × (length (now text) ≤ 65535) × (depth ≤ 16) × Held (now text) (now starts) count
+        × (count ≤ length (now addresses)) ⌝ }
     ensures { λ r. ⌜ PartRead (now (text .entry)) (namesAt (now (text .entry)) (now (starts .entry)) count) (now (addresses .entry)) at depth minus r ⌝ }
 {
     let open = token(text, at);
@@ -192,8 +193,10 @@ pub fn operand(
     addresses: &[u16],
     count: usize,
 ) -> Sum
-    requires { ⌜ (at ≤ length (now text)) × (length (now text) ≤ 65535) × (depth ≤ 16) × Held (now text) (now starts) count × (count ≤ length (now addresses)) ⌝ }
-    ensures { λ r. ⌜ OperandRead (now (text .entry)) (namesAt (now (text .entry)) (now (starts .entry)) count) (now (addresses .entry)) at depth minus r ⌝ }
+    requires { ⌜ (at ≤ length (now text)) × (length (now text) ≤ 65535) × (depth ≤ 16) × Held (now text) (now starts) count
+        × (count ≤ length (now addresses)) ⌝ }
+    ensures { λ r. ⌜ OperandRead (now (text .entry)) (namesAt (now (text .entry)) (now (starts .entry)) count) (now (addresses .entry))
+        at depth minus r ⌝ }
 {
     let mut plus = 0;
     let mut less = 0;
