@@ -23,11 +23,11 @@ module _ {A : Type 0} where
   all-map f P [] h = tt
   all-map f P (p ∷ ps) h = (h .0, all-map f P ps (h .1))
 
-  to-map : (f : A → ℕ) {q : A} {ps : List A} → Member q ps → Member (f q) (map f ps)
+  pub to-map : (f : A → ℕ) {q : A} {ps : List A} → Member q ps → Member (f q) (map f ps)
   to-map f here = here
   to-map f (there m) = there (to-map f m)
 
-  of-map : (f : A → ℕ) {k : ℕ} (ps : List A) → Member k (map f ps) → (q : A) × Member q ps × (k ≡ f q)
+  pub of-map : (f : A → ℕ) {k : ℕ} (ps : List A) → Member k (map f ps) → (q : A) × Member q ps × (k ≡ f q)
   of-map f (p ∷ ps) here = (p, here, refl)
   of-map f (p ∷ ps) (there m) = let r = of-map f ps m in (r .0, there (r .1), r .2)
 

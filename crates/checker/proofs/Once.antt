@@ -13,11 +13,11 @@ use Rattle.checker.proofs.Count.{zeros-set, zeros-replicate, getD-zeros
 
 -- ---- each once
 module _ {A : Type 0} where
-  abbrev Once : List A → Type 0
+  abbrev pub Once : List A → Type 0
   Once [] = Unit {0}
   Once (x ∷ xs) = (Member x xs → ⊥) × Once xs
 
-  some : {x : A} {xs : List A} → Member x xs → 0 < length xs
+  pub some : {x : A} {xs : List A} → Member x xs → 0 < length xs
   some here = omega arith
   some (there m) = omega arith
 
@@ -57,7 +57,7 @@ at-most n ks o s =
 
 -- ---- a shortest chain of codes below n
 module _ (n : ℕ) (next : ℕ → List ℕ) (small : (k : ℕ) → Small n (next k)) where
-  all-small : {p r : ℕ} {ps : List ℕ} → p < n → Chain next p ps r → Small n ps
+  pub all-small : {p r : ℕ} {ps : List ℕ} → p < n → Chain next p ps r → Small n ps
   all-small h one = (h, tt)
   all-small h (more {p = p} m c) = (h, all-small (all-member (λ (k : ℕ). k < n) m (small p)) c)
 

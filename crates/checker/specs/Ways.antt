@@ -51,7 +51,7 @@ wayRefusal MaskPasses = 10
 wayRefusal BadList = 11
 
 -- one of two claims, by a test
-abbrev either : Bool → Type 0 → Type 0 → Type 0
+abbrev pub either : Bool → Type 0 → Type 0 → Type 0
 either true P Q = P
 either false P Q = Q
 

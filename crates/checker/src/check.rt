@@ -1,8 +1,9 @@
 // The marks and the verdict.
 ghost use mathlib.Core.Path.{_≡_};
-ghost use Prim.Native.Nat.{ℕ, _≤_};
+ghost use Prim.Native.Nat.{ℕ, _<_, _≤_};
 ghost use lib.ListN.{getD, length};
-ghost use Rattle.checker.specs.Verdicts.{Answers, checkRefusal, numberOf};
+ghost use Rattle.checker.specs.Marks.{addresses, levels};
+ghost use Rattle.checker.specs.Verdicts.{Answers, checkRefusal, isMarked, numberOf};
 ghost use Rattle.checker.specs.Walk.{Packed, verdictOf};
 use crate::walk::Named;
 use crate::walk::walk;
@@ -59,4 +60,19 @@ pub fn check(mask: &[u8], marks: &mut [u8]) -> Verdict
     let named = walk(mask, &mut seen, &mut queue, &mut starts);
     pack(&seen, marks);
     judge(named)
+}
+
+// Whether a pair is marked: its level's bit in the mark byte of its address.
+pub fn is_marked(marks: &[u8; 4096], address: u16, level: u8) -> bool
+    requires { ⌜ (address < addresses) × (level < levels) ⌝ }
+    ensures { λ r. ⌜ r ≡ isMarked (now (marks .entry)) address level ⌝ }
+{
+    let byte = marks[address as usize];
+    if level == 0 {
+        return byte % 2 == 1;
+    }
+    if level == 1 {
+        return byte / 2 % 2 == 1;
+    }
+    byte / 4 % 2 == 1
 }

@@ -42,7 +42,7 @@ pub fn flow_of(instruction: Instruction) -> Flow
 }
 
 // The flow of what stands at the address of a pair's code.
-pub(crate) fn flow_at(mask: &[u8], code: u16) -> Flow
+pub fn flow_at(mask: &[u8], code: u16) -> Flow
     ensures { λ r. ⌜ r ≡ flowAt (now (mask .entry)) (code / levels) ⌝ }
 {
     let address = code / 3;

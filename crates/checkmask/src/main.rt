@@ -1,7 +1,12 @@
 // `checkmask`: reads mask.bin and prints `passed`, or `fault F at AAA level L` and then a shortest way there, a line a pair: address, level, bytes
 // and instruction. A mask of another length, or none, gives `refused 1`. What it prints is decided by the proved functions of `checker` and
 // `mnemonic`; here a file is read and lines are written.
-ghost use Prim.Native.Nat.{_*_, _≤_};
+ghost use mathlib.Core.Path.{_≡_};
+ghost use Prim.Native.Nat.{_*_, _<_, _≤_};
+ghost use lib.ListN.{length};
+use bound::bounds::bounds_of;
+use bound::bounds::largest;
+use bound::calls::call_targets;
 use checker::check::Verdict;
 use checker::check::check;
 use checker::way::Listing;
@@ -108,11 +113,82 @@ fn put_failed(fault: u8, address: u16, level: u8) {
     put(b"\n");
 }
 
+// " at ", a pair, and the end of its line or what follows.
+fn put_place(address: u16, level: u16, end: &[u8]) {
+    put(b" at ");
+    put_address(address);
+    put(b" level ");
+    io::print_decimal(STDOUT_FILENO, level as u64);
+    put(end);
+}
+
+// Cycles, or what the list of bounds has in their place.
+fn put_cycles(cycles: u16) {
+    match cycles {
+        0 => put(b"not reached"),
+        65535 => put(b"no bound"),
+        _ => {
+            io::print_decimal(STDOUT_FILENO, cycles as u64);
+        }
+    }
+}
+
+// The bound of a pair above main.
+fn put_bound(list: &[u16], address: u16, level: u16)
+    requires { ⌜ (length (now list) ≡ 8192) × (address < 4096) × (1 ≤ level) × (level ≤ 2) ⌝ }
+{
+    put(b"bound");
+    put_place(address, level, b": ");
+    put_cycles(list[address as usize * 2 + level as usize - 1]);
+    put(b"\n");
+}
+
+fn put_targets(list: &[u16], targets: &[u8; 4096])
+    requires { ⌜ length (now list) ≡ 8192 ⌝ }
+{
+    let mut address: u16 = 0;
+    while address < 4096 {
+        if targets[address as usize] == 1 {
+            put_bound(list, address, 1);
+        }
+        address += 1;
+    }
+}
+
+// The longest an edge can wait, and a pair that shows it; 0 where no pair above main is reached.
+fn put_wait(list: &[u16])
+    requires { ⌜ length (now list) ≡ 8192 ⌝ }
+{
+    let place = largest(list);
+    let cycles = list[place];
+    put(b"longest wait: ");
+    if cycles == 0 {
+        put(b"0\n");
+        return;
+    }
+    put_cycles(cycles);
+    put_place((place / 2) as u16, (place % 2) as u16 + 1, b"\n");
+}
+
+// How long an edge can be held under a mask that passes: from both vectors, from each CALL target, and the longest of all.
+fn put_bounds(mask: &[u8], marks: &[u8; 4096]) {
+    let mut list = [0u16; 8192];
+    bounds_of(mask, &mut list);
+    put_bound(&list, 4, 2);
+    put_bound(&list, 8, 2);
+    let targets = call_targets(mask, marks);
+    put_targets(&list, &targets);
+    put_wait(&list);
+}
+
 fn checkmask(mask: &[u8]) {
     let mut marks = [0u8; 4096];
     let verdict = check(mask, &mut marks);
     match verdict {
-        Verdict::Passed => put(b"passed\n"),
+        Verdict::Passed => {
+            put(b"passed\n");
+            put_bounds(mask, &marks);
+        }
         Verdict::Failed(fault, address, level) => {
             put_failed(fault, address, level);
             put_way(mask);

@@ -1,5 +1,5 @@
--- What the number of a verdict says: 0 is passed alone, since a fault is not 0; `ht1130_check` has one answer, and `ht1130_way` one number, which
--- for a list that holds a way through every pair is not 11. Assumes nothing.
+-- What the number of a verdict says: 0 is passed alone, since a fault is not 0; `ht1130_check` has one answer, `ht1130_bound` one number, and
+-- `ht1130_way` one, which for a list that holds a way through every pair is not 11. Assumes nothing.
 use Prim.Native.Nat.{ℕ}
 use native.Mathlib.Omega.{arith}
 use mathlib.Core.Path.{_≡_, sym, ap, _∙_}
@@ -13,7 +13,8 @@ use Rattle.checker.specs.declared.way.Listing.the-variants.{Listed, MaskPasses,
 use Rattle.checker.specs.declared.way.Listing.the-variants.{BadMask as NoMask}
 use Rattle.checker.proofs.Answer.{answers-determine}
 use Rattle.checker.proofs.Ways.{way-determines, never-too-short}
-use Rattle.ht1130_tools.specs.Numbers.{Checks, ChecksDetermine, verdictNumber, WaysDetermine, WayLengthDoes, wayNumber}
+use Rattle.bound.proofs.Answers.{bound-determines}
+use Rattle.ht1130_tools.specs.Numbers.{Checks, ChecksDetermine, verdictNumber, WaysDetermine, WayLengthDoes, wayNumber, BoundsDetermine, boundNumber}
 
 pub passed : (mask old marks : List ℕ) → Checks mask old marks 0 → Answers mask old marks Passed
 passed mask old marks c = go (c .verdict) (c .answers) (c .number)
@@ -32,6 +33,10 @@ checks-determine mask old new other r q c d =
 pub ways-determine : WaysDetermine
 ways-determine mask old new other r q x y =
     x .number ∙ ap wayNumber (way-determines mask old new other (x .listing) (y .listing) (x .answers) (y .answers)) ∙ sym (y .number)
+
+pub bounds-determine : BoundsDetermine
+bounds-determine mask p r q x y =
+    x .number ∙ ap boundNumber (bound-determines mask p (x .bound) (y .bound) (x .answers) (y .answers)) ∙ sym (y .number)
 
 pub way-length-does : WayLengthDoes
 way-length-does mask old new r bytes h w e = go (w .listing) (w .answers) (sym (w .number) ∙ e)

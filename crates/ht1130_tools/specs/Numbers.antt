@@ -8,6 +8,11 @@ use Rattle.rom.specs.Fetching.{Bytes}
 use Rattle.checker.specs.Verdicts.{Answers, numberOf}
 use Rattle.checker.specs.declared.check.Verdict.{Verdict}
 use Rattle.checker.specs.declared.check.Verdict.the-variants.{Passed, Failed, BadMask, BadMarks}
+use Rattle.bound.specs.Bounds.{BoundAnswers, boundRefusal}
+use Rattle.bound.specs.declared.bound.Bound.{Bound}
+use Rattle.bound.specs.declared.bound.Bound.the-variants.{NotReached, NoBound, Cycles, BadPair, MaskFails}
+use Rattle.bound.specs.declared.bound.Bound.the-variants.{BadMask as BadBoundMask}
+use Rattle.checker.specs.Marks.{Pair}
 use Rattle.checker.specs.Ways.{WayAnswers, wayRefusal}
 use Rattle.checker.specs.declared.way.Listing.{Listing}
 use Rattle.checker.specs.declared.way.Listing.the-variants.{Listed, MaskPasses, BadList}
@@ -59,6 +64,26 @@ wayLength = 36864
 
 abbrev pub WayLengthDoes : Type 0
 WayLengthDoes = (mask old new : List ℕ) (r : ℕ) → Bytes mask → wayLength ≤ length old → Ways mask old new r → r ≡ wayRefusal BadList → ⊥
+
+-- document 02, wish 5: 'not reached' is 0, 'no bound' 1 and a bound 2, in byte 1; "the largest cycle total" in bytes 4 to 7. A refusal is its number,
+-- "15 if the mask fails, after 1 and 5 (a pair out of range)"
+abbrev pub boundNumber : Bound → ℕ
+boundNumber NotReached = 0
+boundNumber NoBound = 1 * 2 ^ 8
+boundNumber (Cycles n) = 2 * 2 ^ 8 + n * 2 ^ 32
+boundNumber BadBoundMask = boundRefusal BadBoundMask
+boundNumber BadPair = boundRefusal BadPair
+boundNumber MaskFails = boundRefusal MaskFails
+
+-- what `ht1130_bound` answers: a bound of the pair, and its number
+pub record Bounds (mask : List ℕ) (p : Pair) (r : ℕ) : Type 0 where
+  pub bound : Bound
+  pub answers : BoundAnswers mask p bound
+  pub number : r ≡ boundNumber bound
+
+-- the number depends on the mask and the pair alone
+abbrev pub BoundsDetermine : Type 0
+BoundsDetermine = (mask : List ℕ) (p : Pair) (r q : ℕ) → Bounds mask p r → Bounds mask p q → r ≡ q
 
 -- "one line `refused N at P`": N in byte 0, P in bytes 4 and 5
 abbrev pub scriptNumber : Checked → ℕ

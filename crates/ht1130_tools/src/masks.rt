@@ -1,7 +1,10 @@
-// The checker's verdict, and the way to what it names, as numbers.
+// The checker's verdict, the way to what it names, and the bound of a pair, as numbers.
 ghost use mathlib.Core.Path.{_≡_};
 ghost use Prim.Native.Nat.{_+_, _*_, _^_};
-ghost use Rattle.ht1130_tools.specs.Numbers.{Checks, Ways, verdictNumber, wayNumber};
+ghost use Rattle.checker.specs.Marks.{pair};
+ghost use Rattle.ht1130_tools.specs.Numbers.{Bounds, Checks, Ways, boundNumber, verdictNumber, wayNumber};
+use bound::bound::Bound;
+use bound::bound::bound_of;
 use checker::check::Verdict;
 use checker::check::check;
 use checker::way::Listing;
@@ -48,4 +51,31 @@ pub extern "C" fn ht1130_way(mask: &[u8], list: &mut [u8]) -> u64
     ensures { λ r. ⌜ Ways (now (mask .entry)) (now (list .entry)) (now (list .exit)) r ⌝ }
 {
     counted(way(mask, list))
+}
+
+// Byte 1, and 4 to 7.
+fn bounded(cycles: u16) -> u64
+    ensures { λ r. ⌜ r ≡ 2 * 2 ^ 8 + cycles * 2 ^ 32 ⌝ }
+{
+    0x200 + cycles as u64 * 0x100000000
+}
+
+fn told(answer: Bound) -> u64
+    ensures { λ r. ⌜ r ≡ boundNumber answer ⌝ }
+{
+    match answer {
+        Bound::NotReached => 0,
+        Bound::NoBound => 0x100,
+        Bound::Cycles(cycles) => bounded(cycles),
+        Bound::BadMask => 1,
+        Bound::BadPair => 5,
+        Bound::MaskFails => 15,
+    }
+}
+
+#[no_mangle]
+pub extern "C" fn ht1130_bound(mask: &[u8], address: u16, level: u8) -> u64
+    ensures { λ r. ⌜ Bounds (now (mask .entry)) (pair address level) r ⌝ }
+{
+    told(bound_of(mask, address, level))
 }

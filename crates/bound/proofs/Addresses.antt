@@ -1,0 +1,126 @@
+-- What stands at an address of a mask, as the walk has it: the addresses that follow, from the flow there, are below 4,096; an entry of document 01's list has
+-- at most 2 cycles, by one computed test. Assumes nothing.
+use Prim.Native.Nat.{ℕ, zero, suc, _+_, _%_, _<_, _≤_}
+use native.Mathlib.Omega.{arith}
+use mathlib.Core.Path.{_≡_, refl, sym, ap, ap₂, subst, _∙_}
+use mathlib.Core.Bool.{Bool, true, false, _&&_, false≢true}
+use mathlib.Core.List.{List, [], _∷_}
+use lib.Dec.{ltb}
+use lib.ListN.{getD}
+use borrow.Author.Tests.{ltb-true}
+use Rattle.isa.specs.Timing.{Columns, entries, columnsOf}
+use Rattle.isa.specs.Views.{View, on, jmp, branch, call, ret, reti, ei, view}
+use Rattle.isa.proofs.Exact.{sound, timed}
+use Rattle.isa.specs.Reading.{map}
+use Rattle.isa.proofs.List.{cycles-at}
+use Rattle.isa.specs.declared.Instruction.{Instruction}
+use Rattle.isa.specs.declared.Instruction.the-variants as I
+use Rattle.isa.specs.declared.decoder.Decoded.{Decoded}
+use Rattle.isa.specs.declared.decoder.Decoded.the-variants.{Read, Unreadable}
+use Rattle.rom.specs.Fetching.{Bytes, byteAt, readAt, cyclesAt, movedFrom}
+use Rattle.checker.specs.Marks.{flowBy, flowOf, flowRead, flowAt, fault}
+use Rattle.checker.specs.Walk.{Small}
+use Rattle.checker.specs.declared.flow.Flow.{Flow}
+use Rattle.checker.specs.declared.flow.Flow.the-variants.{Unread, On, Enable, Jump, To, Sub, Back}
+use Rattle.checker.proofs.Reach.{Targets, flow-targets}
+use Rattle.bound.specs.Bounds.{within}
+use Rattle.bound.specs.Walk.{handedTo, nextAddresses, HaltsAt, HandedOn, Follows, StandsAt}
+use Rattle.bound.specs.declared.ways.Ways.{Ways}
+use Rattle.bound.specs.declared.ways.Ways.the-variants.{Stop, Out, One, Two}
+
+-- ---- cycles
+cheap : List ℕ → Bool
+cheap [] = true
+cheap (x ∷ xs) = ltb (x % 16) 3 && cheap xs
+
+first-cheap : (x : ℕ) (xs : List ℕ) → cheap (x ∷ xs) ≡ true → (x % 16 ≤ 2) × (cheap xs ≡ true)
+unfolding cheap
+first-cheap x xs = go (ltb (x % 16) 3) (ltb-true (x % 16) 3)
+  where
+    go : (b : Bool) → (b ≡ true → x % 16 < 3) → (b && cheap xs) ≡ true → (x % 16 ≤ 2) × (cheap xs ≡ true)
+    go true f h = let l = f refl in (omega arith, h)
+    go false f h = absurd (false≢true h)
+
+cheap-at : (xs : List ℕ) (k : ℕ) → cheap xs ≡ true → getD xs k 0 % 16 ≤ 2
+cheap-at [] zero e = omega arith
+cheap-at [] (suc k) e = omega arith
+cheap-at (x ∷ xs) zero e = first-cheap x xs e .0
+cheap-at (x ∷ xs) (suc k) e = cheap-at xs k (first-cheap x xs e .1)
+
+all-cheap : cheap entries ≡ true
+unfolding entries columnsOf map cheap
+all-cheap = refl
+
+pub two-cycles : (mask : List ℕ) (a : ℕ) → cyclesAt mask a ≤ 2
+two-cycles mask a = subst (λ (n : ℕ). n ≤ 2) (cycles-at (byteAt mask a)) (cheap-at entries (byteAt mask a) all-cheap)
+
+-- a return takes one
+return-cycles : {i : Instruction} (v : View i) → flowBy v ≡ Back → columnsOf i .cycles ≡ 1
+unfolding columnsOf
+return-cycles on e = let z : _≡_ {A = ℕ} 0 1 = cc in absurd (omega arith)
+return-cycles (jmp t) e = let z : _≡_ {A = ℕ} 0 1 = cc in absurd (omega arith)
+return-cycles (branch t k) e = let z : _≡_ {A = ℕ} 0 1 = cc in absurd (omega arith)
+return-cycles (call t) e = let z : _≡_ {A = ℕ} 0 1 = cc in absurd (omega arith)
+return-cycles ret e = refl
+return-cycles reti e = refl
+return-cycles ei e = let z : _≡_ {A = ℕ} 0 1 = cc in absurd (omega arith)
+
+pub returned-cycles : (mask : List ℕ) → Bytes mask → (a : ℕ) → flowAt mask a ≡ Back → cyclesAt mask a ≡ 1
+unfolding flowAt flowOf
+returned-cycles mask bytes a = go (readAt mask a) refl
+  where
+    go : (d : Decoded) → readAt mask a ≡ d → flowRead d ≡ Back → cyclesAt mask a ≡ 1
+    go (Read i) e b =
+        let y< = bytes ((a + 1) % 4096) in
+        ap (λ (c : Columns). c .cycles) (timed (byteAt mask a) .read (byteAt mask (a + 1)) i y< (sound (byteAt mask a) (byteAt mask (a + 1)) i y< e)) ∙ return-cycles (view i) b
+    go Unreadable e b = let z : _≡_ {A = ℕ} 0 1 = cc in absurd (omega arith)
+
+-- ---- what follows
+module _ (mask : List ℕ) (a : ℕ) where
+  pub next-flow : nextAddresses mask a ≡ handedTo (flowAt mask a) (movedFrom mask a)
+  unfolding within fault
+  next-flow = refl
+
+  pub next-small : Bytes mask → Small 4096 (nextAddresses mask a)
+  next-small bytes = subst (Small 4096) (sym next-flow) (go (flowAt mask a) (flow-targets mask bytes a))
+    where
+      go : (f : Flow) → Targets f → Small 4096 (handedTo f (movedFrom mask a))
+      go Unread t = tt
+      go On t = (omega arith, tt)
+      go Enable t = (omega arith, tt)
+      go (Jump b) t = (t, tt)
+      go (To b) t = (omega arith, (omega arith, tt))
+      go (Sub b) t = tt
+      go Back t = tt
+
+  -- what cannot be read, and an instruction and its ways
+  pub stands-out : readAt mask a ≡ Unreadable → StandsAt mask a Out
+  unfolding flowAt
+  stands-out e = ((λ h. unread (sym e ∙ h)), sym (next-flow ∙ ap (λ (d : Decoded). handedTo (flowRead d) (movedFrom mask a)) e))
+    where
+      Told : Decoded → Type 0
+      Told (Read i) = ⊥
+      Told Unreadable = Unit {0}
+
+      unread : Unreadable ≡ Read I.Halt → ⊥
+      unread e = subst Told e tt
+
+  pub stands-on : (i : Instruction) (moved : ℕ) (w : Ways) → readAt mask a ≡ Read i → moved ≡ movedFrom mask a → HandedOn i moved w → StandsAt mask a w
+  unfolding flowAt
+  stands-on i moved w e m = go w
+    where
+      next : nextAddresses mask a ≡ handedTo (flowOf i) moved
+      next = next-flow ∙ ap₂ (λ (d : Decoded) (n : ℕ). handedTo (flowRead d) n) e (sym m)
+
+      instruction : Decoded → Instruction
+      instruction (Read i) = i
+      instruction Unreadable = i
+
+      never : (i ≡ I.Halt → ⊥) → HaltsAt mask a → ⊥
+      never n h = n (ap instruction (sym e ∙ h))
+
+      go : (w : Ways) → HandedOn i moved w → StandsAt mask a w
+      go Stop h = e ∙ ap Read h
+      go Out h = (never (h .0), subst (Follows Out) (sym next) (h .1))
+      go (One q) h = (never (h .0), subst (Follows (One q)) (sym next) (h .1))
+      go (Two q r) h = (never (h .0), subst (Follows (Two q r)) (sym next) (h .1))

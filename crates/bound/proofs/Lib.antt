@@ -1,0 +1,7 @@
+pub mod Addresses
+pub mod Answers
+pub mod Filling
+pub mod Levels
+pub mod Loops
+pub mod Turn
+pub mod Worst

@@ -1,0 +1,4 @@
+pub mod Bounds
+pub mod Lists
+pub mod Paths
+pub mod Walk

@@ -1,0 +1,73 @@
+-- The bounds of all pairs above level 0 in one list, for a bench that asks for many: an entry for each address and its levels 1 and 2. The longest an edge
+-- can wait is its largest entry. Then the targets of the CALLs that a mask may run. Assumes nothing.
+use Prim.Native.Nat.{ℕ, _+_, _*_, _-_, _<_, _≤_}
+use mathlib.Core.Path.{_≡_}
+use mathlib.Core.Bool.{true}
+use mathlib.Core.List.{List}
+use lib.Dec.{eqb}
+use lib.ListN.{length, getD}
+use Rattle.isa.specs.Choice.{pick}
+use Rattle.isa.specs.declared.ProgramAddress.{ProgramAddress}
+use Rattle.checker.specs.Marks.{addresses, levels, pair, flowAt}
+use Rattle.checker.specs.Verdicts.{Safe, isMarked}
+use Rattle.checker.specs.Ways.{either}
+use Rattle.checker.specs.declared.flow.Flow.the-variants.{Sub}
+use Rattle.bound.specs.Bounds.{BoundAnswers}
+use Rattle.bound.specs.declared.bound.Bound.{Bound}
+use Rattle.bound.specs.declared.bound.Bound.the-variants.{NotReached, NoBound, Cycles}
+use Rattle.bound.specs.declared.bounds.Bounds.{Bounds}
+use Rattle.bound.specs.declared.bounds.Bounds.the-variants.{Listed, BadMask, BadList, MaskFails}
+
+-- an entry: 0 for 'not reached', 65,535 for 'no bound', else the cycles
+abbrev pub boundAt : ℕ → Bound
+boundAt n = pick (eqb n 0) NotReached (pick (eqb n 65535) NoBound (Cycles n))
+
+-- a pair's place, by address and then level
+abbrev pub placeOf : ℕ → ℕ → ℕ
+placeOf a l = a * 2 + (l - 1)
+
+-- each entry is the answer for its pair
+abbrev pub Entries : List ℕ → List ℕ → Type 0
+Entries mask list = (a l : ℕ) → a < addresses → 0 < l → l < levels → BoundAnswers mask (pair a l) (boundAt (getD list (placeOf a l) 0))
+
+-- the paper's number of each answer: wish 5's, but for a pair's, and document 01's 2 for a lent list of another length
+abbrev pub boundsRefusal : Bounds → ℕ
+boundsRefusal Listed = 0
+boundsRefusal BadMask = 1
+boundsRefusal BadList = 2
+boundsRefusal MaskFails = 15
+
+-- what each number says
+abbrev pub BoundsRefused : List ℕ → List ℕ → ℕ → Type 0
+BoundsRefused mask old n =
+    either (eqb n 1) (length mask ≡ 4096 → ⊥)
+    (either (eqb n 2) ((length mask ≡ 4096) × (length old ≡ 8192 → ⊥))
+    (either (eqb n 15) ((length mask ≡ 4096) × (length old ≡ 8192) × (Safe mask → ⊥))
+    ⊥))
+
+-- what each answer says of the mask, and of the list at entry and at exit; after a refusal the list is as it was
+abbrev pub BoundsAnswer : List ℕ → List ℕ → List ℕ → Bounds → Type 0
+BoundsAnswer mask old new Listed = (length new ≡ 8192) × Entries mask new
+BoundsAnswer mask old new BadMask = BoundsRefused mask old (boundsRefusal BadMask) × (new ≡ old)
+BoundsAnswer mask old new BadList = BoundsRefused mask old (boundsRefusal BadList) × (new ≡ old)
+BoundsAnswer mask old new MaskFails = BoundsRefused mask old (boundsRefusal MaskFails) × (new ≡ old)
+
+-- the longest an edge can wait: the first place whose entry is the largest
+pub record Largest (list : List ℕ) (place : ℕ) : Type 0 where
+  pub below : 0 < length list → place < length list
+  pub most : (k : ℕ) → k < length list → getD list k 0 ≤ getD list place 0
+  pub first : (k : ℕ) → k < place → getD list k 0 < getD list place 0
+
+-- an address that a CALL marked in level 0 has as its target
+pub record Called (mask marks : List ℕ) (t : ℕ) : Type 0 where
+  pub from : ℕ
+  pub in-range : from < addresses
+  pub target : ProgramAddress
+  pub calls : flowAt mask from ≡ Sub target
+  pub there : target .0 ≡ t
+  pub marked : isMarked marks from 0 ≡ true
+
+-- a flag for each address, 1 where it is called
+pub record CalledOnes (mask marks flags : List ℕ) : Type 0 where
+  pub sound : (t : ℕ) → t < addresses → getD flags t 0 ≡ 1 → Called mask marks t
+  pub full : (t : ℕ) → t < addresses → Called mask marks t → getD flags t 0 ≡ 1

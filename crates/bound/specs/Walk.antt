@@ -1,0 +1,116 @@
+-- The walk, as the private functions state it, over any successor function on addresses: what a number says of an address, and what is remembered.
+-- Then what stands at an address of a mask. No promise of an exported function cites it. Assumes nothing.
+use Prim.Native.Nat.{ℕ, _+_, _<_, _≤_}
+use mathlib.Core.Path.{_≡_}
+use mathlib.Core.Bool.{Bool, true, false}
+use mathlib.Core.List.{List, [], _∷_, map}
+use mathlib.Core.Logic.{_⊎_}
+use lib.Dec.{eqb}
+use lib.ListN.{length, getD}
+use Rattle.isa.specs.Choice.{pick}
+use Rattle.isa.specs.declared.Instruction.{Instruction}
+use Rattle.isa.specs.declared.Instruction.the-variants as I
+use Rattle.isa.specs.declared.decoder.Decoded.the-variants.{Read}
+use Rattle.rom.specs.Fetching.{readAt, cyclesAt}
+use Rattle.checker.specs.Chains.{Member, Reaches}
+use Rattle.checker.specs.Marks.{Pair, pair, flowOf, faultIn, onward}
+use Rattle.checker.specs.Walk.{zeros}
+use Rattle.checker.specs.declared.flow.Flow.{Flow}
+use Rattle.checker.specs.declared.flow.Flow.the-variants.{Unread, On, Enable, Jump, To, Sub, Back}
+use Rattle.bound.specs.Paths.{Endless, Longest}
+use Rattle.bound.specs.Bounds.{within}
+use Rattle.bound.specs.declared.bound.Bound.{Bound}
+use Rattle.bound.specs.declared.bound.Bound.the-variants.{NoBound, Cycles}
+use Rattle.bound.specs.declared.ways.Ways.{Ways}
+use Rattle.bound.specs.declared.ways.Ways.the-variants.{Stop, Out, One, Two}
+
+-- no bound, as the walk writes it
+abbrev pub endless : ℕ
+endless = 65535
+
+-- the cycles of an address before the most that can follow
+abbrev pub settled : ℕ → ℕ → ℕ
+settled worst cycles = pick (eqb worst endless) endless (worst + cycles)
+
+-- the answer for a number of the walk at a marked pair above main
+abbrev pub boundOf : ℕ → Bound
+boundOf n = pick (eqb n endless) NoBound (Cycles n)
+
+-- from one address, over a successor, to another
+pub record Leads (next : ℕ → List ℕ) (from to : ℕ) : Type 0 where
+  pub over : ℕ
+  pub first : Member over (next from)
+  pub rest : Reaches next over to
+
+-- nothing follows
+abbrev pub Last : (ℕ → List ℕ) → ℕ → Type 0
+Last next a = next a ≡ []
+
+module _ (next : ℕ → List ℕ) (Halt : ℕ → Type 0) (cost : ℕ → ℕ) where
+  pub record Finite (a n : ℕ) : Type 0 where
+    pub ends : Endless next Halt a → ⊥
+    pub longest : Longest next (Last next) cost a n
+
+  -- what a number says of an address
+  pub record Told (a n : ℕ) : Type 0 where
+    pub unbounded : n ≡ endless → Endless next Halt a
+    pub bounded : (n ≡ endless → ⊥) → Finite a n
+
+  -- what is remembered for each address: nothing, no bound, or the largest total. An address on the way to the one that is walked has no bound too, though
+  -- it may not be known yet
+  pub record Remembers (OnTheWay : ℕ → Type 0) (found : List ℕ) : Type 0 where
+    pub size : length found ≡ 4096
+    pub unbounded : (k : ℕ) → getD found k 0 ≡ endless → Endless next Halt k ⊎ OnTheWay k
+    pub bounded : (k : ℕ) → (getD found k 0 ≡ 0 → ⊥) → (getD found k 0 ≡ endless → ⊥) → Finite k (getD found k 0)
+
+-- ---- a mask
+-- the addresses of the pairs that follow one in level 1; in level 2 they are the same
+abbrev pub addressOf : Pair → ℕ
+addressOf p = p .address
+
+abbrev pub nextAddresses : List ℕ → ℕ → List ℕ
+nextAddresses mask a = map addressOf (within mask (pair a 1))
+
+abbrev pub HaltsAt : List ℕ → ℕ → Type 0
+HaltsAt mask a = readAt mask a ≡ Read I.Halt
+
+abbrev pub ToldOf : List ℕ → ℕ → ℕ → Type 0
+ToldOf mask = Told (nextAddresses mask) (HaltsAt mask) (cyclesAt mask)
+
+abbrev pub RemembersOf : List ℕ → (ℕ → Type 0) → List ℕ → Type 0
+RemembersOf mask = Remembers (nextAddresses mask) (HaltsAt mask) (cyclesAt mask)
+
+-- the addresses that a flow hands on to
+abbrev pub handedTo : Flow → ℕ → List ℕ
+handedTo f moved = map addressOf (pick (eqb (faultIn f 1) 0) (onward f moved 1) [])
+
+-- a flow's ways do not stop
+abbrev pub Follows : Ways → List ℕ → Type 0
+Follows Stop rest = ⊥
+Follows Out rest = [] ≡ rest
+Follows (One a) rest = a ∷ [] ≡ rest
+Follows (Two a b) rest = a ∷ b ∷ [] ≡ rest
+
+-- an instruction's ways: HALT's, or those of its flow
+abbrev pub HandedOn : Instruction → ℕ → Ways → Type 0
+HandedOn i moved Stop = i ≡ I.Halt
+HandedOn i moved Out = (i ≡ I.Halt → ⊥) × Follows Out (handedTo (flowOf i) moved)
+HandedOn i moved (One q) = (i ≡ I.Halt → ⊥) × Follows (One q) (handedTo (flowOf i) moved)
+HandedOn i moved (Two q r) = (i ≡ I.Halt → ⊥) × Follows (Two q r) (handedTo (flowOf i) moved)
+
+-- what stands at an address: HALT, or what follows
+abbrev pub StandsAt : List ℕ → ℕ → Ways → Type 0
+StandsAt mask a Stop = HaltsAt mask a
+StandsAt mask a Out = (HaltsAt mask a → ⊥) × Follows Out (nextAddresses mask a)
+StandsAt mask a (One q) = (HaltsAt mask a → ⊥) × Follows (One q) (nextAddresses mask a)
+StandsAt mask a (Two q r) = (HaltsAt mask a → ⊥) × Follows (Two q r) (nextAddresses mask a)
+
+-- the target of a CALL; 4,096 where there is none
+abbrev pub TargetOf : Flow → ℕ → Type 0
+TargetOf Unread n = n ≡ 4096
+TargetOf On n = n ≡ 4096
+TargetOf Enable n = n ≡ 4096
+TargetOf (Jump t) n = n ≡ 4096
+TargetOf (To t) n = n ≡ 4096
+TargetOf (Sub t) n = n ≡ t .0
+TargetOf Back n = n ≡ 4096

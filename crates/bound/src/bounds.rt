@@ -1,0 +1,84 @@
+// The bounds of all pairs above main, in one list by address, then level: 0 for not reached, 65,535 for no bound, else the cycles.
+ghost use mathlib.Core.Path.{_≡_};
+ghost use Prim.Native.Nat.{_<_};
+ghost use lib.ListN.{length};
+ghost use Rattle.isa.specs.Choice.{pick};
+ghost use Rattle.checker.specs.Marks.{addresses, levels};
+ghost use Rattle.checker.specs.Verdicts.{Marked, Safe, isMarked};
+ghost use Rattle.bound.specs.Lists.{BoundsAnswer, Entries, Largest};
+use crate::longest::longest;
+use checker::check::Verdict;
+use checker::check::check;
+use checker::check::is_marked;
+
+pub enum Bounds {
+    // Each entry is the answer for its pair.
+    Listed,
+    // Refusal 1: the mask has not 4,096 bytes.
+    BadMask,
+    // Refusal 2: the list has not 8,192 entries.
+    BadList,
+    // Refusal 15: the mask fails.
+    MaskFails,
+}
+
+// The entry of a pair that has this number if it is marked.
+fn entry(marks: &[u8; 4096], address: u16, level: u8, number: u16) -> u16
+    requires { ⌜ (address < addresses) × (level < levels) ⌝ }
+    ensures { λ r. ⌜ r ≡ pick (isMarked (now (marks .entry)) address level) number 0 ⌝ }
+{
+    if is_marked(marks, address, level) {
+        return number;
+    }
+    0
+}
+
+// The entries of every address, by one walk that goes on from address to address.
+fn fill(mask: &[u8], marks: &[u8; 4096], list: &mut [u16])
+    requires { ⌜ (length (now mask) ≡ 4096) × (length (now list) ≡ 8192) × Marked (now mask) (now marks) × Safe (now mask) ⌝ }
+    ensures { λ r. ⌜ (length (now (list .exit)) ≡ 8192) × Entries (now (mask .entry)) (now (list .exit)) ⌝ }
+{
+    let mut found = [0u16; 4096];
+    let mut address: u16 = 0;
+    while address < 4096 {
+        let number = longest(mask, &mut found, address, 4096);
+        let at = address as usize * 2;
+        list[at] = entry(marks, address, 1, number);
+        list[at + 1] = entry(marks, address, 2, number);
+        address += 1;
+    }
+}
+
+// The bound of each pair above main, under a mask that passes.
+pub fn bounds_of(mask: &[u8], list: &mut [u16]) -> Bounds
+    ensures { λ r. ⌜ BoundsAnswer (now (mask .entry)) (now (list .entry)) (now (list .exit)) r ⌝ }
+{
+    if mask.len() != 4096 {
+        return Bounds::BadMask;
+    }
+    if list.len() != 8192 {
+        return Bounds::BadList;
+    }
+    let mut marks = [0u8; 4096];
+    let verdict = check(mask, &mut marks);
+    let Verdict::Passed = verdict else {
+        return Bounds::MaskFails;
+    };
+    fill(mask, &marks, list);
+    Bounds::Listed
+}
+
+// The first place of a largest entry: the longest an edge can wait.
+pub fn largest(list: &[u16]) -> usize
+    ensures { λ r. ⌜ Largest (now (list .entry)) r ⌝ }
+{
+    let mut best: usize = 0;
+    let mut place: usize = 0;
+    while place < list.len() {
+        if list[best] < list[place] {
+            best = place;
+        }
+        place += 1;
+    }
+    best
+}

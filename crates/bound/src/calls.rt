@@ -1,0 +1,41 @@
+// The targets of the CALLs that a mask may run.
+ghost use Prim.Native.Nat.{_<_};
+ghost use Rattle.isa.specs.Choice.{pick};
+ghost use Rattle.checker.specs.Marks.{addresses, flowAt};
+ghost use Rattle.checker.specs.Verdicts.{isMarked};
+ghost use Rattle.checker.specs.declared.flow.Flow.the-variants.{Unread};
+ghost use Rattle.bound.specs.Lists.{CalledOnes};
+ghost use Rattle.bound.specs.Walk.{TargetOf};
+use checker::check::is_marked;
+use checker::flow::Flow;
+use checker::flow::flow_at;
+
+// The target of a CALL that is marked in main at an address; 4,096 where there is none.
+fn called_at(mask: &[u8], marks: &[u8; 4096], address: u16) -> u16
+    requires { ⌜ address < addresses ⌝ }
+    ensures { λ r. ⌜ TargetOf (pick (isMarked (now (marks .entry)) address 0) (flowAt (now (mask .entry)) address) Unread) r ⌝ }
+{
+    if !is_marked(marks, address, 0) {
+        return 4096;
+    }
+    match flow_at(mask, address * 3) {
+        Flow::Sub(t) => t.0,
+        _ => 4096,
+    }
+}
+
+// A flag for each address, 1 where a CALL marked in main has it as its target.
+pub fn call_targets(mask: &[u8], marks: &[u8; 4096]) -> [u8; 4096]
+    ensures { λ r. ⌜ CalledOnes (now (mask .entry)) (now (marks .entry)) r ⌝ }
+{
+    let mut targets = [0u8; 4096];
+    let mut address: u16 = 0;
+    while address < 4096 {
+        let target = called_at(mask, marks, address) as usize;
+        if target < 4096 {
+            targets[target] = 1;
+        }
+        address += 1;
+    }
+    targets
+}

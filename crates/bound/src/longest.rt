@@ -1,0 +1,81 @@
+// The longest way to a return, in cycles, by a walk that remembers what it found.
+ghost use mathlib.Core.Path.{_≡_};
+ghost use Prim.Native.Nat.{ℕ, _%_, _<_, _≤_};
+ghost use lib.Dec.{ltb};
+ghost use lib.ListN.{getD, set};
+ghost use Rattle.isa.specs.Choice.{pick};
+ghost use Rattle.checker.specs.Walk.{zeros};
+ghost use Rattle.bound.specs.Walk.{Leads, RemembersOf, ToldOf, endless, nextAddresses, settled};
+use crate::ways::Ways;
+use crate::ways::ways_at;
+use rom::reader::byte_at;
+use rom::timing::entry;
+
+// No bound. An address has it too while the chains from it are walked: one that comes back to it has met a loop.
+pub const ENDLESS: u16 = 65535;
+
+fn larger(a: u16, b: u16) -> u16
+    ensures { λ r. ⌜ r ≡ pick (ltb a b) b a ⌝ }
+{
+    if a < b {
+        return b;
+    }
+    a
+}
+
+// An address is found: the cycles of its entry in the list of lengths and cycles, and the most that can follow.
+fn settle(found: &mut [u16; 4096], address: u16, worst: u16, timing: u8) -> u16
+    requires { ⌜ (address < 4096) × ((worst ≡ endless → ⊥) → worst ≤ 8192) ⌝ }
+    ensures { λ r. ⌜ r ≡ settled worst (timing % 16) ⌝ }
+    ensures { λ r. ⌜ now (found .exit) ≡ set (now (found .entry)) address r ⌝ }
+{
+    let at = address as usize;
+    if worst == ENDLESS {
+        found[at] = ENDLESS;
+        return ENDLESS;
+    }
+    let all = worst + (timing % 16) as u16;
+    found[at] = all;
+    all
+}
+
+// The most cycles from an address to a return. `left` is how many pairs a chain can still have: those not found yet. The second way is often known: a
+// look saves the call.
+pub(crate) fn longest(mask: &[u8], found: &mut [u16; 4096], address: u16, left: u16) -> u16
+    requires { ⌜ (address < 4096) × (zeros (now found) ≤ left) ⌝ }
+    requires { ⌜ RemembersOf (now mask) (λ (k : ℕ). Leads (nextAddresses (now mask)) k address) (now found) ⌝ }
+    ensures { λ r. ⌜ ToldOf (now (mask .entry)) address r ⌝ }
+    ensures { λ r. ⌜ RemembersOf (now (mask .entry)) (λ (k : ℕ). getD (now (found .entry)) k 0 ≡ endless) (now (found .exit)) ⌝ }
+    ensures { λ r. ⌜ zeros (now (found .exit)) ≤ zeros (now (found .entry)) ⌝ }
+{
+    let at = address as usize;
+    let known = found[at];
+    if known != 0 {
+        return known;
+    }
+    found[at] = ENDLESS; // while its chains are walked
+    let first = byte_at(mask, address);
+    let timing = entry(first);
+    match ways_at(
+        mask,
+        address,
+        first,
+        (address + (timing / 16) as u16) % 4096,
+    ) {
+        Ways::Stop => settle(found, address, ENDLESS, timing),
+        Ways::Out => settle(found, address, 0, timing),
+        Ways::One(a) => {
+            let one = longest(mask, found, a, left - 1);
+            settle(found, address, one, timing)
+        }
+        Ways::Two(a, b) => {
+            let one = longest(mask, found, a, left - 1);
+            let other = found[b as usize];
+            if other != 0 {
+                return settle(found, address, larger(one, other), timing);
+            }
+            let two = longest(mask, found, b, left - 1);
+            settle(found, address, larger(one, two), timing)
+        }
+    }
+}

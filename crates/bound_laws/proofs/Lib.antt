@@ -1,0 +1,5 @@
+pub mod Delay
+pub mod Ends
+pub mod Sides
+pub mod Spent
+pub mod Waiting
