@@ -1,15 +1,16 @@
 /*
- * ht1130_tools.h - the proved mask checker with the way to a forbidden place,
- * scripts, instructions and the assembler of the HT1130, for C: what a bench
- * links beside the engine of ht1130.h.
+ * ht1130_tools.h - the proved mask checker with the way to a forbidden place and
+ * the bound on how long an edge is held, scripts, instructions and the assembler
+ * of the HT1130, for C: what a bench links beside the engine of ht1130.h.
  *
  * Link with libht1130_tools.a, which `rt staticlib ht1130_tools` writes (x86-64),
  * beside libht1130.a or alone: neither archive needs the other. What ht1130.h
  * says of pointers and refusals holds here too.
  *
  * Stack. ht1130_check and ht1130_way take about 62 KB each, ht1130_assemble about
- * 140 KB, the other calls under 4 KB. Of the C library only memcpy and memset are
- * used.
+ * 140 KB, ht1130_bound 74 KB and 112 bytes for each pair of the longest chain that
+ * it follows, at most 533 KB; the other calls under 4 KB. Of the C library only
+ * memcpy and memset are used.
  *
  * Refusals. The lowest number that holds is answered; of a script 1, then 6 or 7
  * of the first bad record, then 8, 3, 4, 9; of a text 2, 12, 14, then 13.
@@ -18,7 +19,7 @@
  *   3 nibble other than an option over 15, INT over 1; instruction field outside
  *     its pattern
  *   4 option outside its list, wake nibbles too
- *   5 address over 4,095
+ *   5 address over 4,095, level over 2
  *   6 script over HT1130_SCRIPT bytes, record cut off, payload length wrong
  *   7 unknown kind
  *   8 first record not power-on, or no record
@@ -29,6 +30,7 @@
  *  13 ORG outside 0 to 4,095, byte past address 4,095 or written twice; after
  *     these, operand outside its field, or conditional branch that does not fit
  *  14 label missing, not above its ORG, or defined again
+ *  15 the mask fails: it has no bounds
  */
 #ifndef HT1130_TOOLS_H
 #define HT1130_TOOLS_H
@@ -68,6 +70,25 @@ uint64_t ht1130_check(const uint8_t *mask, size_t mask_len, uint8_t *marks, size
  * each of the 12,288 pairs, are never too few.
  */
 uint64_t ht1130_way(const uint8_t *mask, size_t mask_len, uint8_t *list, size_t list_len);
+
+/*
+ * How long an edge can be held, for a pair of a mask that passes. In a subroutine
+ * or an interrupt (level 1, 2) an edge is held; in level 0 it can be taken.
+ *   HT1130_NOT_REACHED  the pair is not marked, or it is in level 0
+ *   HT1130_NO_BOUND     a loop or a HALT can be reached in that level
+ *   HT1130_BOUNDED      no chain from the pair to a return has more cycles than
+ *                       HT1130_WAIT, the RET or RETI included, and one has as many
+ * A machine at a bounded pair, not halted or faulted, has come to level 0 once its
+ * steps have spent that many cycles, whatever happens to it but RES and power-on.
+ * An edge that is held then, with interrupts enabled, is taken by the next step.
+ * Example: EI, JMP 001H at 0, RETI at 4, and INC R4, RETI at 8 are bounded by 1 at
+ * address 4, by 2 at 8 and by 1 at 9, all in level 2; no other pair is reached
+ * above level 0. Refuses with 1, 5 or 15.
+ */
+uint64_t ht1130_bound(const uint8_t *mask, size_t mask_len, uint16_t address, uint8_t level);
+enum { HT1130_NOT_REACHED, HT1130_NO_BOUND, HT1130_BOUNDED };
+#define HT1130_BOUND(answer) ((uint8_t)((answer) >> 8))        /* one of these three, where nothing is refused */
+#define HT1130_WAIT(answer) ((uint32_t)((answer) >> 32))       /* the cycles where it is HT1130_BOUNDED, else 0 */
 
 /*
  * Checks a whole script for a report buffer of `room` bytes; runs nothing. The

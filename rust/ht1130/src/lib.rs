@@ -283,7 +283,7 @@ pub enum Refusal {
     Value = 3,
     /// A mask option outside its list.
     Option = 4,
-    /// A machine field or an address out of range, or halted with a fault.
+    /// A machine field, an address or a level out of range, or halted with a fault.
     Machine = 5,
     /// A script too long, a record cut off or of a wrong length.
     RecordLength = 6,
@@ -304,10 +304,12 @@ pub enum Refusal {
     Range = 13,
     /// A label missing, not above its ORG, or defined again.
     Label = 14,
+    /// The mask fails, so that it has no bounds.
+    MaskFails = 15,
 }
 
 impl Refusal {
-    /// The number, 1 to 14.
+    /// The number, 1 to 15.
     pub const fn number(self) -> u8 {
         self as u8
     }
@@ -329,7 +331,8 @@ impl Refusal {
             12 => Refusal::Syntax,
             13 => Refusal::Range,
             14 => Refusal::Label,
-            _ => unreachable!("the library has refusals 1 to 14"),
+            15 => Refusal::MaskFails,
+            _ => unreachable!("the library has refusals 1 to 15"),
         })
     }
 }
@@ -341,7 +344,7 @@ impl fmt::Display for Refusal {
             Refusal::BufferLength => "image, marks, report or mask buffer has the wrong length",
             Refusal::Value => "value out of range",
             Refusal::Option => "mask option outside its list",
-            Refusal::Machine => "machine field or address out of range",
+            Refusal::Machine => "machine field, address or level out of range",
             Refusal::RecordLength => "script too long, record cut off or payload length wrong",
             Refusal::Kind => "unknown kind of event",
             Refusal::NoPowerOn => "script does not start with power-on",
@@ -351,6 +354,7 @@ impl fmt::Display for Refusal {
             Refusal::Syntax => "text too long, or line that cannot be read",
             Refusal::Range => "value, address or branch that does not fit",
             Refusal::Label => "label missing, not above its ORG or defined again",
+            Refusal::MaskFails => "mask fails, so it has no bounds",
         })
     }
 }
@@ -458,6 +462,17 @@ pub struct Pair {
     pub level: u8,
 }
 
+/// How long an edge can be held at a pair, as [`bound`] answers.
+#[derive(Clone, Copy, PartialEq, Eq, Hash, Debug)]
+pub enum Bound {
+    /// The pair is not marked, or it is in level 0.
+    NotReached,
+    /// A loop or a HALT can be reached in that level.
+    NoBound,
+    /// The most cycles from the pair to a return, the return included.
+    Cycles(u32),
+}
+
 /// An instruction, by the numbers of [`form`].
 #[derive(Clone, Copy, PartialEq, Eq, Hash, Debug)]
 pub struct Instruction {
@@ -558,6 +573,7 @@ pub mod ffi {
             marks_len: usize,
         ) -> u64;
         pub fn ht1130_way(mask: *const u8, mask_len: usize, list: *mut u8, list_len: usize) -> u64;
+        pub fn ht1130_bound(mask: *const u8, mask_len: usize, address: u16, level: u8) -> u64;
         pub fn ht1130_check_script(
             mask: *const u8,
             mask_len: usize,
@@ -730,6 +746,46 @@ pub fn pairs(list: &[u8]) -> impl Iterator<Item = Pair> + '_ {
     list.chunks_exact(3).map(|bytes| Pair {
         address: u16::from_le_bytes([bytes[0], bytes[1]]),
         level: bytes[2],
+    })
+}
+
+/// How long an edge can be held, for a pair of a mask that passes. In a subroutine
+/// or an interrupt (level 1, 2) an edge is held; in level 0 it can be taken.
+///
+/// [`Bound::Cycles`] is the largest total over all chains from the pair to a
+/// return. A machine at such a pair, not halted or faulted, has come to level 0
+/// once its steps have spent that many cycles, whatever happens to it but RES and
+/// power-on. An edge that is held then, with interrupts enabled, is taken by the
+/// next step.
+///
+/// The call takes up to 533 KB of stack, more than a thread started with a small
+/// one may have.
+///
+/// Refused: `MaskLength`, then `Machine` for an address over 4,095 or a level over
+/// 2, then `MaskFails`.
+///
+/// ```
+/// use ht1130::{Bound, MASK};
+///
+/// let mut mask = [0x3E; MASK]; // NOP throughout
+/// mask[..3].copy_from_slice(&[0x2C, 0xE0, 0x01]); // EI; 001h: JMP 001h
+/// mask[4] = 0x2F; // RETI
+/// mask[8..10].copy_from_slice(&[0x18, 0x2F]); // INC R4; RETI
+///
+/// assert_eq!(ht1130::bound(&mask, 8, 2)?, Bound::Cycles(2));
+/// assert_eq!(ht1130::bound(&mask, 8, 1)?, Bound::NotReached);
+/// mask[8..10].copy_from_slice(&[0xE0, 0x08]); // 008h: JMP 008h
+/// assert_eq!(ht1130::bound(&mask, 8, 2)?, Bound::NoBound);
+/// # Ok::<(), ht1130::Refusal>(())
+/// ```
+pub fn bound(mask: &[u8], address: u16, level: u8) -> Result<Bound, Refusal> {
+    // SAFETY: the slice is valid for the call.
+    let answer = unsafe { ffi::ht1130_bound(mask.as_ptr(), mask.len(), address, level) };
+    accepted(part(answer, 0))?;
+    Ok(match part(answer, 1) {
+        0 => Bound::NotReached,
+        1 => Bound::NoBound,
+        _ => Bound::Cycles((answer >> 32) as u32),
     })
 }
 
