@@ -17,7 +17,7 @@
 
 enum { RED_ZONE = 128, TRAP_FLAG = 0x100 };
 
-static _Alignas(16) uint8_t stack[1 << 19], other_stack[1 << 16];
+static _Alignas(16) uint8_t stack[1 << 20], other_stack[1 << 16];
 static uint8_t *const top = stack + sizeof stack;
 static ucontext_t host, call;
 static volatile int file;
@@ -45,6 +45,8 @@ static void pins(void) { answer = ht1130_apply(&machine, HT1130_PINS, 0, 15, 15,
 static void report(void) { answer = ht1130_report(&machine, reports, HT1130_REPORT); }
 static void check(void) { answer = ht1130_check(mask, sizeof mask, marks, sizeof marks); }
 static void way(void) { answer = ht1130_way(mask, sizeof mask, list, sizeof list); }
+static void bound(void) { answer = ht1130_bound(mask, sizeof mask, 3, 1); }
+static void deepest_bound(void) { answer = ht1130_bound(mask, sizeof mask, 8, 2); }
 static void check_script(void) { answer = ht1130_check_script(mask, sizeof mask, script, sizeof script, sizeof reports); }
 static void run_script(void) { answer = ht1130_run_script(mask, sizeof mask, script, sizeof script, reports, sizeof reports); }
 static void read_at(void) { answer = ht1130_read(mask, sizeof mask, 2); }
@@ -90,9 +92,14 @@ static void stepped(int signal, siginfo_t *info, void *context)
 }
 
 static void (*called)(void);
+static int steps_wanted = 1;    /* 0 for a call of a million instructions, which would take half a minute: only its end is looked at */
 
 static void step_by_step(void)
 {
+    if (!steps_wanted) {
+        called();
+        return;
+    }
     __asm__ volatile("pushfq; orq %0, (%%rsp); popfq" : : "i"(TRAP_FLAG) : "memory", "cc");
     called();
     __asm__ volatile("pushfq; andq %0, (%%rsp); popfq" : : "i"(~TRAP_FLAG) : "memory", "cc");
@@ -120,7 +127,7 @@ static void on_a_stack(const char *folder, const char *name, void (*function)(vo
     swapcontext(&host, &call);
     for (unused = 0; unused < sizeof stack && stack[unused] == 0; unused++)
         ;
-    if (answer != wanted || steps == 0 || unused == 0 || write(file, stack + unused, sizeof stack - unused) < 0)
+    if (answer != wanted || (steps != 0) != steps_wanted || unused == 0 || write(file, stack + unused, sizeof stack - unused) < 0)
         stop(path);
     close(file);
     printf("call_stacks: %s: %lu instructions, %zu bytes of stack\n", name, steps, sizeof stack - unused);
@@ -152,6 +159,17 @@ int main(int count, char **words)
     mask[1] = 0x03;     /* JMP 003H, where no instruction is: the mask fails, and there is a way of two pairs */
     mask[3] = 0x35;
     on_a_stack(words[1], "way", way, 0x0000000200000000);
+    mask[0] = 0xf0;     /* CALL 003H, JMP 000H; from 3 on RR A, RET: two cycles */
+    mask[1] = 0x03;
+    mask[2] = 0xe0;
+    mask[3] = 0x00;
+    mask[4] = 0x2e;
+    on_a_stack(words[1], "bound", bound, 2ull << 32 | HT1130_BOUNDED << 8);
+    memset(mask, 0x3e, sizeof mask);
+    mask[0] = 0x2c;     /* EI, then NOPs round and round: the deepest walk, a frame for each address and one that meets the loop */
+    steps_wanted = 0;
+    on_a_stack(words[1], "deepest_bound", deepest_bound, HT1130_NO_BOUND << 8);
+    steps_wanted = 1;
     on_a_stack(words[1], "control", control, 0);
     return 0;
 }
