@@ -1,6 +1,7 @@
 /*
- * A bench in C: it assembles a text, prints the bytes that are not NOP, and checks
- * the mask; or it prints the refusal and the line.
+ * A bench in C: it assembles a text, prints the bytes that are not NOP, checks the
+ * mask, and says how long an edge can be held in either handler; or it prints the
+ * refusal and the line.
  *
  *   assemble [TEXT]     TEXT is a file; without it, the text below
  */
@@ -60,15 +61,35 @@ static void print_code(const uint8_t mask[HT1130_MASK])
     }
 }
 
+/* The most cycles from the start of a handler until the next edge can be taken. */
+static void print_bound(const uint8_t mask[HT1130_MASK], uint16_t vector)
+{
+    uint64_t answer = ht1130_bound(mask, HT1130_MASK, vector, 2);
+    printf("bound at %03X level 2: ", (unsigned)vector);
+    switch (HT1130_BOUND(answer)) {
+    case HT1130_NOT_REACHED:
+        printf("not reached\n");
+        break;
+    case HT1130_NO_BOUND:
+        printf("no bound\n");
+        break;
+    default:
+        printf("%u\n", (unsigned)HT1130_WAIT(answer));
+    }
+}
+
 static void print_verdict(const uint8_t mask[HT1130_MASK])
 {
     static uint8_t marks[HT1130_MASK];
     uint64_t answer = ht1130_check(mask, HT1130_MASK, marks, sizeof marks);
-    if (HT1130_FAULT(answer) == 0)
-        printf("mask passed\n");
-    else
+    if (HT1130_FAULT(answer) != 0) {
         printf("mask may fault with %u at %03X in level %u\n", HT1130_FAULT(answer),
                (unsigned)HT1130_ADDRESS(answer), HT1130_LEVEL(answer));
+        return;
+    }
+    printf("mask passed\n");
+    print_bound(mask, 4); /* the timer's handler */
+    print_bound(mask, 8); /* the edge's */
 }
 
 int main(int argc, char **argv)

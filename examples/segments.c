@@ -149,7 +149,7 @@ static void expect(uint8_t refusal, uint8_t expected)
     printf(" %u", refusal);
 }
 
-/* What the numbers 1 to 11 look like from here; nothing is written by any of these. */
+/* What the numbers 1 to 11 and 15 look like from here; nothing is written by any of these. */
 static void print_refusals(const ht1130_machine *machine, const uint8_t mask[HT1130_MASK])
 {
     static const uint8_t image[HT1130_IMAGE];
@@ -174,6 +174,7 @@ static void print_refusals(const ht1130_machine *machine, const uint8_t mask[HT1
     expect(HT1130_REFUSAL(ht1130_run_script(mask, HT1130_MASK, power, sizeof power, reports, sizeof reports - 1)), 9);
     expect(HT1130_REFUSAL(ht1130_way(passing, HT1130_MASK, reports, sizeof reports)), 10);
     expect(HT1130_REFUSAL(ht1130_way(failing, HT1130_MASK, reports, 2)), 11);
+    expect(HT1130_REFUSAL(ht1130_bound(failing, HT1130_MASK, 8, 2)), 15);
     putchar('\n');
 }
 

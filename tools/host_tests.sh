@@ -73,6 +73,9 @@ diff <(echo 'refused 14 at line 2') <("$work/assemble" "$work/refused.asm")
 printf 'JMP IDLE\n ORG 800H\nIDLE: RET' > "$work/forbidden.asm"         # a mask that fails
 "$work/assemble" "$work/forbidden.asm" > "$work/assemble_forbidden.out"
 diff examples/assemble_forbidden.out "$work/assemble_forbidden.out"
+waits() { printf '%b' "$1" > "$work/waits.asm" && "$work/assemble" "$work/waits.asm" | sed -n 's/^bound at //p'; }
+diff <(printf '%s level 2: not reached\n' 004 008) <(waits 'IDLE: JMP IDLE\n')
+diff <(printf '%s level 2: no bound\n' 004 008) <(waits 'EI\nIDLE: JMP IDLE\n ORG 4\n HALT\n ORG 8\nHERE: JMP HERE\n')
 
 say "rust/ht1130"
 cargo_in rust/ht1130 test --offline --release --quiet

@@ -1,9 +1,10 @@
-//! A host in Rust: it checks a mask, lists the way to a fault if there is one,
-//! runs a script, and prints a line for each report.
+//! A host in Rust: it checks a mask, lists the way to a fault if there is one or
+//! else says how long an edge can be held in either handler, runs a script, and
+//! prints a line for each report.
 //!
 //!     check_and_run MASK SCRIPT
 
-use ht1130::{Pair, Verdict, MASK, REPORT, WAY};
+use ht1130::{Bound, Pair, Verdict, MASK, REPORT, WAY};
 use std::error::Error;
 use std::process::ExitCode;
 
@@ -29,7 +30,11 @@ fn main() -> ExitCode {
 fn check_and_run(mask: &[u8], script: &[u8]) -> Result<(), Box<dyn Error>> {
     let mut marks = [0; MASK];
     match ht1130::check(mask, &mut marks)? {
-        Verdict::Passed => println!("mask passed"),
+        Verdict::Passed => {
+            println!("mask passed");
+            print_bound(mask, 4)?; // the timer's handler
+            print_bound(mask, 8)?; // the edge's
+        }
         Verdict::Failed {
             fault,
             address,
@@ -46,6 +51,17 @@ fn check_and_run(mask: &[u8], script: &[u8]) -> Result<(), Box<dyn Error>> {
 
     for report in ht1130::reports(mask, script)? {
         print_report(&report);
+    }
+    Ok(())
+}
+
+/// The most cycles from the start of a handler until the next edge can be taken.
+fn print_bound(mask: &[u8], vector: u16) -> Result<(), ht1130::Refusal> {
+    print!("bound at {vector:03X} level 2: ");
+    match ht1130::bound(mask, vector, 2)? {
+        Bound::NotReached => println!("not reached"),
+        Bound::NoBound => println!("no bound"),
+        Bound::Cycles(cycles) => println!("{cycles}"),
     }
     Ok(())
 }
