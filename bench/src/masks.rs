@@ -207,6 +207,51 @@ pub fn long_way() -> Mask {
     with(&[(0xFFD, &[0xF0, 0x00])])
 }
 
+/// Waits with interrupts on: RETI at 4, and from 8 on NOPs up to a RETI at the
+/// last address.
+pub fn straight() -> Mask {
+    with(&[(0, &[0x2C, 0xE0, 0x01]), (4, &[0x2F]), (0xFFF, &[0x2F])])
+}
+
+/// CALL 003h and JMP 000h, whose second byte is RR A; NOPs up to a RET at the
+/// last address. The check meets no address twice, and the bound walks as many.
+pub fn long_subroutine() -> Mask {
+    with(&[(0, &[0xF0, 0x03, 0xE0, 0x00]), (0xFFF, &[0x2E])])
+}
+
+/// As `straight`, but sixty branches may each skip a NOP, and then comes a RETI:
+/// too many chains to try each.
+pub fn diamonds() -> Mask {
+    let mut mask = straight();
+    for at in (8..188).step_by(3) {
+        mask[at..at + 2].copy_from_slice(&[0xC0, at as u8 + 3]); // JC
+    }
+    mask[188] = 0x2F;
+    mask
+}
+
+/// As `straight`, but with branches all the way down, each to the next but one.
+pub fn ladder() -> Mask {
+    let mut mask = straight();
+    for at in (8..0xFFA).step_by(2) {
+        let target = at + 4;
+        // No branch goes to the other half but by its moved PC.
+        if at != 0x7FC {
+            mask[at..at + 2].copy_from_slice(&[0xC0 | (target >> 8) as u8 & 7, target as u8]);
+        }
+    }
+    mask
+}
+
+/// EI, then a branch at nearly every address, in main and in a handler: forward,
+/// back, and round.
+pub fn tangle() -> Mask {
+    let mut mask = worst();
+    mask[1..3].fill(NOP);
+    mask[0xFFE..].copy_from_slice(&[0xA0, 0xA1]);
+    mask
+}
+
 /// Of two ways to the same place now the branch is the shorter, now to go on, and
 /// the longer one is found last: none but a search by distance finds all four.
 pub fn detours() -> Mask {
@@ -272,8 +317,18 @@ mod tests {
 
     #[test]
     fn masks_for_speed_pass() {
-        for mask in [arithmetic(), copy(), timer(), tables()] {
-            assert_eq!(check(&mask, &mut [0; MASK]), Ok(None));
+        let bounded = [
+            straight(),
+            long_subroutine(),
+            diamonds(),
+            ladder(),
+            tangle(),
+        ];
+        for mask in [arithmetic(), copy(), timer(), tables()]
+            .iter()
+            .chain(&bounded)
+        {
+            assert_eq!(check(mask, &mut [0; MASK]), Ok(None));
         }
     }
 }

@@ -6,6 +6,7 @@ use crate::plain::{self, Mask, IMAGE, MASK, REPORT};
 use crate::prng::Prng;
 use crate::script::record;
 use crate::{masks, plain_asm, texts};
+use ht1130::{Bound, Bound::Cycles, Refusal};
 use std::hint::black_box;
 use std::time::{Duration, Instant};
 
@@ -59,6 +60,27 @@ pub fn run() {
     }
     way_row("long way", &masks::long_way());
     println!("aim: the way at most 2.5 times the check");
+    heading("check ns", "bound ns");
+    bound_row("timer interrupts", &masks::timer(), (4, 2), Ok(Cycles(6)));
+    bound_row(
+        "straight code",
+        &masks::straight(),
+        (8, 2),
+        Ok(Cycles(4088)),
+    );
+    bound_row(
+        "long subroutine",
+        &masks::long_subroutine(),
+        (3, 1),
+        Ok(Cycles(4093)),
+    );
+    bound_row("diamonds", &masks::diamonds(), (8, 2), Ok(Cycles(181)));
+    bound_row("ladder", &masks::ladder(), (8, 2), Ok(Cycles(4088)));
+    bound_row("tangle", &masks::tangle(), (8, 2), Ok(Bound::NoBound));
+    for (name, mask) in &checked {
+        bound_row(name, mask, (8, 2), Err(Refusal::MaskFails));
+    }
+    println!("aim: the bound of a pair at most twice the check");
     heading("plain ns", "library ns");
     let name = format!(
         "assemble, ordinary code, a line of {}",
@@ -236,6 +258,39 @@ fn way_row(name: &str, mask: &Mask) {
         "{name}: the counts differ"
     );
     assert_eq!(answer as u8, 0, "{name}: the mask has a way");
+}
+
+/// Both calls are the library's: the bound checks the mask, then walks from its pair.
+fn bound_row(
+    name: &str,
+    mask: &Mask,
+    (address, level): (u16, u8),
+    expected: Result<Bound, Refusal>,
+) {
+    const CALLS: u32 = 10;
+    let mut marks = [0; MASK];
+    let mut answer = Ok(Bound::NotReached);
+    let pairs = pairs(mask);
+    row(
+        &format!("bound, {name}, a pair of {pairs}"),
+        pairs * CALLS as u64,
+        || {
+            (0..CALLS)
+                .map(|_| {
+                    marks.fill(0);
+                    timed(|| {
+                        library::check(black_box(mask), black_box(&mut marks));
+                    })
+                })
+                .sum()
+        },
+        || {
+            (0..CALLS)
+                .map(|_| timed(|| answer = ht1130::bound(black_box(mask), address, level)))
+                .sum()
+        },
+    );
+    assert_eq!(answer, expected, "{name}");
 }
 
 fn script_row() {
