@@ -660,13 +660,88 @@ def verdict_line(answer):
     return answer if answer == 'passed' else f'fault {answer[0]} at {answer[1]:03X} level {answer[2]}'
 
 
+# ---------------------------------------------------------------------------
+# How long an edge is held (document 02, wish 5)
+# ---------------------------------------------------------------------------
+
+NOT_REACHED, NO_BOUND = 'not reached', 'no bound'
+
+
+def onward(mask, address, level):
+    """The successors above level 0 that are followed: 'The vector successors of EI are not'."""
+    after = successors(mask, address, level)
+    return set(after[:1] if fetch(mask, address).code.mnemonic == 'EI' else after)
+
+
+def bounds(mask, marks):
+    """Each marked pair above level 0 of a mask that passes with its answer: 'the largest cycle total
+    over all chains from it to a return, the return included, or no bound exactly when a loop or a HALT
+    can be reached'. A pair is settled once all that follow it are, returns first; a HALT never is, and
+    so neither is what reaches one, or a loop."""
+    follow = {(address, level): onward(mask, address, level)
+              for address, mark in enumerate(marks) for level in (1, 2) if mark >> level & 1}
+    before = {pair: [] for pair in follow}
+    for pair, after in follow.items():
+        for one in after:
+            before[one].append(pair)
+    code = {pair: fetch(mask, pair[0]).code for pair in follow}
+    waits = {pair: len(after) + (code[pair].mnemonic == 'HALT') for pair, after in follow.items()}
+    most, answers = dict.fromkeys(follow, 0), dict.fromkeys(follow, NO_BOUND)
+    ready = [pair for pair, count in waits.items() if count == 0]
+    while ready:
+        pair = ready.pop()
+        answers[pair] = most[pair] + code[pair].cycles
+        for one in before[pair]:
+            most[one] = max(most[one], answers[pair])
+            waits[one] -= 1
+            if waits[one] == 0:
+                ready.append(one)
+    return answers
+
+
+def bound(mask, address, level):
+    """'15 if the mask fails, after 1 and 5 (a pair out of range)'; 'not reached if it is unmarked or in level 0'."""
+    if len(mask) != MASK:
+        return Refused(1)
+    if not (0 <= address < MASK and 0 <= level <= 2):
+        return Refused(5)
+    marks, answer = checker(mask)
+    if answer != 'passed':
+        return Refused(15)
+    return bounds(mask, marks).get((address, level), NOT_REACHED)
+
+
+def call_targets(mask, marks):
+    """The targets of the CALLs that are marked in level 0."""
+    codes = [fetch(mask, address) for address, mark in enumerate(marks) if mark & 1]
+    return sorted({i.fields[0] for i in codes if i.code.mnemonic == 'CALL addr'})
+
+
+def longest_wait(answers):
+    """The largest answer with the first pair that has it, as `checkmask` prints it."""
+    if not answers:
+        return '0'
+    largest = NO_BOUND if NO_BOUND in answers.values() else max(answers.values())
+    address, level = min(pair for pair, answer in answers.items() if answer == largest)
+    return f'{largest} at {address:03X} level {level}'
+
+
+def bound_lines(mask, marks):
+    """What `checkmask` prints after `passed`."""
+    answers = bounds(mask, marks)
+    asked = [(4, 2), (8, 2)] + [(target, 1) for target in call_targets(mask, marks)]
+    return [f'bound at {address:03X} level {level}: {answers.get((address, level), NOT_REACHED)}'
+            for address, level in asked] + [f'longest wait: {longest_wait(answers)}']
+
+
 def checkmask(mask):
     """The lines of `checkmask`; the way is one of several that may be as short."""
     if len(mask) != MASK:
         return ['refused 1']
-    answer = checker(mask)[1]
-    pairs = [] if answer == 'passed' else way(mask, 3 * 3 * MASK)
-    return [verdict_line(answer)] + [way_line(mask, *pair) for pair in pairs]
+    marks, answer = checker(mask)
+    if answer == 'passed':
+        return [answer] + bound_lines(mask, marks)
+    return [verdict_line(answer)] + [way_line(mask, *pair) for pair in way(mask, 3 * 3 * MASK)]
 
 
 # ---------------------------------------------------------------------------

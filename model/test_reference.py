@@ -469,6 +469,137 @@ def test_ways():
     same(ref.checkmask(calls)[1:], ['000 main       F0 10 CALL 010H', '010 subroutine 31    INC A', '011 subroutine F1 23 CALL 123H'], 'its lines')
 
 
+# --- How long an edge is held -----------------------------------------------
+
+def routines(text, at=0x10):
+    """EI and CALL of an address in main, then the text there; both vectors return at once."""
+    return mask((0, 'E0 80'), (4, '2F'), (8, '2E'), (0x80, f'2C F{at:03X} E0 81'), (at, text))
+
+
+def test_bounds():
+    """Document 02, wish 5, by hand: cycles are 1, 2 for two bytes and for READ."""
+    for text, want, what in (
+            ('2E', 1, 'a return at once'), ('2F', 1, 'RETI too'), ('3E 4C 40 01 2E', 6, 'NOP, READ, ADD A,1, RET'),
+            ('C0 15 4C 4C 2E 3E 3E 3E 2E', 7, 'two READs are more than three NOPs'), ('C0 15 3E 4C 2E 3E 3E 3E 2E', 6, 'a NOP and one are not'),
+            ('C0 14 3E 2E 2C 2D 2F', 5, 'EI as any other'), ('E0 10', 'no bound', 'a jump to itself'), ('C0 10 2E', 'no bound', 'a branch to itself'),
+            ('C0 14 3E 2E 3E E0 14', 'no bound', 'a loop behind a branch'), ('3E C0 10 2E', 'no bound', 'a loop through its first pair'),
+            ('37 3E 2E', 'no bound', 'HALT'), ('C0 13 2E 37 3E 2E', 'no bound', 'HALT behind a branch'), ('C0 13 2E 35', 'failed', 'fault 1')):
+        program = routines(text)
+        same(ref.bound(program, 0x10, 1), Refused(15) if want == 'failed' else want, what)
+    # 'not reached if it is unmarked or in level 0', and the refusals in their order.
+    program = routines('3E 2E')
+    for address, level, want in ((0x10, 0, 'not reached'), (0x80, 0, 'not reached'), (0x10, 2, 'not reached'), (0x80, 1, 'not reached'),
+                                 (0x12, 1, 'not reached'), (0xFFF, 2, 'not reached'), (0x10, 1, 2), (0x11, 1, 1), (4, 2, 1), (8, 2, 1),
+                                 (4096, 1, Refused(5)), (0x10, 3, Refused(5)), (65535, 255, Refused(5))):
+        same(ref.bound(program, address, level), want, f'{address:03X} in level {level}')
+    for address, level in ((0x10, 1), (0, 0), (0xFFF, 2)):
+        same(ref.bound(mask(fill=0x35), address, level), Refused(15), '15')
+        same(ref.bound(program[1:], address, level), Refused(1), '1')
+    same(ref.bound(mask(fill=0x35), 4096, 0), Refused(5), '5 before 15')
+    same(ref.bound(mask(fill=0x35), 0, 3), Refused(5), '5 before 15, by the level')
+    same(ref.bound(bytes(4095), 4096, 3), Refused(1), '1 before 5')
+    # EI goes on to the next address, though that is a vector; bit 11; the byte after FFFh.
+    same(ref.bound(mask((0, 'E0 80'), (4, '3E 3E 3E 2C 4C 2F'), (0x80, '2C E0 81')), 4, 2), 7, 'EI at 007h')
+    same(ref.bound(mask((0, 'E0 80'), (4, 'E7 FE'), (8, '2F'), (0x80, '2C E0 81'), (0x7FE, 'C0 10 2F'), (0x810, '4C 4C 2F')), 4, 2), 9, 'JC at 7FEh')
+    over = mask((0, 'E0 2E'), (4, '2F'), (8, 'EF FF'), (0x2E, '2C E0 2F'), (0xFFF, 'C0'), (0x0E0, '4C 2F'))
+    same(ref.bound(over, 8, 2), 2 + 2 + 3, 'JC at FFFh, its second byte at 0, RET at 1')
+    same(ref.checkmask(over), ['passed', 'bound at 004 level 2: 1', 'bound at 008 level 2: 7', 'longest wait: 7 at 008 level 2'], 'its lines')
+    same(ref.checkmask(mask()), ['passed', 'bound at 004 level 2: not reached', 'bound at 008 level 2: not reached', 'longest wait: 0'], 'main alone')
+    same(ref.checkmask(routines('E0 10')), ['passed', 'bound at 004 level 2: 1', 'bound at 008 level 2: 1', 'bound at 010 level 1: no bound',
+                                            'longest wait: no bound at 010 level 1'], 'no bound is the longest')
+    # One address in both levels, called twice: one line for it, and the lower level is the first pair.
+    twice = mask((0, 'E0 80'), (4, 'E0 10'), (8, '2E'), (0x10, '4C 2E'), (0x80, '2C F0 10 F0 10 F0 08 E0 81'))
+    same(ref.checkmask(twice), ['passed', 'bound at 004 level 2: 5', 'bound at 008 level 2: 1', 'bound at 008 level 1: 1', 'bound at 010 level 1: 3',
+                                'longest wait: 5 at 004 level 2'], 'shared code')
+    same(ref.checkmask(twice.replace(bytes.fromhex('E010'), bytes.fromhex('3E2E')))[-1], 'longest wait: 3 at 010 level 1', 'the first pair')
+    # 60 branches one after the other, 2^60 chains.
+    deep = ' '.join(f'C2 {at + 3:02X} 4C' for at in range(0x00, 0xB4, 3)) + ' 2F'
+    same(ref.bound(mask((0, 'E1 00'), (4, 'E2 00'), (8, '2F'), (0x100, '2C E1 01'), (0x200, deep)), 4, 2), 2 + 60 * 4 + 1, '60 branches')
+
+
+def chain_totals(program, at, chain=()):
+    """The cycles of each chain from an address above main to a return; None where it meets a HALT or an address again."""
+    first, second = program[at], program[(at + 1) % 4096]
+    length, cycles = isa.LENGTH_CYCLES[first]
+    moved, target = (at + length) % 4096, first % 16 * 256 + second
+    if at in chain or first == 0x37:
+        yield None
+    elif first in (0x2E, 0x2F):
+        yield cycles
+    else:
+        jumps = [target] if first >= 0xE0 else [moved // 0x800 * 0x800 + target % 0x800, moved] if first >= 0x80 else [moved]
+        for after in jumps:
+            for total in chain_totals(program, after, chain + (at,)):
+                yield None if total is None else cycles + total
+
+
+def small_routines(rng):
+    """Few codes from 4 on, called and as interrupts; main calls three of them."""
+    codes = ['3E', '3E', '4C', '2C', '40 01', '2E', '2F', 'E0', 'C0', 'B0', 'C0'] + ['37 3E'] * (rng.random() < 0.3)
+    text = ''
+    while len(text.split()) < 14:
+        code = rng.choice(codes)
+        ahead = 4 + len(text.split()) + 2
+        aim = rng.randrange(4, 18) if rng.random() < 0.2 else rng.randrange(ahead, max(ahead + 1, 18))
+        text += f' {code}' + (f' {aim:02X}' if code in ('E0', 'C0', 'B0') else '')
+    calls = ' '.join(f'F0 {rng.randrange(4, 18):02X}' for _ in range(3))
+    return mask((0, 'E0 80'), (4, text), (0x80, f'2C {calls} E0 81'), fill=0x2E)
+
+
+def test_bounds_by_chains():
+    """All chains written out, on masks of few codes."""
+    rng, met = random.Random(1133), {'no bound': 0, 'bounded': 0, 'not reached': 0, 'failed': 0}
+    for _ in range(400):
+        program = small_routines(rng)
+        marks, verdict = ref.checker(program)
+        if verdict != 'passed':
+            met['failed'] += 1
+            continue
+        answers = ref.bounds(program, marks)
+        for address in range(0x90):
+            for level in range(3):
+                got = answers.get((address, level), 'not reached')
+                if not (level and marks[address] >> level & 1):
+                    want = 'not reached'
+                else:
+                    totals = list(chain_totals(program, address))
+                    want = 'no bound' if None in totals else max(totals)
+                assert got == want, (program[:0x90].hex(), address, level, got, want)
+                met[want if isinstance(want, str) else 'bounded'] += 1
+    same(min(met['no bound'], met['bounded']) > 1000, True, f'answers met: {met}')
+
+
+def test_held():
+    """'once its steps have spent that many cycles, it has come to level 0', whatever the machine holds and happens
+    between its steps; and some run spends just that many."""
+    rng, exact, runs = random.Random(1134), 0, 0
+    for _ in range(150):
+        program = small_routines(rng)
+        marks, verdict = ref.checker(program)
+        if verdict != 'passed':
+            continue
+        for (address, level), most in ref.bounds(program, marks).items():
+            if most == 'no bound':
+                continue
+            m = machine(replace(OPTIONS, rate=rng.choice(ref.RATES)), pc=address, level=level, acc=rng.randrange(16), cf=rng.randrange(2),
+                        tf=rng.randrange(2), enable=rng.randrange(2), held_edge=rng.randrange(2), running=rng.randrange(2), timer=rng.randrange(256),
+                        stack_address=rng.randrange(4096), stack_carry=rng.randrange(2), cycles=2 ** 32 - rng.randrange(1, 9))
+            spent = 0
+            while m.level:
+                if rng.random() < 0.2:
+                    m = rng.choice([ref.event_int(m, rng.randrange(2)), ref.event_tmclk(m, rng.randrange(300)),
+                                    ref.event_pins(m, *(rng.randrange(16) for _ in range(3)))])
+                after = ref.step(program, m)
+                spent += (after.cycles - m.cycles) % 2 ** 32
+                m = after
+                assert spent <= most and not m.fault and not m.halted, (program[:0x90].hex(), address, level)
+            exact += spent == most
+            runs += 1
+    same(exact > runs // 2 > 200, True, f'{exact} of {runs} runs spend their bound')
+
+
+# --- Lists of events --------------------------------------------------------
+
 def test_event_lists():
     # Property 3: fault 0, and the pair of PC and level is one that the checker marked.
     rng = random.Random(1130)
