@@ -2,8 +2,9 @@
 
 First the stored cases of tests/panel and tests/checkmask and the demonstration, then chance: masks
 and scripts, good and damaged, through target/bin/panel; masks through target/bin/checker_main and
-target/bin/checkmask; then the assembler's (assembler_differential.py). Always the same cases. At the
-first difference the case is saved under target/differential and the exit status is 1.
+target/bin/checkmask, which fail, and then masks that pass (bound_differential.py); then the assembler's
+(assembler_differential.py). Always the same cases. At the first difference the case is saved under
+target/differential and the exit status is 1.
 Build the programs first: rt check panel checker_main checkmask assemble
 """
 
@@ -15,11 +16,12 @@ import re
 
 import paths  # noqa: F401
 import assembler_differential
+import bound_differential
 import checker_cases
 import isa_table
 import make_panel_cases
 import reference
-from comparing import BIN, ROOT, compare, differs, run_program, start, stop
+from comparing import BIN, ROOT, compare, differs, first_difference, run_program, start, stop
 from panel_input import int_pin, pins, power_on, record, res, run, tmclk, two, write
 
 PANEL = BIN / 'panel'
@@ -33,6 +35,10 @@ met = collections.Counter()     # what the panel cases met, by name
 # ---------------------------------------------------------------------------
 # Stored cases
 # ---------------------------------------------------------------------------
+
+def printed(lines):
+    return ''.join(line + '\n' for line in lines).encode()
+
 
 def stored_cases(program, names):
     """How many cases of a program ran, each with files of these names."""
@@ -49,7 +55,7 @@ def demonstrations():
     demo = ROOT / 'demo'
     compare('demo', [ROOT / 'panel', demo / 'mask.bin', demo / 'script.bin'], {}, (demo / 'expected').read_bytes())
     compare('demo/pump.bin', [ROOT / 'panel', demo / 'pump.bin', demo / 'pump_script.bin'], {}, (demo / 'pump_expected').read_bytes())
-    compare('demo/pump.bin', [ROOT / 'checkmask', demo / 'pump.bin'], {}, b'passed\n')
+    compare('demo/pump.bin', [ROOT / 'checkmask', demo / 'pump.bin'], {}, printed(reference.checkmask((demo / 'pump.bin').read_bytes())))
     compare('demo/forbidden.bin', [ROOT / 'checkmask', demo / 'forbidden.bin'], {}, (demo / 'forbidden').read_bytes())
     compare('demo, no such file', [ROOT / 'checkmask', demo / 'none'], {}, b'refused 1\n')
     return 5
@@ -377,7 +383,7 @@ def random_panel_cases():
         lines = reference.panel(mask or b'', script or b'')
         note(lines, script)
         compare(f'panel, {name}', [PANEL], {'mask.bin': mask, 'script.bin': script},
-                ''.join(line + '\n' for line in lines).encode())
+                printed(lines))
         count += 1
     few = [name for name in MUST_MEET if met[name] < 5]
     if few:
@@ -404,7 +410,7 @@ def random_masks():
     for number, batch in enumerate(checker_batches(random.Random(1131))):
         lines = fixed + checker_cases.stored_lines(batch)
         compare(f'checker, batch {number}', [CHECKER], {'masks.bin': checker_cases.masks_file(batch)},
-                ''.join(line + '\n' for line in lines).encode())
+                printed(lines))
         count += len(batch)
     return count
 
@@ -453,6 +459,9 @@ def way_trouble(mask):
     answer = reference.verdict(mask, count)
     first, *lines = got.decode('latin-1').split('\n')
     why = [trouble] if trouble else []
+    if answer == 'passed':
+        want = printed(reference.checkmask(mask))
+        return got, why + [first_difference(want, got)] * (got != want), 0
     try:
         fields = [line.split() for line in lines[:-1]]
         pairs = [(int(address, 16), reference.LEVELS.index(level)) for address, level, *_ in fields]
@@ -460,8 +469,6 @@ def way_trouble(mask):
         return got, why + [f'a line is no pair: {error}'], 0
     if first != reference.verdict_line(answer):
         why.append(f'expected {reference.verdict_line(answer)!r}, got {first!r}')
-    elif answer == 'passed':
-        why += [f'{len(pairs)} pairs for a mask that passes'] if pairs else []
     else:
         wrong = reference.wrong_way(mask, pairs, answer[1:], count[answer[1:]])
         why += [wrong] if wrong else []
@@ -503,6 +510,7 @@ def main():
     ways, failing = random_ways()
     print(f'differential: {panels} panel cases, {checks} of checkmask and the demonstrations, {masks} masks, '
           f'{ways} masks with {failing} ways, 0 differences')
+    bound_differential.compare_all()
     assembler_differential.compare_all()
 
 
