@@ -2,11 +2,13 @@
 //! field and every byte.
 
 use crate::library::{self, number, packed, to_plain};
-use crate::plain::{self, Mask, IMAGE, MASK, REPORT};
+use crate::plain::{self, Bound, Bounds, Mask, Pair, IMAGE, MASK, REPORT};
 use crate::prng::Prng;
-use crate::{masks, plain_asm, script, texts};
+use crate::{masks, plain_asm, routines, script, texts};
 use ht1130::WAY;
 use std::fmt::Debug;
+use std::sync::atomic::{AtomicU64, Ordering::Relaxed};
+use std::sync::Mutex;
 
 /// What differed, in words.
 type Outcome = Result<(), String>;
@@ -18,7 +20,7 @@ struct Sort {
     case: fn(&mut Prng, u64) -> Outcome,
 }
 
-const SORTS: [Sort; 19] = [
+const SORTS: [Sort; 24] = [
     Sort {
         name: "instructions read",
         cases: |_| 256,
@@ -48,6 +50,31 @@ const SORTS: [Sort; 19] = [
         name: "ways",
         cases: |n| n,
         case: ways,
+    },
+    Sort {
+        name: "bounds, every pair",
+        cases: |n| n / 2,
+        case: every_bound,
+    },
+    Sort {
+        name: "bounds, longer masks",
+        cases: |n| n / 10,
+        case: some_bounds,
+    },
+    Sort {
+        name: "bounds refused",
+        cases: |n| n / 20,
+        case: bounds_refused,
+    },
+    Sort {
+        name: "edges held",
+        cases: |n| n / 2,
+        case: edges_held,
+    },
+    Sort {
+        name: "edges held for the whole bound",
+        cases: |n| n / 4,
+        case: edges_held_longest,
     },
     Sort {
         name: "power-ons",
@@ -116,31 +143,106 @@ const SORTS: [Sort; 19] = [
     },
 ];
 
+/// The cases that `.ci/run` takes.
+pub const CASES: u64 = 4000;
+
+/// What the bounds have to meet in so many cases, to tell the rule from another.
+#[derive(Clone, Copy)]
+enum Met {
+    Bounded,
+    Over10,
+    Over100,
+    Over4000,
+    ByLoops,
+    ByHalts,
+    InMain,
+    InBothLevels,
+    Runs,
+    Less,
+    Exact,
+    HeldOn,
+}
+
+const MUST_MEET: [(Met, &str, u64); 12] = [
+    (Met::Bounded, "pairs with a bound", 40_000),
+    (Met::Over10, "of them over 10", 20_000),
+    (Met::Over100, "over 100", 5_000),
+    (Met::Over4000, "over 4,000", 1_000),
+    (Met::ByLoops, "pairs without one, by loops alone", 10_000),
+    (Met::ByHalts, "by HALT alone", 1_000),
+    (Met::InMain, "marked pairs in main", 10_000),
+    (Met::InBothLevels, "addresses in both levels", 10_000),
+    (Met::Runs, "runs from a bounded pair", 10_000),
+    (Met::Less, "of them that spend less", 2_000),
+    (Met::Exact, "runs that must spend just the bound", 3_000),
+    (Met::HeldOn, "runs with a held edge", 5_000),
+];
+
+static MET: [AtomicU64; MUST_MEET.len()] = [const { AtomicU64::new(0) }; MUST_MEET.len()];
+
+fn meet(what: Met, times: usize) {
+    MET[what as usize].fetch_add(times as u64, Relaxed);
+}
+
 /// Runs all sorts, `cases` being the number of random masks to check and the
 /// measure of the other sorts; false after a difference.
 pub fn run(seed: u64, cases: u64) -> bool {
     println!("diff: seed {seed}, cases {cases}");
     for sort in &SORTS {
         let count = (sort.cases)(cases).max(1);
-        for case in 0..count {
-            // Each case has a generator of its own, so that it can be named.
-            let mut prng = Prng::new(seed);
-            for byte in sort.name.bytes() {
-                prng = Prng::new(prng.next() ^ byte as u64);
-            }
-            let mut prng = Prng::new(prng.next().wrapping_add(case));
-            if let Err(what) = (sort.case)(&mut prng, case) {
-                println!(
-                    "DIFFERENCE in {}, seed {seed}, case {case}:\n{what}",
-                    sort.name
-                );
-                return false;
-            }
+        if let Some((case, what)) = first_difference(sort, seed, count) {
+            println!(
+                "DIFFERENCE in {}, seed {seed}, case {case}:\n{what}",
+                sort.name
+            );
+            return false;
         }
         println!("{count:>8}  {}", sort.name);
     }
+    for (what, name, least) in MUST_MEET {
+        let met = MET[what as usize].load(Relaxed);
+        println!("{met:>8}  {name}");
+        if cases >= CASES && met < least {
+            println!("too few: at least {least}");
+            return false;
+        }
+    }
     println!("no difference");
     true
+}
+
+/// The stack of a thread: a bound takes over half a MB.
+const STACK: usize = 8 << 20;
+
+/// Runs a sort's cases on all processors; the lowest that differs.
+fn first_difference(sort: &Sort, seed: u64, count: u64) -> Option<(u64, String)> {
+    let (next, found) = (AtomicU64::new(0), Mutex::new(None));
+    let work = || loop {
+        let case = next.fetch_add(1, Relaxed);
+        if case >= count {
+            break;
+        }
+        // Each case has a generator of its own, so that it can be named.
+        let mut prng = Prng::new(seed);
+        for byte in sort.name.bytes() {
+            prng = Prng::new(prng.next() ^ byte as u64);
+        }
+        let mut prng = Prng::new(prng.next().wrapping_add(case));
+        if let Err(what) = (sort.case)(&mut prng, case) {
+            next.fetch_max(count, Relaxed); // those before it are under way
+            let mut found = found.lock().expect("no case panics here");
+            if found.as_ref().is_none_or(|&(first, _)| case < first) {
+                *found = Some((case, what));
+            }
+        }
+    };
+    std::thread::scope(|scope| {
+        for _ in 0..std::thread::available_parallelism().map_or(1, |n| n.get()) {
+            let thread = std::thread::Builder::new().stack_size(STACK);
+            thread.spawn_scoped(scope, work).expect("a thread");
+        }
+    });
+    found.into_inner().expect("no case panics here")
 }
 
 fn same<T: PartialEq + Debug>(what: impl FnOnce() -> String, library: T, plain: T) -> Outcome {
@@ -413,6 +515,293 @@ fn is_way(mask: &[u8], listed: &[u8]) -> Outcome {
     same(|| "pairs taken apart".into(), safe, pairs)
 }
 
+// Bounds
+
+fn bound_of_both(mask: &[u8], (address, level): Pair, plain: Result<Bound, u8>) -> Outcome {
+    let what = || {
+        format!(
+            "bound of {address:X} in level {level} of the mask {}",
+            hex(mask)
+        )
+    };
+    let library = library::bound(mask, address, level);
+    same(what, library, packed::bound(plain))
+}
+
+/// The same by the safe function.
+fn safe_bound_of_both(mask: &[u8], pair: Pair, plain: Result<Bound, u8>) -> Outcome {
+    bound_of_both(mask, pair, plain)?;
+    let safe = match ht1130::bound(mask, pair.0, pair.1) {
+        Err(refusal) => Err(refusal.number()),
+        Ok(ht1130::Bound::NotReached) => Ok(Bound::NotReached),
+        Ok(ht1130::Bound::NoBound) => Ok(Bound::NoBound),
+        Ok(ht1130::Bound::Cycles(cycles)) => Ok(Bound::Cycles(cycles)),
+    };
+    same(|| format!("safe bound of {pair:X?}"), safe, plain)
+}
+
+fn all_pairs() -> impl Iterator<Item = Pair> {
+    (0..MASK as u16).flat_map(|address| (0..3).map(move |level| (address, level)))
+}
+
+fn at(bounds: &Bounds, (address, level): Pair) -> Bound {
+    bounds[address as usize][level as usize]
+}
+
+/// Notes the answers for some pairs.
+fn note_bounds(mask: &Mask, bounds: &Bounds, pairs: &[Pair]) {
+    let over = |least: u32| move |&bound: &Bound| matches!(bound, Bound::Cycles(n) if n > least);
+    let answers = || pairs.iter().map(|&pair| at(bounds, pair));
+    meet(Met::Bounded, answers().filter(over(0)).count());
+    meet(Met::Over10, answers().filter(over(10)).count());
+    meet(Met::Over100, answers().filter(over(100)).count());
+    meet(Met::Over4000, answers().filter(over(4000)).count());
+    let endless = |bounds: &Bounds| {
+        let answers = pairs.iter().map(|&pair| at(bounds, pair));
+        answers.filter(|&bound| bound == Bound::NoBound).count()
+    };
+    // With NOPs for every HALT only loops are left.
+    let mut awake = *mask;
+    for at in 0..MASK - 1 {
+        if awake[at..at + 2] == [0x37, 0x3E] {
+            awake[at] = 0x3E;
+        }
+    }
+    let without = endless(bounds);
+    let by_loops = match plain::bounds(&awake) {
+        _ if awake == *mask => without,
+        Ok(bounds) => endless(&bounds),
+        Err(_) => return,
+    };
+    match by_loops {
+        0 => meet(Met::ByHalts, without),
+        _ if by_loops == without => meet(Met::ByLoops, without),
+        _ => {}
+    }
+}
+
+fn passed_bounds(mask: &Mask) -> Result<Box<Bounds>, String> {
+    plain::bounds(mask).map_err(|number| format!("plain alone: refusal {number} of {}", hex(mask)))
+}
+
+/// Small masks: each of the calls checks the mask.
+fn every_bound(prng: &mut Prng, _: u64) -> Outcome {
+    let mask = match prng.below(8) {
+        0 => routines::decided(prng),
+        _ => routines::small(prng),
+    };
+    let bounds = passed_bounds(&mask)?;
+    let lent = mask;
+    for pair in all_pairs() {
+        bound_of_both(&lent, pair, Ok(at(&bounds, pair)))?;
+    }
+    same(|| "mask after its bounds".into(), &lent[..], &mask)?;
+    note_bounds(&mask, &bounds, &all_pairs().collect::<Vec<_>>());
+    let mut marks = [0; MASK];
+    let _ = plain::check(&mask, &mut marks);
+    let marked = |levels: u8| marks.iter().filter(|&mark| mark & levels == levels).count();
+    meet(Met::InMain, marked(1));
+    meet(Met::InBothLevels, marked(6));
+    Ok(())
+}
+
+/// Marked pairs, of which long masks have too many to ask for all, and others.
+fn some_bounds(prng: &mut Prng, case: u64) -> Outcome {
+    let mask = match case % 8 {
+        0 => routines::long(prng),
+        1 => routines::reads(prng),
+        2..=4 => routines::deep(prng),
+        _ => routines::scattered(prng),
+    };
+    let bounds = passed_bounds(&mask)?;
+    let marked: Vec<Pair> = all_pairs()
+        .filter(|&pair| at(&bounds, pair) != Bound::NotReached)
+        .collect();
+    let mut asked = routines::entries(&mask);
+    for _ in 0..100 {
+        asked.push((prng.below(MASK as u64) as u16, prng.byte() % 3));
+        if !marked.is_empty() {
+            let pair = pick(prng, &marked);
+            asked.extend([pair, (pair.0, prng.byte() % 3)]);
+        }
+    }
+    for &pair in &asked {
+        safe_bound_of_both(&mask, pair, Ok(at(&bounds, pair)))?;
+    }
+    note_bounds(&mask, &bounds, &asked);
+    Ok(())
+}
+
+/// 1, then 5, then 15, whatever else holds.
+fn bounds_refused(prng: &mut Prng, case: u64) -> Outcome {
+    let mask = match case % 4 {
+        0 => mask_of_wrong_length(prng),
+        1 => routines::small(prng).to_vec(),
+        _ => any_mask(prng).to_vec(),
+    };
+    let bounds = plain::bounds(&mask);
+    for address in [0, 4, 8, 0xFFF, 0x1000, 0x1004, 0x8000, 0xFFFF] {
+        for level in [0, 1, 2, 3, 4, 5, 128, 254, 255, prng.byte()] {
+            let plain = match &bounds {
+                Err(1) => Err(1),
+                _ if address > 0xFFF || level > 2 => Err(5),
+                Err(_) => Err(15),
+                Ok(bounds) => Ok(at(bounds, (address, level))),
+            };
+            safe_bound_of_both(&mask, (address, level), plain)?;
+        }
+        let level = prng.byte() % 4;
+        let plain = plain::bound(&mask, address, level);
+        bound_of_both(&mask, (address, level), plain)?;
+    }
+    Ok(())
+}
+
+/// A machine by chance at a pair, neither halted nor faulted.
+fn machine_at(prng: &mut Prng, (address, level): Pair) -> ht1130::Machine {
+    let mut m = machine(prng);
+    m.cpu.control.pc = address;
+    m.cpu.interrupts.level = level;
+    m.cpu.status = ht1130::Status {
+        halted: 0,
+        fault: 0,
+    };
+    m
+}
+
+fn step_both(m: &mut ht1130::Machine, mask: &Mask) -> Result<u32, String> {
+    let before = m.cpu.cycles;
+    event_on_both(m, (plain::RUN, 1, 0, 0, 0), mask)?;
+    Ok(m.cpu.cycles.wrapping_sub(before))
+}
+
+/// Whatever the machine holds and whatever happens between its steps, but RES and
+/// power-on, it comes to level 0 within the bound, and an edge is held until then.
+fn edges_held(prng: &mut Prng, case: u64) -> Outcome {
+    let mask = match case % 16 {
+        0 => routines::long(prng),
+        1 => routines::deep(prng),
+        2 | 3 => routines::scattered(prng),
+        _ => routines::small(prng),
+    };
+    let bounds = passed_bounds(&mask)?;
+    let bounded: Vec<Pair> = all_pairs()
+        .filter(|&pair| matches!(at(&bounds, pair), Bound::Cycles(_)))
+        .collect();
+    if bounded.is_empty() {
+        return Ok(());
+    }
+    for _ in 0..8 {
+        let pair = pick(prng, &bounded);
+        held_from(prng, &mask, pair, at(&bounds, pair))?;
+    }
+    Ok(())
+}
+
+fn held_from(prng: &mut Prng, mask: &Mask, pair: Pair, bound: Bound) -> Outcome {
+    let Bound::Cycles(most) = bound else {
+        return Err(format!("{pair:X?} has no bound"));
+    };
+    let mut m = machine_at(prng, pair);
+    let (mut spent, mut held) = (0, m.cpu.interrupts.held);
+    while m.cpu.interrupts.level != 0 {
+        while prng.below(4) == 0 {
+            let event = between(prng);
+            event_on_both(&mut m, event, &mask[..pick(prng, &[MASK, MASK - 1])])?;
+            held |= m.cpu.interrupts.held;
+        }
+        spent += step_both(&mut m, mask)?;
+        let status = (
+            m.cpu.status.halted,
+            m.cpu.status.fault,
+            m.cpu.interrupts.held,
+        );
+        if spent > most || status != (0, 0, held) {
+            return Err(format!(
+                "from {pair:X?} with bound {most}: {spent} cycles spent, halted, fault and held {status:?}, mask {}\n  {m:X?}",
+                hex(mask)
+            ));
+        }
+    }
+    meet(Met::Runs, 1);
+    meet(Met::HeldOn, held as usize);
+    meet(Met::Less, (spent < most) as usize);
+    if held == 1 && m.cpu.interrupts.enabled == 1 {
+        step_both(&mut m, mask)?;
+        let taken = (
+            m.cpu.control.pc,
+            m.cpu.interrupts.level,
+            m.cpu.interrupts.held,
+        );
+        same(|| "the held edge is taken".into(), taken, (8, 2, 0))?;
+    }
+    Ok(())
+}
+
+/// An event that may come between two steps, refused ones too.
+fn between(prng: &mut Prng) -> (u16, u16, u8, u8, u8) {
+    let mut value = || prng.byte() % 17;
+    let ports = [value(), value(), value()];
+    match prng.below(8) {
+        0..=2 => (plain::PINS, 0, ports[0], ports[1], ports[2]),
+        3..=5 => (plain::INT, 0, prng.byte() % 3, 0, 0),
+        6 => (plain::TMCLK, script::pulses(prng), 0, 0, 0),
+        _ => (pick(prng, &[0, 7, 8, 255]), 1, 0, 0, 0),
+    }
+}
+
+/// Where pins and TMCLK decide every branch, a run spends just the bound.
+fn edges_held_longest(prng: &mut Prng, _: u64) -> Outcome {
+    let mask = routines::decided(prng);
+    let bounds = passed_bounds(&mask)?;
+    for pair in routines::entries(&mask) {
+        let Bound::Cycles(most) = at(&bounds, pair) else {
+            continue;
+        };
+        let mut m = machine_at(prng, pair);
+        m.cpu.control.tf = 0; // only JTMR clears it
+        m.cpu.options.rate = plain::EXTERNAL;
+        let mut left = most;
+        while m.cpu.interrupts.level != 0 {
+            (m, left) = longer_side(&m, &mask, &bounds, left)?.ok_or_else(|| {
+                format!(
+                    "from {pair:X?} no run spends {most}: {left} left at {m:X?}, mask {}",
+                    hex(&mask)
+                )
+            })?;
+        }
+        meet(Met::Exact, 1);
+    }
+    Ok(())
+}
+
+/// The machine after the next branch, or in level 0, with the pins and TMCLK such
+/// that the cycles left are the bound there, and these cycles; none where no pins do.
+fn longer_side(
+    m: &ht1130::Machine,
+    mask: &Mask,
+    bounds: &Bounds,
+    left: u32,
+) -> Result<Option<(ht1130::Machine, u32)>, String> {
+    for (pins, pulses) in [(0, 0), (15, 0), (0, 256), (15, 256)] {
+        let (mut m, mut spent, mut branched) = (*m, 0, false);
+        while !branched && m.cpu.interrupts.level != 0 {
+            event_on_both(&mut m, (plain::PINS, 0, pins, pins, pins), mask)?;
+            event_on_both(&mut m, (plain::TMCLK, pulses, 0, 0, 0), mask)?;
+            let code = plain::read(mask, m.cpu.control.pc);
+            branched = matches!(code, Ok(Some(code)) if code.form == plain::form::BRANCH);
+            spent += step_both(&mut m, mask)?;
+        }
+        let after = match at(bounds, (m.cpu.control.pc, m.cpu.interrupts.level)) {
+            Bound::Cycles(cycles) => cycles,
+            _ => 0, // level 0
+        };
+        if spent + after == left {
+            return Ok(Some((m, after)));
+        }
+    }
+    Ok(None)
+}
 // Instructions
 
 fn instructions_read(_: &mut Prng, case: u64) -> Outcome {

@@ -70,6 +70,11 @@ pub fn way(mask: &[u8], list: &mut [u8]) -> u64 {
     unsafe { ffi::ht1130_way(mask.as_ptr(), mask.len(), list.as_mut_ptr(), list.len()) }
 }
 
+pub fn bound(mask: &[u8], address: u16, level: u8) -> u64 {
+    // SAFETY: the slice is valid for the call.
+    unsafe { ffi::ht1130_bound(mask.as_ptr(), mask.len(), address, level) }
+}
+
 pub fn check_script(mask: &[u8], script: &[u8], room: usize) -> u64 {
     // SAFETY: both slices are valid for the call.
     unsafe {
@@ -114,7 +119,7 @@ pub fn assemble(text: &[u8], out: &mut [u8]) -> u64 {
 
 /// The plain answers as the header packs them.
 pub mod packed {
-    use crate::plain::{Failure, Instruction, Refusal, ScriptRefusal};
+    use crate::plain::{Bound, Failure, Instruction, Refusal, ScriptRefusal};
     use crate::plain_asm::TextRefusal;
 
     pub fn verdict(result: &Result<Option<Failure>, Refusal>) -> u64 {
@@ -131,6 +136,15 @@ pub mod packed {
         match result {
             Err(refusal) => *refusal as u64,
             Ok(count) => (*count as u64) << 32,
+        }
+    }
+
+    pub fn bound(result: Result<Bound, Refusal>) -> u64 {
+        match result {
+            Err(refusal) => refusal as u64,
+            Ok(Bound::NotReached) => 0,
+            Ok(Bound::NoBound) => 1 << 8,
+            Ok(Bound::Cycles(cycles)) => 2 << 8 | (cycles as u64) << 32,
         }
     }
 

@@ -6,6 +6,7 @@ mod masks;
 mod plain;
 mod plain_asm;
 mod prng;
+mod routines;
 mod script;
 mod speed;
 mod texts;
@@ -33,7 +34,7 @@ fn arguments() -> Option<Arguments> {
         diff,
         speed,
         seed: 1130,
-        cases: 4000,
+        cases: diff::CASES,
     };
     while let Some(word) = words.next() {
         let value = words.next()?.parse().ok()?;

@@ -1106,6 +1106,132 @@ pub fn listed(way: Result<u16, Refusal>, room: usize) -> Result<u16, Refusal> {
     }
 }
 
+/// How long an edge is held at a pair.
+#[derive(Clone, Copy, PartialEq, Eq, Debug)]
+pub enum Bound {
+    NotReached,
+    NoBound,
+    Cycles(u32),
+}
+
+/// The bounds of a mask, by address and level.
+pub type Bounds = [[Bound; 3]; MASK];
+
+/// A marked pair above main, and what follows it in its level.
+struct Held {
+    pair: Pair,
+    cycles: u32,
+    /// Places in the list of these; a return has none.
+    next: Vec<usize>,
+    halts: bool,
+}
+
+impl Held {
+    /// The cycles of a chain of this pair alone that ends with a return.
+    fn returns(&self) -> u32 {
+        if self.next.is_empty() {
+            self.cycles
+        } else {
+            0
+        }
+    }
+
+    /// The same two for one pair more, from those for the pairs that follow.
+    fn longer(&self, goes_on: &[bool], total: &[u32]) -> (bool, u32) {
+        let on = self.halts || self.next.iter().any(|&to| goes_on[to]);
+        match self.next.iter().map(|&to| total[to]).max() {
+            None | Some(0) => (on, 0),
+            Some(best) => (on, best + self.cycles),
+        }
+    }
+}
+
+fn held_pairs(mask: &Mask, marks: &[u8; MASK]) -> Vec<Held> {
+    let mut places = vec![[0; 3]; MASK];
+    let mut pairs = Vec::new();
+    for address in 0..MASK {
+        for level in [1, 2] {
+            if marks[address] >> level & 1 == 1 {
+                places[address][level] = pairs.len();
+                pairs.push((address as u16, level as u8));
+            }
+        }
+    }
+    let held = |&pair: &Pair| {
+        let (address, level) = pair;
+        let code = decode(byte(mask, address), byte(mask, address + 1)).expect("a passed mask");
+        let moved = (address + code.length as u16) & 0xFFF;
+        let next = match code.form {
+            form::RET | form::RETI => vec![],
+            form::JMP => vec![code.b],
+            form::BRANCH => vec![moved, moved & 0x800 | code.b],
+            _ => vec![moved], // EI too: its vectors are not followed
+        };
+        let place = |to: u16| places[to as usize][level as usize];
+        Held {
+            pair,
+            cycles: code.cycles as u32,
+            next: next.into_iter().map(place).collect(),
+            halts: code.form == form::HALT,
+        }
+    };
+    pairs.iter().map(held).collect()
+}
+
+/// The bounds of every pair, by the number of pairs in a chain: from each the
+/// most cycles of a chain of one pair to a return, of two, of three, as long as
+/// the pairs that have chains of so many grow fewer. Those that are left have
+/// chains of any number: they reach a loop, or a HALT, which counts as one.
+pub fn bounds(mask: &[u8]) -> Result<Box<Bounds>, Refusal> {
+    let mut marks = [0; MASK];
+    if check(mask, &mut marks)?.is_some() {
+        return Err(15);
+    }
+    let held = held_pairs(mask.try_into().map_err(|_| 1)?, &marks);
+    // Whether a pair has a chain of so many pairs, the most cycles of those that
+    // end with a return, 0 for none, and the most of any number so far.
+    let mut goes_on = vec![true; held.len()];
+    let mut total: Vec<u32> = held.iter().map(Held::returns).collect();
+    let mut most = total.clone();
+    let mut left: Vec<usize> = (0..held.len()).collect();
+    loop {
+        let longer: Vec<(bool, u32)> = left
+            .iter()
+            .map(|&at| held[at].longer(&goes_on, &total))
+            .collect();
+        for (&at, (on, cycles)) in left.iter().zip(longer) {
+            goes_on[at] = on;
+            total[at] = cycles;
+            most[at] = most[at].max(cycles);
+        }
+        let before = left.len();
+        left.retain(|&at| goes_on[at]);
+        if left.len() == before {
+            break;
+        }
+    }
+    let mut bounds = Box::new([[Bound::NotReached; 3]; MASK]);
+    for (at, Held { pair, .. }) in held.iter().enumerate() {
+        bounds[pair.0 as usize][pair.1 as usize] = if goes_on[at] {
+            Bound::NoBound
+        } else {
+            Bound::Cycles(most[at])
+        };
+    }
+    Ok(bounds)
+}
+
+/// The bound of one pair.
+pub fn bound(mask: &[u8], address: u16, level: u8) -> Result<Bound, Refusal> {
+    if mask.len() != MASK {
+        return Err(1);
+    }
+    if address > 0xFFF || level > 2 {
+        return Err(5);
+    }
+    Ok(bounds(mask)?[address as usize][level as usize])
+}
+
 #[cfg(test)]
 mod tests {
     use super::*;
@@ -1405,6 +1531,68 @@ mod tests {
         assert_eq!(way(&mask_at(0, &[0x35])), Ok(1));
         // CALL 010h, then NOPs up to the CALL at 0, in level 1
         assert_eq!(way(&mask_at(0, &[0xF0, 0x10])), Ok(4096 - 0x10 + 2));
+    }
+
+    /// A mask with EI and CALL 010h in main at 080h, RETI at both vectors, and `code` at 010h.
+    fn called(code: &[u8]) -> Mask {
+        let mut mask = mask_at(0x10, code);
+        mask[..2].copy_from_slice(&[0xE0, 0x80]);
+        mask[4] = 0x2F;
+        mask[8] = 0x2F;
+        mask[0x80..0x85].copy_from_slice(&[0x2C, 0xF0, 0x10, 0xE0, 0x81]);
+        mask
+    }
+
+    #[test]
+    fn bounds_of_routines() {
+        use Bound::*;
+        let codes: [(&[u8], Bound); 10] = [
+            (&[0x2E], Cycles(1)),
+            (&[0x2F], Cycles(1)),
+            (&[0x3E, 0x4C, 0x40, 0x01, 0x2E], Cycles(6)),
+            // JC over two READs to three NOPs
+            (
+                &[0xC0, 0x15, 0x4C, 0x4C, 0x2E, 0x3E, 0x3E, 0x3E, 0x2E],
+                Cycles(7),
+            ),
+            (&[0xC0, 0x13, 0x2E, 0x4C, 0x2E], Cycles(5)),
+            (&[0x2C, 0x2E], Cycles(2)), // EI
+            (&[0xE0, 0x10], NoBound),
+            (&[0xC0, 0x10, 0x2E], NoBound),
+            (&[0xC0, 0x13, 0x2E, 0x37, 0x3E, 0x2E], NoBound),
+            (&[0xC0, 0x16, 0x3E, 0x3E, 0xE0, 0x12, 0x2E], NoBound),
+        ];
+        for (code, expected) in codes {
+            let mask = called(code);
+            assert_eq!(bound(&mask, 0x10, 1), Ok(expected), "{code:X?}");
+            assert_eq!(bound(&mask, 0x10, 0), Ok(NotReached));
+            assert_eq!(bound(&mask, 0x10, 2), Ok(NotReached));
+            assert_eq!(bound(&mask, 8, 2), Ok(Cycles(1)));
+            assert_eq!(bound(&mask, 0xFFF, 1), Ok(NotReached));
+        }
+        // EI at 007h goes on to the vector after it; a branch with bit 11
+        let mut mask = called(&[0x2E]);
+        mask[4..10].copy_from_slice(&[0x3E, 0x3E, 0x3E, 0x2C, 0x4C, 0x2F]);
+        assert_eq!(bound(&mask, 4, 2), Ok(Cycles(7)));
+        mask[4..6].copy_from_slice(&[0xE7, 0xFE]);
+        mask[0x7FE..0x801].copy_from_slice(&[0xC0, 0x90, 0x2F]);
+        mask[0x890..0x893].copy_from_slice(&[0x4C, 0x4C, 0x2F]);
+        assert_eq!(bound(&mask, 4, 2), Ok(Cycles(9)));
+    }
+
+    #[test]
+    fn bounds_refused() {
+        let (passes, fails) = (called(&[0x2E]), called(&[0x35]));
+        for (address, level) in [(0, 0), (0x10, 1), (0xFFF, 2)] {
+            assert_eq!(bound(&fails, address, level), Err(15));
+            assert_eq!(bound(&fails[1..], address, level), Err(1));
+        }
+        for mask in [&passes, &fails] {
+            for (address, level) in [(4096, 0), (65535, 2), (0, 3), (8, 255), (4096, 3)] {
+                assert_eq!(bound(mask, address, level), Err(5));
+                assert_eq!(bound(&mask[1..], address, level), Err(1));
+            }
+        }
     }
 
     #[test]
