@@ -726,9 +726,8 @@ def longest_wait(answers):
     return f'{largest} at {address:03X} level {level}'
 
 
-def bound_lines(mask, marks):
+def bound_lines(mask, marks, answers):
     """What `checkmask` prints after `passed`."""
-    answers = bounds(mask, marks)
     asked = [(4, 2), (8, 2)] + [(target, 1) for target in call_targets(mask, marks)]
     return [f'bound at {address:03X} level {level}: {answers.get((address, level), NOT_REACHED)}'
             for address, level in asked] + [f'longest wait: {longest_wait(answers)}']
@@ -740,7 +739,7 @@ def checkmask(mask):
         return ['refused 1']
     marks, answer = checker(mask)
     if answer == 'passed':
-        return [answer] + bound_lines(mask, marks)
+        return [answer] + bound_lines(mask, marks, bounds(mask, marks))
     return [verdict_line(answer)] + [way_line(mask, *pair) for pair in way(mask, 3 * 3 * MASK)]
 
 
