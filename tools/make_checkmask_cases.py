@@ -2,8 +2,8 @@
 
 crates/checkmask has one mask: data/mask.bin and stdout. Each folder of tests/checkmask is one
 more case: mask.bin and expected; a file `missing` says that mask.bin is left out. Every stored way
-is the only shortest one, so that what is printed is decided. The lines below are typed by hand and
-held to the reference model.
+is the only shortest one, so that what is printed is decided. The lines below, with the bounds of
+masks that pass, are typed by hand and held to the reference model.
 """
 
 import pathlib
@@ -282,7 +282,8 @@ def expected(image, lines):
 
 def readme():
     head = ('# Stored cases of `checkmask`\n\nEach folder is one case: `mask.bin` and what the program must print, `expected`. A file `missing` says '
-            'that mask.bin is left out.\n`tools/make_checkmask_cases.py` makes them all, this page too; `tools/differential.py` runs them.\n\n'
+            'that mask.bin is left out.\n`tools/make_checkmask_cases.py` makes them all, this page too; `tools/differential.py` runs them. Those of a '
+            'mask that passes are named `bound-..`,\nafter what decides how long an edge is held.\n\n'
             '| Case | What it guards |\n|---|---|\n')
     return (head + ''.join(f'| {name} | {guards} |\n' for name, _, _, guards in cases())).encode()
 
