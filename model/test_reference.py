@@ -511,7 +511,8 @@ def test_bounds():
     twice = mask((0, 'E0 80'), (4, 'E0 10'), (8, '2E'), (0x10, '4C 2E'), (0x80, '2C F0 10 F0 10 F0 08 E0 81'))
     same(ref.checkmask(twice), ['passed', 'bound at 004 level 2: 5', 'bound at 008 level 2: 1', 'bound at 008 level 1: 1', 'bound at 010 level 1: 3',
                                 'longest wait: 5 at 004 level 2'], 'shared code')
-    same(ref.checkmask(twice.replace(bytes.fromhex('E010'), bytes.fromhex('3E2E')))[-1], 'longest wait: 3 at 010 level 1', 'the first pair')
+    tie = mask((0, 'E0 80'), (4, '2F'), (8, '4C 2E'), (0x80, '2C F0 08 F0 10 E0 81'), (0x10, '4C 2E'))
+    same(ref.checkmask(tie)[-1], 'longest wait: 3 at 008 level 1', 'the first of three pairs')
     # 60 branches one after the other, 2^60 chains.
     deep = ' '.join(f'C2 {at + 3:02X} 4C' for at in range(0x00, 0xB4, 3)) + ' 2F'
     same(ref.bound(mask((0, 'E1 00'), (4, 'E2 00'), (8, '2F'), (0x100, '2C E1 01'), (0x200, deep)), 4, 2), 2 + 60 * 4 + 1, '60 branches')

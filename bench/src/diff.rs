@@ -164,18 +164,18 @@ enum Met {
 }
 
 const MUST_MEET: [(Met, &str, u64); 12] = [
-    (Met::Bounded, "pairs with a bound", 40_000),
-    (Met::Over10, "of them over 10", 20_000),
-    (Met::Over100, "over 100", 5_000),
-    (Met::Over4000, "over 4,000", 1_000),
-    (Met::ByLoops, "pairs without one, by loops alone", 10_000),
+    (Met::Bounded, "pairs with a bound", 50_000),
+    (Met::Over10, "of them over 10", 30_000),
+    (Met::Over100, "over 100", 15_000),
+    (Met::Over4000, "over 4,000", 2_500),
+    (Met::ByLoops, "pairs without one, by loops alone", 3_000),
     (Met::ByHalts, "by HALT alone", 1_000),
-    (Met::InMain, "marked pairs in main", 10_000),
-    (Met::InBothLevels, "addresses in both levels", 10_000),
-    (Met::Runs, "runs from a bounded pair", 10_000),
-    (Met::Less, "of them that spend less", 2_000),
-    (Met::Exact, "runs that must spend just the bound", 3_000),
-    (Met::HeldOn, "runs with a held edge", 5_000),
+    (Met::InMain, "marked pairs in main", 6_000),
+    (Met::InBothLevels, "addresses in both levels", 5_000),
+    (Met::Runs, "runs from a bounded pair", 8_000),
+    (Met::Less, "of them that spend less", 1_200),
+    (Met::Exact, "runs that must spend just the bound", 2_000),
+    (Met::HeldOn, "runs with a held edge", 4_500),
 ];
 
 static MET: [AtomicU64; MUST_MEET.len()] = [const { AtomicU64::new(0) }; MUST_MEET.len()];
@@ -702,12 +702,12 @@ fn held_from(prng: &mut Prng, mask: &Mask, pair: Pair, bound: Bound) -> Outcome 
     let Bound::Cycles(most) = bound else {
         return Err(format!("{pair:X?} has no bound"));
     };
+    bound_of_both(mask, pair, Ok(bound))?;
     let mut m = machine_at(prng, pair);
     let (mut spent, mut held) = (0, m.cpu.interrupts.held);
     while m.cpu.interrupts.level != 0 {
         while prng.below(4) == 0 {
-            let event = between(prng);
-            event_on_both(&mut m, event, &mask[..pick(prng, &[MASK, MASK - 1])])?;
+            event_on_both(&mut m, between(prng), &mask[1..])?;
             held |= m.cpu.interrupts.held;
         }
         spent += step_both(&mut m, mask)?;
@@ -738,7 +738,8 @@ fn held_from(prng: &mut Prng, mask: &Mask, pair: Pair, bound: Bound) -> Outcome 
     Ok(())
 }
 
-/// An event that may come between two steps, refused ones too.
+/// An event that may come between two steps, refused ones too: a Run gets a mask
+/// that is too short.
 fn between(prng: &mut Prng) -> (u16, u16, u8, u8, u8) {
     let mut value = || prng.byte() % 17;
     let ports = [value(), value(), value()];
@@ -746,7 +747,7 @@ fn between(prng: &mut Prng) -> (u16, u16, u8, u8, u8) {
         0..=2 => (plain::PINS, 0, ports[0], ports[1], ports[2]),
         3..=5 => (plain::INT, 0, prng.byte() % 3, 0, 0),
         6 => (plain::TMCLK, script::pulses(prng), 0, 0, 0),
-        _ => (pick(prng, &[0, 7, 8, 255]), 1, 0, 0, 0),
+        _ => (pick(prng, &[0, 7, 8, 255, plain::RUN]), 1, 0, 0, 0),
     }
 }
 
@@ -758,6 +759,7 @@ fn edges_held_longest(prng: &mut Prng, _: u64) -> Outcome {
         let Bound::Cycles(most) = at(&bounds, pair) else {
             continue;
         };
+        bound_of_both(&mask, pair, Ok(Bound::Cycles(most)))?;
         let mut m = machine_at(prng, pair);
         m.cpu.control.tf = 0; // only JTMR clears it
         m.cpu.options.rate = plain::EXTERNAL;
@@ -802,6 +804,7 @@ fn longer_side(
     }
     Ok(None)
 }
+
 // Instructions
 
 fn instructions_read(_: &mut Prng, case: u64) -> Outcome {
