@@ -1566,6 +1566,7 @@ mod tests {
             let mask = called(code);
             assert_eq!(bound(&mask, 0x10, 1), Ok(expected), "{code:X?}");
             assert_eq!(bound(&mask, 0x10, 0), Ok(NotReached));
+            assert_eq!(bound(&mask, 0x80, 0), Ok(NotReached));
             assert_eq!(bound(&mask, 0x10, 2), Ok(NotReached));
             assert_eq!(bound(&mask, 8, 2), Ok(Cycles(1)));
             assert_eq!(bound(&mask, 0xFFF, 1), Ok(NotReached));
