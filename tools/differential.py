@@ -382,8 +382,7 @@ def random_panel_cases():
     for name, mask, script in panel_cases(random.Random(1130)):
         lines = reference.panel(mask or b'', script or b'')
         note(lines, script)
-        compare(f'panel, {name}', [PANEL], {'mask.bin': mask, 'script.bin': script},
-                printed(lines))
+        compare(f'panel, {name}', [PANEL], {'mask.bin': mask, 'script.bin': script}, printed(lines))
         count += 1
     few = [name for name in MUST_MEET if met[name] < 5]
     if few:
@@ -409,8 +408,7 @@ def random_masks():
     fixed, count = checker_cases.fixed_lines(), 0
     for number, batch in enumerate(checker_batches(random.Random(1131))):
         lines = fixed + checker_cases.stored_lines(batch)
-        compare(f'checker, batch {number}', [CHECKER], {'masks.bin': checker_cases.masks_file(batch)},
-                printed(lines))
+        compare(f'checker, batch {number}', [CHECKER], {'masks.bin': checker_cases.masks_file(batch)}, printed(lines))
         count += len(batch)
     return count
 
