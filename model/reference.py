@@ -720,7 +720,7 @@ def call_targets(mask, marks):
 def longest_wait(answers):
     """The largest answer with the first pair that has it, as `checkmask` prints it."""
     if not answers:
-        return '0'
+        return 'not reached'
     largest = NO_BOUND if NO_BOUND in answers.values() else max(answers.values())
     address, level = min(pair for pair, answer in answers.items() if answer == largest)
     return f'{largest} at {address:03X} level {level}'

@@ -25,7 +25,7 @@ MUST_MEET = {
     'not reached': 400, 'bounded': 4000, 'no bound, by a loop': 500, 'no bound, by a HALT': 200, 'no bound, by both': 30, 'two totals': 2000,
     'an EI on the way': 800, '2 to the 60 chains': 200, 'over 7FFh': 50, **{f'over {limit}': many for limit, many in LIMITS.items()},
     'a vector that is called': 50, 'an address in both levels': 500, 'an address called twice': 300, 'failed': 20,
-    'longest wait 0': 50, 'longest wait bounded': 1000, 'by two pairs': 20, 'longest wait without bound': 300, 'and it starts on no line': 20,
+    'no pair above main': 50, 'longest wait bounded': 1000, 'by two pairs': 20, 'longest wait without bound': 300, 'and it starts on no line': 20,
     'and others have one': 200}
 
 
@@ -100,7 +100,7 @@ def note(met, mask, marks, answers):
     met['an address in both levels'] += any(mark & 6 == 6 for mark in marks)
     values = list(answers.values())
     if not values:
-        met['longest wait 0'] += 1
+        met['no pair above main'] += 1
     elif NO_BOUND in values:
         met['longest wait without bound'] += 1
         met['and it starts on no line'] += min(pair for pair, answer in answers.items() if answer == NO_BOUND) not in lines

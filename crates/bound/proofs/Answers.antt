@@ -14,9 +14,10 @@ use Rattle.checker.specs.Verdicts.{Answers, Marked, Safe, isMarked}
 use Rattle.checker.specs.declared.check.Verdict.{Verdict}
 use Rattle.checker.specs.declared.check.Verdict.the-variants.{Passed, Failed, BadMask, BadMarks}
 use Rattle.bound.specs.Paths.{Longest}
-use Rattle.bound.specs.Bounds.{Asked, Held, Unbounded, Bounded, BoundAnswers, BoundDetermines}
+use Rattle.bound.specs.Bounds.{Asked, ReachedAbove, Unbounded, Bounded, BoundAnswers, BoundDetermines}
 use Rattle.bound.specs.Lists.{boundAt}
-use Rattle.bound.specs.Walk.{ToldOf, boundOf, endless}
+use Rattle.bound.specs.Lists.{boundOf, endless}
+use Rattle.bound.specs.Walk.{ToldOf}
 use Rattle.bound.specs.declared.bound.Bound.{Bound}
 use Rattle.bound.specs.declared.bound.Bound.the-variants.{NotReached, NoBound, Cycles, BadPair, MaskFails}
 use Rattle.bound.specs.declared.bound.Bound.the-variants.{BadMask as NoMask}
@@ -50,7 +51,7 @@ module _ (mask new : List ℕ) (a l : ℕ) (size : length mask ≡ 4096) (h : a 
       above : 0 < l
       above = omega (arith, z)
 
-      held : Held mask (pair a l)
+      held : ReachedAbove mask (pair a l)
       held = (above, marks .sound a l h k e)
 
       go : (b : Bool) → (b ≡ true → n ≡ endless) → (b ≡ false → n ≡ endless → ⊥) → BoundAnswers mask (pair a l) (pick b NoBound (Cycles n))

@@ -20,8 +20,10 @@ use Rattle.checker.proofs.Count.{after-set, getD-zeros}
 use Rattle.checker.proofs.Reach.{Targets, flow-targets}
 use Rattle.bound.specs.Paths.{Endless}
 use Rattle.bound.specs.Bounds.{BoundAnswers}
-use Rattle.bound.specs.Lists.{boundAt, placeOf, Entries, Largest, Called, CalledOnes}
-use Rattle.bound.specs.Walk.{endless, Leads, nextAddresses, HaltsAt, ToldOf, RemembersOf, TargetOf}
+use Rattle.bound.specs.Lists.{boundAt, placeOf, Entries, Largest, Called, CallTargets}
+use Rattle.bound.specs.Paths.{Leads}
+use Rattle.bound.specs.Lists.{endless}
+use Rattle.bound.specs.Walk.{nextAddresses, HaltsAt, ToldOf, RemembersOf, TargetOf}
 use Rattle.bound.proofs.Answers.{listed}
 use Rattle.bound.proofs.Turn.{Left, Turned, fresh, fresh-left}
 
@@ -149,12 +151,13 @@ module _ (mask marks : List ℕ) where
   -- the CALLs before address a
   pub record Calling (flags : List ℕ) (a : ℕ) : Type 0 where
     pub size : length flags ≡ 4096
+    pub flags-two : (t : ℕ) → getD flags t 0 ≤ 1
     pub sound : (t : ℕ) → getD flags t 0 ≡ 1 → Called mask marks t
     pub full : (t : ℕ) → t < addresses → (k : Called mask marks t) → k .from < a → getD flags t 0 ≡ 1
 
   pub calling-start : Calling (replicate 4096 0) 0
   calling-start =
-      record { size = length-replicate {A = ℕ} 4096 0; sound = λ t e. absurd (omega (arith, getD-zeros 4096 t)); full = λ t h k z. absurd (omega arith) }
+      record { size = length-replicate {A = ℕ} 4096 0; flags-two = λ t. omega (arith, getD-zeros 4096 t); sound = λ t e. absurd (omega (arith, getD-zeros 4096 t)); full = λ t h k z. absurd (omega arith) }
 
   abbrev pub TargetAt : ℕ → ℕ → Type 0
   TargetAt a r = TargetOf (pick (isMarked marks a 0) (flowAt mask a) Unread) r
@@ -171,6 +174,7 @@ module _ (mask marks : List ℕ) where
     calling-new l =
         record {
           size = length-set flags r 1 ∙ c .size;
+          flags-two = λ t. after-set (λ (v : ℕ). v ≤ 1) flags r t 1 (omega (arith, c .size)) (λ e. omega arith) (λ n. c .flags-two t);
           sound = λ t. after-set (λ (v : ℕ). v ≡ 1 → Called mask marks t) flags r t 1 (omega (arith, c .size)) (λ e z. new t e) (λ n. c .sound t);
           full = λ t i k z. after-set (λ (v : ℕ). v ≡ 1) flags r t 1 (omega (arith, c .size)) (λ e. refl)
               (λ n. c .full t i k (earlier t k z (λ e. n (sym (goes t k e)))));
@@ -188,6 +192,7 @@ module _ (mask marks : List ℕ) where
     calling-old l =
         record {
           size = c .size;
+          flags-two = c .flags-two;
           sound = c .sound;
           full = λ t i k z. c .full t i k (earlier t i k z (λ e. omega (arith, goes t k e)));
         }
@@ -195,6 +200,12 @@ module _ (mask marks : List ℕ) where
         earlier : (t : ℕ) → t < addresses → (k : Called mask marks t) → k .from < a + 1 → (k .from ≡ a → ⊥) → k .from < a
         earlier t i k z n = omega (arith, n)
 
-  pub calling-end : (flags : List ℕ) (a : ℕ) → Calling flags a → 4096 ≤ a → CalledOnes mask marks flags
+  pub calling-end : (flags : List ℕ) (a : ℕ) → Calling flags a → 4096 ≤ a → CallTargets mask marks flags
   calling-end flags a c h =
-      record { sound = λ t i e. c .sound t e; full = λ t i k. let l = k .in-range in c .full t i k (omega arith) }
+      record {
+        called = λ t i k. let l = k .in-range in c .full t i k (omega arith);
+        others = λ t i n. none (getD flags t 0) (c .flags-two t) (λ e. n (c .sound t e));
+      }
+    where
+      none : (v : ℕ) → v ≤ 1 → (v ≡ 1 → ⊥) → v ≡ 0
+      none v l n = omega (arith, n)

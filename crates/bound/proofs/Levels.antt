@@ -20,7 +20,8 @@ use Rattle.checker.specs.declared.flow.Flow.the-variants.{Unread, On, Enable, J
 use Rattle.checker.proofs.Chains.{all-member, to-map, of-map, reached-next, reached-all}
 use Rattle.bound.specs.Paths.{Loop, Endless, total, Spends, Longest}
 use Rattle.bound.specs.Bounds.{within, Returns, Halts, cyclesOf, Unbounded, Bounded}
-use Rattle.bound.specs.Walk.{addressOf, nextAddresses, HaltsAt, Last, Finite, ToldOf, endless, handedTo}
+use Rattle.bound.specs.Lists.{endless}
+use Rattle.bound.specs.Walk.{addressOf, nextAddresses, HaltsAt, Last, Finite, ToldOf, handedTo}
 use Rattle.bound.proofs.Addresses.{next-flow, returned-cycles}
 
 -- one of a list is one of a longer one
@@ -116,7 +117,7 @@ module _ (mask : List ℕ) where
     endless-pairs a e = record { at = at (e .at); reached = reaches-pairs (e .reached); shown = go (e .shown) }
       where
         go : Loop (nextAddresses mask) (e .at) ⊎ HaltsAt mask (e .at) → Loop (within mask) (at (e .at)) ⊎ Halts mask (at (e .at))
-        go (inl k) = inl (record { over = at (k .over); first = next-pair (e .at) (k .over) (k .first); back = reaches-pairs (k .back) })
+        go (inl k) = inl (record { over = at (k .over); first = next-pair (e .at) (k .over) (k .first); rest = reaches-pairs (k .rest) })
         go (inr h) = inr h
 
     pub endless-addresses : (a : ℕ) → Unbounded mask (at a) → Endless (nextAddresses mask) (HaltsAt mask) a
@@ -125,7 +126,7 @@ module _ (mask : List ℕ) where
       where
         go : In (e .at) → Loop (within mask) (e .at) ⊎ Halts mask (e .at) → Loop (nextAddresses mask) (addressOf (e .at)) ⊎ HaltsAt mask (addressOf (e .at))
         go i (inl k) =
-            inl (record { over = addressOf (k .over); first = next-address (e .at) (k .over) i (k .first); back = reaches-addresses (keeps (e .at) (k .over) i (k .first)) (k .back) .1 })
+            inl (record { over = addressOf (k .over); first = next-address (e .at) (k .over) i (k .first); rest = reaches-addresses (keeps (e .at) (k .over) i (k .first)) (k .rest) .1 })
         go i (inr h) = inr h
 
     -- ---- totals

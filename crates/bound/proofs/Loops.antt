@@ -34,7 +34,7 @@ module _ {A : Type 0} {next : A → List A} {Halts : A → Type 0} where
   pub once : {p r : A} {ps : List A} → Chain next p ps r → (Endless next Halts p → ⊥) → Once ps
   once one ends = ((λ m. let h = some m in omega arith), tt)
   once (more {q = q} m c) ends =
-      ((λ n. ends (endless-loop (record { over = q; first = m; back = reached-in c n }))), once c (λ e. ends (endless-over m e)))
+      ((λ n. ends (endless-loop (record { over = q; first = m; rest = reached-in c n }))), once c (λ e. ends (endless-over m e)))
 
 -- codes below n
 module _ (n : ℕ) (next : ℕ → List ℕ) (small : (k : ℕ) → Small n (next k)) {Halts : ℕ → Type 0} where

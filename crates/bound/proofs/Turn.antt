@@ -14,7 +14,9 @@ use Rattle.checker.specs.Chains.{Member, here, there}
 use Rattle.checker.specs.Walk.{zeros}
 use Rattle.checker.proofs.Chains.{all-member}
 use Rattle.checker.proofs.Count.{zeros-replicate, getD-zeros}
-use Rattle.bound.specs.Walk.{endless, settled, Leads, Remembers, Told, nextAddresses, HaltsAt, ToldOf, RemembersOf, StandsAt}
+use Rattle.bound.specs.Paths.{Leads}
+use Rattle.bound.specs.Lists.{endless}
+use Rattle.bound.specs.Walk.{settled, Remembers, Told, nextAddresses, HaltsAt, ToldOf, RemembersOf, StandsAt}
 use Rattle.bound.specs.declared.ways.Ways.{Ways}
 use Rattle.bound.specs.declared.ways.Ways.the-variants.{Stop, Out, One, Two}
 use Rattle.bound.proofs.Addresses.{two-cycles, next-small}

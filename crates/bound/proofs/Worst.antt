@@ -18,7 +18,9 @@ use Rattle.checker.specs.Walk.{Small, zeros}
 use Rattle.checker.proofs.Chains.{all-member, reached-start, reached-next}
 use Rattle.checker.proofs.Count.{after-set}
 use Rattle.bound.specs.Paths.{Loop, Endless, total, Spends, Longest}
-use Rattle.bound.specs.Walk.{endless, settled, Leads, Last, Finite, Told, Remembers}
+use Rattle.bound.specs.Paths.{Leads}
+use Rattle.bound.specs.Lists.{endless}
+use Rattle.bound.specs.Walk.{settled, Last, Finite, Told, Remembers}
 use Rattle.bound.proofs.Loops.{endless-over, endless-loop, few}
 
 -- ---- counting what is not found yet
@@ -107,7 +109,7 @@ module _ (next : ℕ → List ℕ) (Halt : ℕ → Type 0) (cost : ℕ → ℕ) 
     ends-here f e = go (e .reached .links) (e .shown)
       where
         go : {at : ℕ} {ps : List ℕ} → Chain next a ps at → Loop next at ⊎ Halt at → ⊥
-        go one (inl l) = worst .ends f (l .over) (l .first) (record { at = a; reached = l .back; shown = inl l })
+        go one (inl l) = worst .ends f (l .over) (l .first) (record { at = a; reached = l .rest; shown = inl l })
         go one (inr h) = going h
         go {at} (more {q = q} {ps = ps} m c) s = worst .ends f q m (record { at = at; reached = record { chain = ps; links = c }; shown = s })
 
@@ -174,7 +176,7 @@ module _ (next : ℕ → List ℕ) (Halt : ℕ → Type 0) (cost : ℕ → ℕ) 
       where
         go : Endless next Halt a ⊎ Leads next a a → Endless next Halt a
         go (inl e) = e
-        go (inr l) = endless-loop (record { over = l .over; first = l .first; back = l .rest })
+        go (inr l) = endless-loop l
 
     pub stays : Remembers next Halt cost (λ (k : ℕ). getD found k 0 ≡ endless) found
     stays = record { size = before .size; unbounded = λ k e. inr e; bounded = before .bounded }

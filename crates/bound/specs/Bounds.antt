@@ -1,16 +1,14 @@
 -- Document 02, wish 5, "How long an edge is held": successors within a level, chains to a return and their cycles, 'no bound', and what each answer
 -- says. Assumes nothing.
-use Prim.Native.Nat.{ℕ, _<_, _≤_}
+use Prim.Native.Nat.{ℕ, _<_}
 use mathlib.Core.Path.{_≡_}
-use mathlib.Core.List.{List, []}
-use mathlib.Core.Logic.{_⊎_}
+use mathlib.Core.List.{List}
 use lib.Dec.{eqb}
 use lib.ListN.{length}
-use Rattle.isa.specs.Choice.{pick}
 use Rattle.isa.specs.declared.Instruction.the-variants as I
 use Rattle.isa.specs.declared.decoder.Decoded.the-variants.{Read}
 use Rattle.rom.specs.Fetching.{readAt, cyclesAt, movedFrom}
-use Rattle.checker.specs.Marks.{addresses, levels, Pair, pair, flowAt, onward, fault, Reached}
+use Rattle.checker.specs.Marks.{addresses, levels, Pair, flowAt, onward, unlessForbidden, Reached}
 use Rattle.checker.specs.Verdicts.{Safe}
 use Rattle.checker.specs.Ways.{either}
 use Rattle.checker.specs.declared.flow.Flow.the-variants.{Back}
@@ -18,11 +16,10 @@ use Rattle.bound.specs.Paths.{Endless, Longest}
 use Rattle.bound.specs.declared.bound.Bound.{Bound}
 use Rattle.bound.specs.declared.bound.Bound.the-variants.{NotReached, NoBound, Cycles, BadMask, BadPair, MaskFails}
 
--- "The vector successors of EI are not followed": document 01's successors without them. Above level 0, where CALL is forbidden, they are in the pair's
--- own level
+-- "The vector successors of EI are not followed": document 01's successors without them. Above level 0 CALL is forbidden, so that each one left is in
+-- the pair's own level: hence "reached in that level"
 unfoldable pub within : List ℕ → Pair → List Pair
-within mask p =
-    pick (eqb (fault mask p) 0) (onward (flowAt mask (p .address)) (movedFrom mask (p .address)) (p .level)) []
+within mask p = unlessForbidden mask p (onward (flowAt mask (p .address)) (movedFrom mask (p .address)) (p .level))
 
 -- "a return": RET or RETI
 abbrev pub Returns : List ℕ → Pair → Type 0
@@ -56,10 +53,10 @@ pub record Asked (mask : List ℕ) (p : Pair) : Type 0 where
   pub passed : Safe mask
 
 -- "'not reached' if it is unmarked or in level 0": marked are the pairs that the checker's chains reach
-abbrev pub Held : List ℕ → Pair → Type 0
-Held mask p = (0 < p .level) × Reached mask p
+abbrev pub ReachedAbove : List ℕ → Pair → Type 0
+ReachedAbove mask p = (0 < p .level) × Reached mask p
 
--- the paper's number of each answer, 0 for an answer that is not refused: "15 if the mask fails, after 1 and 5 (a pair out of range)"
+-- the paper's number of each answer, 0 for an answer that is not refused
 abbrev pub boundRefusal : Bound → ℕ
 boundRefusal NotReached = 0
 boundRefusal NoBound = 0
@@ -78,9 +75,9 @@ BoundRefused mask p n =
 
 -- what each answer says of the mask and the pair
 abbrev pub BoundAnswers : List ℕ → Pair → Bound → Type 0
-BoundAnswers mask p NotReached = Asked mask p × (Held mask p → ⊥)
-BoundAnswers mask p NoBound = Asked mask p × Held mask p × Unbounded mask p
-BoundAnswers mask p (Cycles n) = Asked mask p × Held mask p × Bounded mask p n
+BoundAnswers mask p NotReached = Asked mask p × (ReachedAbove mask p → ⊥)
+BoundAnswers mask p NoBound = Asked mask p × ReachedAbove mask p × Unbounded mask p
+BoundAnswers mask p (Cycles n) = Asked mask p × ReachedAbove mask p × Bounded mask p n
 BoundAnswers mask p BadMask = BoundRefused mask p (boundRefusal BadMask)
 BoundAnswers mask p BadPair = BoundRefused mask p (boundRefusal BadPair)
 BoundAnswers mask p MaskFails = BoundRefused mask p (boundRefusal MaskFails)

@@ -1,5 +1,5 @@
--- The bounds of all pairs above level 0 in one list, for a bench that asks for many: an entry for each address and its levels 1 and 2. The longest an edge
--- can wait is its largest entry. Then the targets of the CALLs that a mask may run. Assumes nothing.
+-- The bounds of all pairs above level 0 in one list, for a bench that asks for many: an entry for each address and its levels 1 and 2. Its largest entry
+-- is the longest that a program can stay above main. Then the targets of the CALLs that a mask may run. Assumes nothing.
 use Prim.Native.Nat.{ℕ, _+_, _*_, _-_, _<_, _≤_}
 use mathlib.Core.Path.{_≡_}
 use mathlib.Core.Bool.{true}
@@ -18,9 +18,16 @@ use Rattle.bound.specs.declared.bound.Bound.the-variants.{NotReached, No
 use Rattle.bound.specs.declared.bounds.Bounds.{Bounds}
 use Rattle.bound.specs.declared.bounds.Bounds.the-variants.{Listed, BadMask, BadList, MaskFails}
 
--- an entry: 0 for 'not reached', 65,535 for 'no bound', else the cycles
+-- 'no bound' as a number: no bound has as many cycles
+abbrev pub endless : ℕ
+endless = 65535
+
+abbrev pub boundOf : ℕ → Bound
+boundOf n = pick (eqb n endless) NoBound (Cycles n)
+
+-- an entry: 0 for 'not reached', since a return takes a cycle
 abbrev pub boundAt : ℕ → Bound
-boundAt n = pick (eqb n 0) NotReached (pick (eqb n 65535) NoBound (Cycles n))
+boundAt n = pick (eqb n 0) NotReached (boundOf n)
 
 -- a pair's place, by address and then level
 abbrev pub placeOf : ℕ → ℕ → ℕ
@@ -30,7 +37,7 @@ placeOf a l = a * 2 + (l - 1)
 abbrev pub Entries : List ℕ → List ℕ → Type 0
 Entries mask list = (a l : ℕ) → a < addresses → 0 < l → l < levels → BoundAnswers mask (pair a l) (boundAt (getD list (placeOf a l) 0))
 
--- the paper's number of each answer: wish 5's, but for a pair's, and document 01's 2 for a lent list of another length
+-- the number of each answer: wish 5's, but for a pair's; 2 for a list of another length, as document 01 has it for marks
 abbrev pub boundsRefusal : Bounds → ℕ
 boundsRefusal Listed = 0
 boundsRefusal BadMask = 1
@@ -47,12 +54,12 @@ BoundsRefused mask old n =
 
 -- what each answer says of the mask, and of the list at entry and at exit; after a refusal the list is as it was
 abbrev pub BoundsAnswer : List ℕ → List ℕ → List ℕ → Bounds → Type 0
-BoundsAnswer mask old new Listed = (length new ≡ 8192) × Entries mask new
+BoundsAnswer mask old new Listed = (length old ≡ 8192) × (length new ≡ 8192) × Entries mask new
 BoundsAnswer mask old new BadMask = BoundsRefused mask old (boundsRefusal BadMask) × (new ≡ old)
 BoundsAnswer mask old new BadList = BoundsRefused mask old (boundsRefusal BadList) × (new ≡ old)
 BoundsAnswer mask old new MaskFails = BoundsRefused mask old (boundsRefusal MaskFails) × (new ≡ old)
 
--- the longest an edge can wait: the first place whose entry is the largest
+-- the first place whose entry is the largest
 pub record Largest (list : List ℕ) (place : ℕ) : Type 0 where
   pub below : 0 < length list → place < length list
   pub most : (k : ℕ) → k < length list → getD list k 0 ≤ getD list place 0
@@ -67,7 +74,7 @@ pub record Called (mask marks : List ℕ) (t : ℕ) : Type 0 where
   pub there : target .0 ≡ t
   pub marked : isMarked marks from 0 ≡ true
 
--- a flag for each address, 1 where it is called
-pub record CalledOnes (mask marks flags : List ℕ) : Type 0 where
-  pub sound : (t : ℕ) → t < addresses → getD flags t 0 ≡ 1 → Called mask marks t
-  pub full : (t : ℕ) → t < addresses → Called mask marks t → getD flags t 0 ≡ 1
+-- a flag for each address: 1 where it is called, else 0
+pub record CallTargets (mask marks flags : List ℕ) : Type 0 where
+  pub called : (t : ℕ) → t < addresses → Called mask marks t → getD flags t 0 ≡ 1
+  pub others : (t : ℕ) → t < addresses → (Called mask marks t → ⊥) → getD flags t 0 ≡ 0

@@ -7,11 +7,15 @@ use mathlib.Core.Logic.{_⊎_}
 use Rattle.checker.specs.Chains.{Member, Chain, Reaches}
 
 module _ {A : Type 0} where
-  -- a loop: from an element over a successor back to it
-  pub record Loop (next : A → List A) (p : A) : Type 0 where
+  -- from one element, over a successor, to another
+  pub record Leads (next : A → List A) (from to : A) : Type 0 where
     pub over : A
-    pub first : Member over (next p)
-    pub back : Reaches next over p
+    pub first : Member over (next from)
+    pub rest : Reaches next over to
+
+  -- a loop: back to itself
+  abbrev pub Loop : (A → List A) → A → Type 0
+  Loop next p = Leads next p p
 
   -- "a loop or a HALT can be reached"
   pub record Endless (next : A → List A) (Halts : A → Type 0) (p : A) : Type 0 where

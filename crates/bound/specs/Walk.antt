@@ -1,8 +1,7 @@
 -- The walk, as the private functions state it, over any successor function on addresses: what a number says of an address, and what is remembered.
 -- Then what stands at an address of a mask. No promise of an exported function cites it. Assumes nothing.
-use Prim.Native.Nat.{ℕ, _+_, _<_, _≤_}
+use Prim.Native.Nat.{ℕ, _+_}
 use mathlib.Core.Path.{_≡_}
-use mathlib.Core.Bool.{Bool, true, false}
 use mathlib.Core.List.{List, [], _∷_, map}
 use mathlib.Core.Logic.{_⊎_}
 use lib.Dec.{eqb}
@@ -12,35 +11,18 @@ use Rattle.isa.specs.declared.Instruction.{Instruction}
 use Rattle.isa.specs.declared.Instruction.the-variants as I
 use Rattle.isa.specs.declared.decoder.Decoded.the-variants.{Read}
 use Rattle.rom.specs.Fetching.{readAt, cyclesAt}
-use Rattle.checker.specs.Chains.{Member, Reaches}
 use Rattle.checker.specs.Marks.{Pair, pair, flowOf, faultIn, onward}
-use Rattle.checker.specs.Walk.{zeros}
 use Rattle.checker.specs.declared.flow.Flow.{Flow}
 use Rattle.checker.specs.declared.flow.Flow.the-variants.{Unread, On, Enable, Jump, To, Sub, Back}
 use Rattle.bound.specs.Paths.{Endless, Longest}
 use Rattle.bound.specs.Bounds.{within}
-use Rattle.bound.specs.declared.bound.Bound.{Bound}
-use Rattle.bound.specs.declared.bound.Bound.the-variants.{NoBound, Cycles}
+use Rattle.bound.specs.Lists.{endless}
 use Rattle.bound.specs.declared.ways.Ways.{Ways}
 use Rattle.bound.specs.declared.ways.Ways.the-variants.{Stop, Out, One, Two}
-
--- no bound, as the walk writes it
-abbrev pub endless : ℕ
-endless = 65535
 
 -- the cycles of an address before the most that can follow
 abbrev pub settled : ℕ → ℕ → ℕ
 settled worst cycles = pick (eqb worst endless) endless (worst + cycles)
-
--- the answer for a number of the walk at a marked pair above main
-abbrev pub boundOf : ℕ → Bound
-boundOf n = pick (eqb n endless) NoBound (Cycles n)
-
--- from one address, over a successor, to another
-pub record Leads (next : ℕ → List ℕ) (from to : ℕ) : Type 0 where
-  pub over : ℕ
-  pub first : Member over (next from)
-  pub rest : Reaches next over to
 
 -- nothing follows
 abbrev pub Last : (ℕ → List ℕ) → ℕ → Type 0

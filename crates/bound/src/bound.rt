@@ -2,7 +2,7 @@
 ghost use mathlib.Core.Path.{_≡_};
 ghost use Rattle.checker.specs.Marks.{pair};
 ghost use Rattle.bound.specs.Bounds.{BoundAnswers};
-ghost use Rattle.bound.specs.Walk.{boundOf};
+ghost use Rattle.bound.specs.Lists.{boundOf};
 use crate::longest::ENDLESS;
 use crate::longest::longest;
 use checker::check::Verdict;

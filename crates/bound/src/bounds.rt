@@ -1,11 +1,11 @@
 // The bounds of all pairs above main, in one list by address, then level: 0 for not reached, 65,535 for no bound, else the cycles.
 ghost use mathlib.Core.Path.{_≡_};
 ghost use Prim.Native.Nat.{_<_};
-ghost use lib.ListN.{length};
+ghost use lib.ListN.{getD, length};
 ghost use Rattle.isa.specs.Choice.{pick};
 ghost use Rattle.checker.specs.Marks.{addresses, levels};
 ghost use Rattle.checker.specs.Verdicts.{Marked, Safe, isMarked};
-ghost use Rattle.bound.specs.Lists.{BoundsAnswer, Entries, Largest};
+ghost use Rattle.bound.specs.Lists.{BoundsAnswer, Entries, Largest, placeOf};
 use crate::longest::longest;
 use checker::check::Verdict;
 use checker::check::check;
@@ -22,7 +22,7 @@ pub enum Bounds {
     MaskFails,
 }
 
-// The entry of a pair that has this number if it is marked.
+// A pair's entry for the number of its address: 0 where it is not marked.
 fn entry(marks: &[u8; 4096], address: u16, level: u8, number: u16) -> u16
     requires { ⌜ (address < addresses) × (level < levels) ⌝ }
     ensures { λ r. ⌜ r ≡ pick (isMarked (now (marks .entry)) address level) number 0 ⌝ }
@@ -68,7 +68,15 @@ pub fn bounds_of(mask: &[u8], list: &mut [u16]) -> Bounds
     Bounds::Listed
 }
 
-// The first place of a largest entry: the longest an edge can wait.
+// The entry of a pair above main.
+pub fn entry_of(list: &[u16], address: u16, level: u8) -> u16
+    requires { ⌜ (length (now list) ≡ 8192) × (address < addresses) × (0 < level) × (level < levels) ⌝ }
+    ensures { λ r. ⌜ r ≡ getD (now (list .entry)) (placeOf address level) 0 ⌝ }
+{
+    list[address as usize * 2 + (level as usize - 1)]
+}
+
+// The first place of a largest entry.
 pub fn largest(list: &[u16]) -> usize
     ensures { λ r. ⌜ Largest (now (list .entry)) r ⌝ }
 {

@@ -4,7 +4,7 @@ ghost use Rattle.isa.specs.Choice.{pick};
 ghost use Rattle.checker.specs.Marks.{addresses, flowAt};
 ghost use Rattle.checker.specs.Verdicts.{isMarked};
 ghost use Rattle.checker.specs.declared.flow.Flow.the-variants.{Unread};
-ghost use Rattle.bound.specs.Lists.{CalledOnes};
+ghost use Rattle.bound.specs.Lists.{CallTargets};
 ghost use Rattle.bound.specs.Walk.{TargetOf};
 use checker::check::is_marked;
 use checker::flow::Flow;
@@ -18,7 +18,8 @@ fn called_at(mask: &[u8], marks: &[u8; 4096], address: u16) -> u16
     if !is_marked(marks, address, 0) {
         return 4096;
     }
-    match flow_at(mask, address * 3) {
+    let code = address * 3; // its pair's in main
+    match flow_at(mask, code) {
         Flow::Sub(t) => t.0,
         _ => 4096,
     }
@@ -26,7 +27,7 @@ fn called_at(mask: &[u8], marks: &[u8; 4096], address: u16) -> u16
 
 // A flag for each address, 1 where a CALL marked in main has it as its target.
 pub fn call_targets(mask: &[u8], marks: &[u8; 4096]) -> [u8; 4096]
-    ensures { λ r. ⌜ CalledOnes (now (mask .entry)) (now (marks .entry)) r ⌝ }
+    ensures { λ r. ⌜ CallTargets (now (mask .entry)) (now (marks .entry)) r ⌝ }
 {
     let mut targets = [0u8; 4096];
     let mut address: u16 = 0;

@@ -5,7 +5,9 @@ ghost use lib.Dec.{ltb};
 ghost use lib.ListN.{getD, set};
 ghost use Rattle.isa.specs.Choice.{pick};
 ghost use Rattle.checker.specs.Walk.{zeros};
-ghost use Rattle.bound.specs.Walk.{Leads, RemembersOf, ToldOf, endless, nextAddresses, settled};
+ghost use Rattle.bound.specs.Paths.{Leads};
+ghost use Rattle.bound.specs.Lists.{endless};
+ghost use Rattle.bound.specs.Walk.{RemembersOf, ToldOf, nextAddresses, settled};
 use crate::ways::Ways;
 use crate::ways::ways_at;
 use rom::reader::byte_at;
@@ -39,8 +41,8 @@ fn settle(found: &mut [u16; 4096], address: u16, worst: u16, timing: u8) -> u16
     all
 }
 
-// The most cycles from an address to a return. `left` is how many pairs a chain can still have: those not found yet. The second way is often known: a
-// look saves the call.
+// The most cycles from an address to a return. `left` is the measure, the pairs that a chain can still have: at least as many as are not found yet. The
+// second way is often known: a look saves the call.
 pub(crate) fn longest(mask: &[u8], found: &mut [u16; 4096], address: u16, left: u16) -> u16
     requires { ⌜ (address < 4096) × (zeros (now found) ≤ left) ⌝ }
     requires { ⌜ RemembersOf (now mask) (λ (k : ℕ). Leads (nextAddresses (now mask)) k address) (now found) ⌝ }

@@ -1,5 +1,5 @@
 // Where what stands at an address hands the program on above main. It goes by the instruction and not by the checker's flow: a second caller of
-// that would make it a call in the checker's walk.
+// that in a library makes it a call in the checker's walk.
 ghost use mathlib.Core.Path.{_≡_};
 ghost use Rattle.rom.specs.Fetching.{byteAt, movedFrom};
 ghost use Rattle.bound.specs.Walk.{HandedOn, StandsAt};

@@ -30,9 +30,9 @@ use Rattle.machine.specs.declared.Machine.{Machine}
 use Rattle.machine.specs.declared.events.Event.the-variants.{Run, Pins as PinsEvent, Int, Tmclk, Res}
 use Rattle.machine.specs.declared.events.Named.the-variants.{Known, Unknown}
 use Rattle.checker.specs.Verdicts.{Safe}
-use Rattle.bound_laws.specs.Delay.{spentIn, stepsOf, spent, Quiet, run, UpTo, this, later, Taken, HeldNoLonger}
+use Rattle.bound_laws.specs.Delay.{spentIn, stepsOf, spent, NoRestart, run, UpTo, this, later, Taken, DelayBounded}
 use Rattle.bound_laws.proofs.Ends.{finds}
-use Rattle.bound_laws.proofs.Sides.{Aside, ticked-held, ticked-stack, counting-same as counting-aside}
+use Rattle.bound_laws.proofs.Sides.{Aside, ticked-cycles, ticked-held, ticked-stack, counting-same as counting-aside}
 use Rattle.bound_laws.proofs.Waiting.{Waiting, InMain, To, Ran, joined, ran-on}
 
 -- what an input spends
@@ -106,7 +106,7 @@ module _ (mask : List ℕ) (safe : Safe mask) (bytes : Bytes mask) (n : ℕ) whe
         go true e = stepped e (ran-on mask safe n r k (stateOf m) w awake)
         go false e = inl (rw add-zero stays)
 
-    input-one : (given : List ℕ) (i : Input) → UnderMask mask (record { mask = given; input = i }) → Quiet (record { mask = given; input = i })
+    input-one : (given : List ℕ) (i : Input) → UnderMask mask (record { mask = given; input = i }) → NoRestart (record { mask = given; input = i })
         → One k given i m
     unfolding applied happened pinned interrupted counting stepsOf spentIn
     input-one given (power options image) u q = absurd (q .0 options image refl)
@@ -125,7 +125,7 @@ module _ (mask : List ℕ) (safe : Safe mask) (bytes : Bytes mask) (n : ℕ) whe
     input-one given (named (Known Res)) u q = absurd (q .1 refl)
 
   -- ---- every list
-  found : (calls : List Call) → Every (UnderMask mask) calls → Every Quiet calls → (k : ℕ) (m : Machine) → Waiting mask safe n k (standing (m .cpu))
+  found : (calls : List Call) → Every (UnderMask mask) calls → Every NoRestart calls → (k : ℕ) (m : Machine) → Waiting mask safe n k (standing (m .cpu))
       → m .cpu .status .halted ≡ 0 → n ≤ k + spent calls m → Found k calls m
   unfolding spent after
   found [] u q k m w a h =
@@ -169,10 +169,11 @@ edge-taken mask s l h f e d = subst (λ (t : State). Taken (s .cpu) (t .cpu)) (t
           cleared = ticked-held 2 new;
           stacked = ticked-stack 2 new;
           level = ap (λ (x : Standing). x .level) (ticked-same 2 new);
+          cycles = ticked-cycles 2 new;
         }
 
-pub held-no-longer : HeldNoLonger
-held-no-longer mask bytes n m (asked, (above, reached), bounded) awake no-fault calls under quiet enough =
+pub delay-bounded : DelayBounded
+delay-bounded mask bytes n m (asked, (above, reached), bounded) awake no-fault calls under quiet enough =
     let safe = asked .passed in
     let w : Waiting mask safe n 0 (standing (m .cpu)) = record {
       waits = record { reached = reached; above = above; ends = bounded .ends };

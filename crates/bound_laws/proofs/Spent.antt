@@ -29,7 +29,7 @@ use Rattle.machine.specs.declared.events.Event.{Event}
 use Rattle.machine.specs.declared.events.Event.the-variants.{Run, Pins, Int, Tmclk, Res}
 use Rattle.machine.specs.declared.events.Named.the-variants.{Known, Unknown}
 use Rattle.cpu.proofs.Leaves.{Standing, ticked-same}
-use Rattle.bound_laws.specs.Delay.{spentBy, spentIn, stepsOf, spent, Quiet, SpentCounts}
+use Rattle.bound_laws.specs.Delay.{spentBy, spentIn, stepsOf, spent, NoRestart, SpentCounts}
 use Rattle.bound_laws.proofs.Sides.{Aside, effect-sides, counting-same, ticked-cycles}
 
 -- the vector is one of three
@@ -154,7 +154,7 @@ module _ (mask : List ℕ) (m : Machine) (small : m .cpu .cycles < 2 ^ 32) where
       answered-counts (refusalOf mask e m) (spentIn mask (stepsOf (named (Known e))) (stateOf m)) (happened mask e m) (happened-counts e)
   input-counts (named Unknown) q = answered-counts (pick (valid (stateOf m)) 7 5) 0 m (same-count refl)
 
-list-counts : (calls : List Call) (m : Machine) → Every Quiet calls → m .cpu .cycles < 2 ^ 32
+list-counts : (calls : List Call) (m : Machine) → Every NoRestart calls → m .cpu .cycles < 2 ^ 32
     → after calls m .cpu .cycles ≡ (m .cpu .cycles + spent calls m) % 2 ^ 32
 unfolding after spent
 list-counts [] m q h = none [] (stateOf m) h

@@ -1,11 +1,12 @@
 -- Document 02, wish 5, of the engine: "For every list of events without RES or power-on, applied under that mask to a machine at a bounded pair, not
 -- halted or faulted: once its steps have spent that many cycles, it has come to level 0". One claim over whole lists. It speaks of what the exported
--- functions promise: `bound` promises `BoundAnswers`, and the machine's functions `answerTo` of each input, which `after` puts together. Assumes
--- nothing.
+-- functions promise: `bound_of` promises `BoundAnswers`, `bounds_of` `BoundsAnswer`, and the machine's functions `answerTo` of each input, which `after`
+-- puts together. Assumes nothing.
 use Prim.Native.Nat.{ℕ, zero, suc, _+_, _%_, _^_, _<_, _≤_}
 use mathlib.Core.Path.{_≡_}
 use mathlib.Core.List.{List, [], _∷_}
 use lib.Dec.{eqb}
+use lib.ListN.{getD}
 use Rattle.isa.specs.Choice.{pick}
 use Rattle.rom.specs.Fetching.{Bytes, cyclesAt}
 use Rattle.cpu.specs.State.{State}
@@ -18,8 +19,10 @@ use Rattle.machine.specs.declared.Machine.{Machine}
 use Rattle.machine.specs.declared.events.Event.the-variants.{Run, Pins, Int, Tmclk, Res}
 use Rattle.machine.specs.declared.events.Named.the-variants.{Known, Unknown}
 use Rattle.checker.specs.Marks.{pair}
-use Rattle.bound.specs.Bounds.{BoundAnswers}
+use Rattle.bound.specs.Bounds.{BoundAnswers, ReachedAbove}
+use Rattle.bound.specs.Lists.{endless, BoundsAnswer, Largest}
 use Rattle.bound.specs.declared.bound.Bound.the-variants.{Cycles}
+use Rattle.bound.specs.declared.bounds.Bounds.the-variants.{Listed}
 
 -- ---- "its steps have spent that many cycles": a count of their own, not the 32-bit one, which goes on past its largest value to zero
 -- one step: "A step when halted or faulted changes nothing"; where an interrupt is taken, "2 cycles"; else the instruction's, by document 01's list,
@@ -55,8 +58,8 @@ spent (k ∷ ks) m =
 
 -- ---- "it has come to level 0"
 -- "events without RES or power-on"
-abbrev pub Quiet : Call → Type 0
-Quiet k = ((options : Options) (image : List ℕ) → k .input ≡ power options image → ⊥) × (k .input ≡ named (Known Res) → ⊥)
+abbrev pub NoRestart : Call → Type 0
+NoRestart k = ((options : Options) (image : List ℕ) → k .input ≡ power options image → ⊥) × (k .input ≡ named (Known Res) → ⊥)
 
 abbrev pub run : List ℕ → ℕ → Call
 run mask n = record { mask = mask; input = named (Known (Run n)) }
@@ -66,15 +69,16 @@ pub data UpTo : List Call → List Call → Type 0 where
   this : {mask : List ℕ} {i n : ℕ} {ks : List Call} → 0 < i → i ≤ n → UpTo (run mask n ∷ ks) (run mask i ∷ [])
   later : {k : Call} {ks js : List Call} → UpTo ks js → UpTo (k ∷ ks) (k ∷ js)
 
--- "a held edge is taken (PC 8, held edge cleared) ..; the old PC and CF go to the stack, level 2"
+-- "a held edge is taken (PC 8, held edge cleared) ..; the old PC and CF go to the stack, level 2, 2 cycles"
 pub record Taken (old new : Cpu) : Type 0 where
   pub vector : new .control .pc .0 ≡ 8
   pub cleared : new .interrupts .held ≡ 0
   pub stacked : new .stack ≡ record { address = old .control .pc; carry = old .control .cf }
   pub level : new .interrupts .level ≡ 2
+  pub cycles : new .cycles ≡ (old .cycles + 2) % 2 ^ 32
 
 -- after some step of the list the machine is in level 0 and goes on, and no more than n cycles are spent by then. An edge held from the start is held
--- still; an edge held there is taken by the next step if interrupts are enabled: the delay is n cycles at most
+-- still; an edge held there is taken by the next step if interrupts are enabled: n cycles at most before it, and that step's own 2 after them
 pub record Came (mask : List ℕ) (n : ℕ) (calls : List Call) (m : Machine) : Type 0 where
   pub until : List Call
   pub far : UpTo calls until
@@ -87,18 +91,29 @@ pub record Came (mask : List ℕ) (n : ℕ) (calls : List Call) (m : Machine) : 
       → Taken (after until m .cpu) (step mask (stateOf (after until m)) .cpu)
 
 -- the whole claim. The events are in any order and number, refused ones too. Of the machine nothing else is asked: its stack, flags and memory are
--- any. One out of range refuses every Run, so its steps spend nothing
-abbrev pub HeldNoLonger : Type 0
-HeldNoLonger =
+-- any. One out of range refuses every Run and spends nothing, less than any bound
+abbrev pub DelayBounded : Type 0
+DelayBounded =
     (mask : List ℕ) → Bytes mask
     → (n : ℕ) (m : Machine) → BoundAnswers mask (pair (m .cpu .control .pc .0) (m .cpu .interrupts .level)) (Cycles n)
     → m .cpu .status .halted ≡ 0 → m .cpu .status .fault ≡ 0
-    → (calls : List Call) → Every (UnderMask mask) calls → Every Quiet calls
+    → (calls : List Call) → Every (UnderMask mask) calls → Every NoRestart calls
     → n ≤ spent calls m → Came mask n calls m
+
+-- wherever above main an edge finds the program: the largest entry of the list of all bounds, where it is a bound, does for every pair that the mask may
+-- run. The entries have 16 bits
+abbrev pub LongestWait : Type 0
+LongestWait =
+    (mask old list : List ℕ) → Bytes mask → BoundsAnswer mask old list Listed → ((k : ℕ) → getD list k 0 < 2 ^ 16)
+    → (place : ℕ) → Largest list place → (getD list place 0 ≡ endless → ⊥)
+    → (m : Machine) → ReachedAbove mask (pair (m .cpu .control .pc .0) (m .cpu .interrupts .level))
+    → m .cpu .status .halted ≡ 0 → m .cpu .status .fault ≡ 0
+    → (calls : List Call) → Every NoRestart calls → Every (UnderMask mask) calls
+    → getD list place 0 ≤ spent calls m → Came mask (getD list place 0) calls m
 
 -- ---- the count is the machine's cycle count, without the wrap: "The cycle count has 32 bits and goes on past its largest value to zero"
 pub record SpentCounts : Type 0 where
   pub step-counts : (mask : List ℕ) (s : State) → s .cpu .cycles < 2 ^ 32
       → step mask s .cpu .cycles ≡ (s .cpu .cycles + spentBy mask s) % 2 ^ 32
-  pub list-counts : (calls : List Call) (m : Machine) → Every Quiet calls → m .cpu .cycles < 2 ^ 32
+  pub list-counts : (calls : List Call) (m : Machine) → Every NoRestart calls → m .cpu .cycles < 2 ^ 32
       → after calls m .cpu .cycles ≡ (m .cpu .cycles + spent calls m) % 2 ^ 32

@@ -89,9 +89,11 @@ abbrev pub handed : Flow → ℕ → ℕ → List Pair
 handed f moved l = onward f moved l ++ vectors f
 
 -- "A forbidden pair has no successors"
+abbrev pub unlessForbidden : List ℕ → Pair → List Pair → List Pair
+unlessForbidden mask p qs = pick (eqb (fault mask p) 0) qs []
+
 unfoldable pub successors : List ℕ → Pair → List Pair
-successors mask p =
-    pick (eqb (fault mask p) 0) (handed (flowAt mask (p .address)) (movedFrom mask (p .address)) (p .level)) []
+successors mask p = unlessForbidden mask p (handed (flowAt mask (p .address)) (movedFrom mask (p .address)) (p .level))
 
 -- "the pairs that chains from address 0, level 0 reach"
 abbrev pub Reached : List ℕ → Pair → Type 0

@@ -1,10 +1,12 @@
-// `checkmask`: reads mask.bin and prints `passed`, or `fault F at AAA level L` and then a shortest way there, a line a pair: address, level, bytes
-// and instruction. A mask of another length, or none, gives `refused 1`. What it prints is decided by the proved functions of `checker` and
-// `mnemonic`; here a file is read and lines are written.
+// `checkmask`: reads mask.bin and prints `passed`, then the bounds of both vectors and of each CALL target, and the longest of all; or `fault F at AAA
+// level L` and then a shortest way there, a line a pair: address, level, bytes and instruction. A mask of another length, or none, gives `refused 1`.
+// What it prints is decided by the proved functions of `checker`, `bound` and `mnemonic`; here a file is read and lines are written.
 ghost use mathlib.Core.Path.{_≡_};
 ghost use Prim.Native.Nat.{_*_, _<_, _≤_};
 ghost use lib.ListN.{length};
+ghost use Rattle.checker.specs.Marks.{addresses, levels};
 use bound::bounds::bounds_of;
+use bound::bounds::entry_of;
 use bound::bounds::largest;
 use bound::calls::call_targets;
 use checker::check::Verdict;
@@ -103,23 +105,19 @@ fn put_way(mask: &[u8]) {
     }
 }
 
-fn put_failed(fault: u8, address: u16, level: u8) {
-    put(b"fault ");
-    io::print_decimal(STDOUT_FILENO, fault as u64);
-    put(b" at ");
-    put_address(address);
-    put(b" level ");
-    io::print_decimal(STDOUT_FILENO, level as u64);
-    put(b"\n");
-}
-
 // " at ", a pair, and the end of its line or what follows.
-fn put_place(address: u16, level: u16, end: &[u8]) {
+fn put_place(address: u16, level: u8, end: &[u8]) {
     put(b" at ");
     put_address(address);
     put(b" level ");
     io::print_decimal(STDOUT_FILENO, level as u64);
     put(end);
+}
+
+fn put_failed(fault: u8, address: u16, level: u8) {
+    put(b"fault ");
+    io::print_decimal(STDOUT_FILENO, fault as u64);
+    put_place(address, level, b"\n");
 }
 
 // Cycles, or what the list of bounds has in their place.
@@ -134,12 +132,12 @@ fn put_cycles(cycles: u16) {
 }
 
 // The bound of a pair above main.
-fn put_bound(list: &[u16], address: u16, level: u16)
-    requires { ⌜ (length (now list) ≡ 8192) × (address < 4096) × (1 ≤ level) × (level ≤ 2) ⌝ }
+fn put_bound(list: &[u16], address: u16, level: u8)
+    requires { ⌜ (length (now list) ≡ 8192) × (address < addresses) × (0 < level) × (level < levels) ⌝ }
 {
     put(b"bound");
     put_place(address, level, b": ");
-    put_cycles(list[address as usize * 2 + level as usize - 1]);
+    put_cycles(entry_of(list, address, level));
     put(b"\n");
 }
 
@@ -155,25 +153,27 @@ fn put_targets(list: &[u16], targets: &[u8; 4096])
     }
 }
 
-// The longest an edge can wait, and a pair that shows it; 0 where no pair above main is reached.
+// The longest of all, and the first pair that has it.
 fn put_wait(list: &[u16])
     requires { ⌜ length (now list) ≡ 8192 ⌝ }
 {
     let place = largest(list);
-    let cycles = list[place];
+    let address = (place / 2) as u16;
+    let level = (place % 2) as u8 + 1;
+    let cycles = entry_of(list, address, level);
     put(b"longest wait: ");
+    put_cycles(cycles);
     if cycles == 0 {
-        put(b"0\n");
+        put(b"\n");
         return;
     }
-    put_cycles(cycles);
-    put_place((place / 2) as u16, (place % 2) as u16 + 1, b"\n");
+    put_place(address, level, b"\n");
 }
 
 // How long an edge can be held under a mask that passes: from both vectors, from each CALL target, and the longest of all.
 fn put_bounds(mask: &[u8], marks: &[u8; 4096]) {
     let mut list = [0u16; 8192];
-    bounds_of(mask, &mut list);
+    bounds_of(mask, &mut list); // not refused: the mask passed, and the list has its length
     put_bound(&list, 4, 2);
     put_bound(&list, 8, 2);
     let targets = call_targets(mask, marks);

@@ -1,8 +1,8 @@
 -- What the number of a verdict says: 0 is passed alone, since a fault is not 0; `ht1130_check` has one answer, `ht1130_bound` one number, and
 -- `ht1130_way` one, which for a list that holds a way through every pair is not 11. Assumes nothing.
-use Prim.Native.Nat.{ℕ}
+use Prim.Native.Nat.{ℕ, _+_, _*_, _^_}
 use native.Mathlib.Omega.{arith}
-use mathlib.Core.Path.{_≡_, sym, ap, _∙_}
+use mathlib.Core.Path.{_≡_, sym, ap, subst, _∙_}
 use mathlib.Core.List.{List}
 use Rattle.checker.specs.Verdicts.{Answers}
 use Rattle.checker.specs.declared.check.Verdict.{Verdict}
@@ -13,8 +13,12 @@ use Rattle.checker.specs.declared.way.Listing.the-variants.{Listed, MaskPasses,
 use Rattle.checker.specs.declared.way.Listing.the-variants.{BadMask as NoMask}
 use Rattle.checker.proofs.Answer.{answers-determine}
 use Rattle.checker.proofs.Ways.{way-determines, never-too-short}
+use Rattle.bound.specs.Bounds.{BoundAnswers}
+use Rattle.bound.specs.declared.bound.Bound.{Bound}
+use Rattle.bound.specs.declared.bound.Bound.the-variants.{NotReached, NoBound, Cycles, BadPair, MaskFails}
+use Rattle.bound.specs.declared.bound.Bound.the-variants.{BadMask as BadBoundMask}
 use Rattle.bound.proofs.Answers.{bound-determines}
-use Rattle.ht1130_tools.specs.Numbers.{Checks, ChecksDetermine, verdictNumber, WaysDetermine, WayLengthDoes, wayNumber, BoundsDetermine, boundNumber}
+use Rattle.ht1130_tools.specs.Numbers.{Checks, ChecksDetermine, verdictNumber, WaysDetermine, WayLengthDoes, wayNumber, BoundsDetermine, BoundReads, BoundTold, boundNumber}
 
 pub passed : (mask old marks : List ℕ) → Checks mask old marks 0 → Answers mask old marks Passed
 passed mask old marks c = go (c .verdict) (c .answers) (c .number)
@@ -37,6 +41,17 @@ ways-determine mask old new other r q x y =
 pub bounds-determine : BoundsDetermine
 bounds-determine mask p r q x y =
     x .number ∙ ap boundNumber (bound-determines mask p (x .bound) (y .bound) (x .answers) (y .answers)) ∙ sym (y .number)
+
+pub bound-reads : BoundReads
+bound-reads mask p n b = go (b .bound) (b .answers) (b .number)
+  where
+    go : (x : Bound) → BoundAnswers mask p x → 2 * 2 ^ 8 + n * 2 ^ 32 ≡ boundNumber x → BoundAnswers mask p (Cycles n)
+    go NotReached a e = absurd (omega (arith, e))
+    go NoBound a e = absurd (omega (arith, e))
+    go (Cycles k) a e = let same : k ≡ n = omega (arith, e) in subst (λ (k : ℕ). BoundAnswers mask p (Cycles k)) same a
+    go BadBoundMask a e = absurd (omega (arith, e))
+    go BadPair a e = absurd (omega (arith, e))
+    go MaskFails a e = absurd (omega (arith, e))
 
 pub way-length-does : WayLengthDoes
 way-length-does mask old new r bytes h w e = go (w .listing) (w .answers) (sym (w .number) ∙ e)

@@ -76,14 +76,18 @@ boundNumber BadPair = boundRefusal BadPair
 boundNumber MaskFails = boundRefusal MaskFails
 
 -- what `ht1130_bound` answers: a bound of the pair, and its number
-pub record Bounds (mask : List ℕ) (p : Pair) (r : ℕ) : Type 0 where
+pub record BoundTold (mask : List ℕ) (p : Pair) (r : ℕ) : Type 0 where
   pub bound : Bound
   pub answers : BoundAnswers mask p bound
   pub number : r ≡ boundNumber bound
 
 -- the number depends on the mask and the pair alone
 abbrev pub BoundsDetermine : Type 0
-BoundsDetermine = (mask : List ℕ) (p : Pair) (r q : ℕ) → Bounds mask p r → Bounds mask p q → r ≡ q
+BoundsDetermine = (mask : List ℕ) (p : Pair) (r q : ℕ) → BoundTold mask p r → BoundTold mask p q → r ≡ q
+
+-- a number that says that there is a bound is its cycles'
+abbrev pub BoundReads : Type 0
+BoundReads = (mask : List ℕ) (p : Pair) (n : ℕ) → BoundTold mask p (2 * 2 ^ 8 + n * 2 ^ 32) → BoundAnswers mask p (Cycles n)
 
 -- "one line `refused N at P`": N in byte 0, P in bytes 4 and 5
 abbrev pub scriptNumber : Checked → ℕ

@@ -2,7 +2,7 @@
 ghost use mathlib.Core.Path.{_≡_};
 ghost use Prim.Native.Nat.{_+_, _*_, _^_};
 ghost use Rattle.checker.specs.Marks.{pair};
-ghost use Rattle.ht1130_tools.specs.Numbers.{Bounds, Checks, Ways, boundNumber, verdictNumber, wayNumber};
+ghost use Rattle.ht1130_tools.specs.Numbers.{BoundTold, Checks, Ways, boundNumber, verdictNumber, wayNumber};
 use bound::bound::Bound;
 use bound::bound::bound_of;
 use checker::check::Verdict;
@@ -75,7 +75,7 @@ fn told(answer: Bound) -> u64
 
 #[no_mangle]
 pub extern "C" fn ht1130_bound(mask: &[u8], address: u16, level: u8) -> u64
-    ensures { λ r. ⌜ Bounds (now (mask .entry)) (pair address level) r ⌝ }
+    ensures { λ r. ⌜ BoundTold (now (mask .entry)) (pair address level) r ⌝ }
 {
     told(bound_of(mask, address, level))
 }

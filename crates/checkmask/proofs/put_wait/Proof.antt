@@ -1,4 +1,4 @@
--- `checkmask::put_wait` reads the list at the place of its largest entry, which is one of the list's. Assumes nothing.
+-- `checkmask::put_wait` asks for the pair of the largest entry's place, which is one of the list's. Assumes nothing.
 use Prim.Native.Nat.{_<_}
 use native.Mathlib.Omega.{arith}
 use borrow.Author.Needs.{needs}
@@ -12,6 +12,6 @@ pub put-wait-spec : {M : Type 1} → statement M
 put-wait-spec =
     tie.close
     (tie.spec
-    (λ c κs. search needs) (λ c. let h = within c in omega arith) (λ c. let h = within (c .before) in let e = c .before .before .before .pre in omega arith)
-    (λ c. search needs) (λ c κs. search needs) (λ c. search needs) (λ c κs. search needs) (λ c. search needs) (λ c κs. search needs)
-    (λ c. let h = within (c .before .before .before .before .before) in omega arith) (λ c. search needs) (λ c. search needs) (λ c. search needs) (λ c κs. search needs) (λ c. search needs))
+    (λ c κs. search needs) (λ c. let h = within c in omega arith) (λ c. search needs) (λ c. search needs)
+    (λ c κs. let h = within c in (c .before .before .pre, omega arith, omega arith, omega arith)) (λ c. search needs) (λ c κs. search needs)
+    (λ c κs. search needs) (λ c. search needs) (λ c κs. search needs) (λ c. search needs) (λ c. search needs) (λ c κs. search needs) (λ c. search needs))

@@ -45,4 +45,4 @@ bounds-of-spec =
     tie.close
     (tie.spec
     (λ c. search needs) returns-2 (λ c. search needs) (λ c κs. search needs) (λ c. search needs) returns-3 fill-requires same-length
-    (λ c. c .before .before .fill .ensures))
+    (λ c. let f = c .before .before .fill .ensures in (c .before .before .before .before .before .before .before .before .before .before .if2 .left, f .0, f .1)))

@@ -13,7 +13,8 @@ use Rattle.isa.specs.Choice.{pick}
 use Rattle.isa.specs.Timing.{entries, lengthOf, cyclesOf}
 use Rattle.isa.proofs.List.{length-at, cycles-at}
 use Rattle.rom.specs.Fetching.{Bytes, byteAt, cyclesAt, movedFrom}
-use Rattle.bound.specs.Walk.{endless, settled, StandsAt}
+use Rattle.bound.specs.Lists.{endless}
+use Rattle.bound.specs.Walk.{settled, StandsAt}
 use Rattle.bound.proofs.Turn.{Turned, told-small, known, some-left, begun, inside, given, after, halts}
 use Rattle.bound.proofs.Turn.{settles-none, one-first, settles-one, two-first, two-second, two-small, settles-two, known-second}
 use Rattle.bound.proofs.longest.longest.Reads as longest
