@@ -18,7 +18,7 @@ use Rattle.bound.specs.declared.bound.Bound.the-variants.{NotReached, No
 use Rattle.bound.specs.declared.bounds.Bounds.{Bounds}
 use Rattle.bound.specs.declared.bounds.Bounds.the-variants.{Listed, BadMask, BadList, MaskFails}
 
--- 'no bound' as a number: no bound has as many cycles
+-- 'no bound' as a number, out of reach of every bound
 abbrev pub endless : ℕ
 endless = 65535
 
