@@ -22,15 +22,15 @@ use Rattle.cpu.specs.declared.Cpu.{Cpu}
 use Rattle.cpu.specs.declared.Pins.{Pins}
 use Rattle.cpu.proofs.Leaves.{Standing, standing, ticked-same, counting-same}
 use Rattle.cpu.proofs.Steps.{takes-edge}
-use Rattle.machine.specs.Machine.{stateOf, machineOf}
+use Rattle.machine.specs.Machine.{stateOf}
 use Rattle.machine.specs.Power.{answered}
 use Rattle.machine.specs.Events.{woken, wakes, pinned, interrupted, clocked, counting, happened, maskOk, valuesOk, refusalOf, applied}
-use Rattle.machine.specs.Events.{Input, power, named, answerTo, Call, after, Every, UnderMask}
+use Rattle.machine.specs.Events.{Input, power, named, answerTo, Call, stepsOf, after, Every, UnderMask}
 use Rattle.machine.specs.declared.Machine.{Machine}
 use Rattle.machine.specs.declared.events.Event.the-variants.{Run, Pins as PinsEvent, Int, Tmclk, Res}
 use Rattle.machine.specs.declared.events.Named.the-variants.{Known, Unknown}
 use Rattle.checker.specs.Verdicts.{Safe}
-use Rattle.bound_laws.specs.Delay.{spentIn, stepsOf, spent, NoRestart, run, UpTo, this, later, Taken, DelayBounded}
+use Rattle.bound_laws.specs.Delay.{spentIn, spent, NoRestart, run, UpTo, this, later, Taken, DelayBounded}
 use Rattle.bound_laws.proofs.Ends.{finds}
 use Rattle.bound_laws.proofs.Sides.{Aside, ticked-cycles, ticked-held, ticked-stack, counting-same as counting-aside}
 use Rattle.bound_laws.proofs.Waiting.{Waiting, InMain, To, Ran, joined, ran-on}
@@ -101,7 +101,7 @@ module _ (mask : List ℕ) (safe : Safe mask) (bytes : Bytes mask) (n : ℕ) whe
         stepped e (inr (i, p, h, y)) = inr (λ ks. record { until = run mask i ∷ []; far = this p h; comes = run-ended i r e y })
 
         go : (b : Bool) → eqb (refusalOf mask (Run r) m) 0 ≡ b
-            → Still (k + pick b (spentIn mask r (stateOf m)) 0) (m .cpu) (pick b (machineOf (ran mask r (stateOf m))) m .cpu)
+            → Still (k + pick b (spentIn mask r (stateOf m)) 0) (m .cpu) (pick b (happened mask (Run r) m) m .cpu)
             ⊎ ((ks : List Call) → Found k (run mask r ∷ ks) m)
         go true e = stepped e (ran-on mask safe n r k (stateOf m) w awake)
         go false e = inl (rw add-zero stays)

@@ -23,13 +23,13 @@ use Rattle.datapath.specs.Timer.{counted}
 use Rattle.machine.specs.Machine.{stateOf}
 use Rattle.machine.specs.Power.{answered}
 use Rattle.machine.specs.Events.{woken, wakes, pinned, interrupted, clocked, counting, happened, refusalOf, applied}
-use Rattle.machine.specs.Events.{Input, power, named, answerTo, Call, after, Every}
+use Rattle.machine.specs.Events.{Input, power, named, answerTo, Call, stepsOf, after, Every}
 use Rattle.machine.specs.declared.Machine.{Machine}
 use Rattle.machine.specs.declared.events.Event.{Event}
 use Rattle.machine.specs.declared.events.Event.the-variants.{Run, Pins, Int, Tmclk, Res}
 use Rattle.machine.specs.declared.events.Named.the-variants.{Known, Unknown}
 use Rattle.cpu.proofs.Leaves.{Standing, ticked-same}
-use Rattle.bound_laws.specs.Delay.{spentBy, spentIn, stepsOf, spent, NoRestart, SpentCounts}
+use Rattle.bound_laws.specs.Delay.{spentBy, spentIn, spent, NoRestart, SpentCounts}
 use Rattle.bound_laws.proofs.Sides.{Aside, effect-sides, counting-same, ticked-cycles}
 
 -- the vector is one of three

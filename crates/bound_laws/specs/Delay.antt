@@ -14,10 +14,10 @@ use Rattle.cpu.specs.Step.{executed, vectorOf, stopped, step}
 use Rattle.cpu.specs.declared.Cpu.{Cpu}
 use Rattle.cpu.specs.declared.Options.{Options}
 use Rattle.machine.specs.Machine.{stateOf}
-use Rattle.machine.specs.Events.{Input, power, named, answerTo, Call, after, Every, UnderMask}
+use Rattle.machine.specs.Events.{power, named, answerTo, Call, stepsOf, after, Every, UnderMask}
 use Rattle.machine.specs.declared.Machine.{Machine}
-use Rattle.machine.specs.declared.events.Event.the-variants.{Run, Pins, Int, Tmclk, Res}
-use Rattle.machine.specs.declared.events.Named.the-variants.{Known, Unknown}
+use Rattle.machine.specs.declared.events.Event.the-variants.{Run, Res}
+use Rattle.machine.specs.declared.events.Named.the-variants.{Known}
 use Rattle.checker.specs.Marks.{pair}
 use Rattle.bound.specs.Bounds.{BoundAnswers, ReachedAbove}
 use Rattle.bound.specs.Lists.{endless, BoundsAnswer, Largest}
@@ -38,16 +38,6 @@ spentBy mask s =
 unfoldable pub spentIn : List ℕ → ℕ → State → ℕ
 spentIn mask zero s = 0
 spentIn mask (suc n) s = spentBy mask s + spentIn mask n (step mask s)
-
--- the steps of an input: "Run: two-byte step count". No other takes any
-unfoldable pub stepsOf : Input → ℕ
-stepsOf (power options image) = 0
-stepsOf (named (Known (Run n))) = n
-stepsOf (named (Known (Pins pm ps pp))) = 0
-stepsOf (named (Known (Int level))) = 0
-stepsOf (named (Known (Tmclk n))) = 0
-stepsOf (named (Known Res)) = 0
-stepsOf (named Unknown) = 0
 
 -- a list of inputs, each on the machine that the one before answered; a refused one takes no steps
 unfoldable pub spent : List Call → Machine → ℕ

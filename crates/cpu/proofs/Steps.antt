@@ -10,7 +10,7 @@ use lib.Dec.{eqb}
 use lib.ListN.{getD}
 use borrow.Author.Tests.{eq-eqb, ne-eqb}
 use Rattle.isa.specs.Choice.{pick}
-use Rattle.rom.specs.Fetching.{byteAt}
+use Rattle.rom.specs.Fetching.{byteAt, readAt}
 use Rattle.isa.specs.Reading.{Reading, decoded}
 use Rattle.isa.specs.Timing.{lengthOf, cyclesOf}
 use Rattle.isa.specs.Views.{View, on, jmp, branch, call, ret, reti, ei, view}
@@ -85,22 +85,24 @@ finished mask i s t l n {r} e z p =
     ∙ ap (onCpu (ticked n)) e
     ∙ rw (eq-eqb (effect mask i (onCpu (moved l) s) .cpu .status .fault) 0 (ap (λ (x : State). x .cpu .status .fault) (sym e) ∙ z)) refl
 
--- the bytes at the PC, as the code fetches them
-pub fetched : (mask : List ℕ) (s : State) (x y : ℕ) (d : Decoded) → x ≡ byteAt mask (s .cpu .control .pc .0 % 4096) → y ≡ byteAt mask (s .cpu .control .pc .0 % 4096 + 1) → y < 256
-    → Reading x y d → instructed mask d (lengthOf x) (cyclesOf x) s ≡ executed mask s
-unfolding executed
-fetched mask s x y d p q h r =
-    let pc = s .cpu .control .pc .0 in
-    let p′ : x ≡ byteAt mask pc = p ∙ ap (λ (n : ℕ). getD mask n 0) (again pc) in
-    let q′ : y ≡ byteAt mask (pc + 1) = q ∙ ap (λ (n : ℕ). getD mask n 0) (next pc) in
-    ap (λ (d : Decoded). instructed mask d (lengthOf x) (cyclesOf x) s) (reading x y d h r)
-    ∙ ap₂ (λ (x y : ℕ). instructed mask (decoded x y) (lengthOf x) (cyclesOf x) s) p′ q′
-  where
-    again : (n : ℕ) → n % 4096 % 4096 ≡ n % 4096
-    again n = omega arith
+-- the bytes at the PC, as the code fetches them: what they read as, and what that does
+module _ (mask : List ℕ) (s : State) (x y : ℕ) (d : Decoded) (p : x ≡ byteAt mask (s .cpu .control .pc .0 % 4096)) (q : y ≡ byteAt mask (s .cpu .control .pc .0 % 4096 + 1)) (h : y < 256)
+    (r : Reading x y d) where
+  again : (n : ℕ) → n % 4096 % 4096 ≡ n % 4096
+  again n = omega arith
 
-    next : (n : ℕ) → (n % 4096 + 1) % 4096 ≡ (n + 1) % 4096
-    next n = omega arith
+  next : (n : ℕ) → (n % 4096 + 1) % 4096 ≡ (n + 1) % 4096
+  next n = omega arith
+
+  first : x ≡ byteAt mask (s .cpu .control .pc .0)
+  first = p ∙ ap (λ (n : ℕ). getD mask n 0) (again (s .cpu .control .pc .0))
+
+  pub read : d ≡ readAt mask (s .cpu .control .pc .0)
+  read = reading x y d h r ∙ ap₂ decoded first (q ∙ ap (λ (n : ℕ). getD mask n 0) (next (s .cpu .control .pc .0)))
+
+  pub fetched : instructed mask d (lengthOf x) (cyclesOf x) s ≡ executed mask s
+  unfolding executed
+  fetched = ap₂ (λ (d : Decoded) (x : ℕ). instructed mask d (lengthOf x) (cyclesOf x) s) read first
 
 -- the PC moved on by the length, as the code does it
 pub moved-on : (c : Cpu) (x a n : ℕ) → n ≡ lengthOf x → a ≡ (c .control .pc .0 % 4096 + n) % 4096 → withPc (address a) c ≡ moved (lengthOf x) c

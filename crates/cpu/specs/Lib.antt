@@ -1,4 +1,5 @@
 pub mod Effect
+pub mod Gap
 pub mod Range
 pub mod Run
 pub mod State

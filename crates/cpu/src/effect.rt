@@ -1,6 +1,8 @@
 // What each instruction does, in the order of the summary.
 ghost use mathlib.Core.Path.{_≡_};
+ghost use Rattle.datapath.specs.Memory.{strays, tallied};
 ghost use Rattle.cpu.specs.Effect.{effect};
+ghost use Rattle.cpu.specs.Gap.{accesses};
 ghost use Rattle.cpu.specs.State.{state};
 use crate::Cpu;
 use datapath::alu::add;
@@ -19,33 +21,35 @@ use isa::Instruction;
 use isa::Pointer;
 
 impl Cpu {
-    // The processor after an instruction, the PC having moved on. A fault is set in the status.
+    // The processor after an instruction, the PC having moved on. A fault is set in the status. `gap` counts the accesses that stray.
     pub(crate) fn effect(
         mut self,
         instruction: Instruction,
         mask: &[u8],
         memory: &mut [u8; 160],
+        gap: &mut u16,
     ) -> Cpu
         ensures { λ r. ⌜ state r (now (memory .exit)) ≡ effect (now (mask .entry)) instruction (state self (now (memory .entry))) ⌝ }
+        ensures { λ _. ⌜ now (gap .exit) ≡ tallied (now (gap .entry)) (strays (accesses instruction self)) ⌝ }
     {
         match instruction {
             Instruction::AddAM => {
-                let v = self.operand(Pointer::R1R0, memory);
+                let v = self.operand(Pointer::R1R0, memory, gap);
                 let x = add(self.registers.acc, v, 0);
                 self.take(x)
             }
             Instruction::AdcAM => {
-                let v = self.operand(Pointer::R1R0, memory);
+                let v = self.operand(Pointer::R1R0, memory, gap);
                 let x = add(self.registers.acc, v, self.control.cf);
                 self.take(x)
             }
             Instruction::SubAM => {
-                let v = self.operand(Pointer::R1R0, memory);
+                let v = self.operand(Pointer::R1R0, memory, gap);
                 let x = subtract(self.registers.acc, v, 1);
                 self.take(x)
             }
             Instruction::SbcAM => {
-                let v = self.operand(Pointer::R1R0, memory);
+                let v = self.operand(Pointer::R1R0, memory, gap);
                 let x = subtract(self.registers.acc, v, self.control.cf);
                 self.take(x)
             }
@@ -62,36 +66,36 @@ impl Cpu {
                 self.take(x)
             }
             Instruction::AndAM => {
-                let v = self.operand(Pointer::R1R0, memory);
+                let v = self.operand(Pointer::R1R0, memory, gap);
                 let x = and(self.registers.acc, v);
                 self.set_acc(x)
             }
             Instruction::OrAM => {
-                let v = self.operand(Pointer::R1R0, memory);
+                let v = self.operand(Pointer::R1R0, memory, gap);
                 let x = or(self.registers.acc, v);
                 self.set_acc(x)
             }
             Instruction::XorAM => {
-                let v = self.operand(Pointer::R1R0, memory);
+                let v = self.operand(Pointer::R1R0, memory, gap);
                 let x = xor(self.registers.acc, v);
                 self.set_acc(x)
             }
             Instruction::AndMA => {
-                let v = self.operand(Pointer::R1R0, memory);
+                let v = self.operand(Pointer::R1R0, memory, gap);
                 let x = and(v, self.registers.acc);
-                self.put(Pointer::R1R0, memory, x);
+                self.put(Pointer::R1R0, memory, x, gap);
                 self
             }
             Instruction::OrMA => {
-                let v = self.operand(Pointer::R1R0, memory);
+                let v = self.operand(Pointer::R1R0, memory, gap);
                 let x = or(v, self.registers.acc);
-                self.put(Pointer::R1R0, memory, x);
+                self.put(Pointer::R1R0, memory, x, gap);
                 self
             }
             Instruction::XorMA => {
-                let v = self.operand(Pointer::R1R0, memory);
+                let v = self.operand(Pointer::R1R0, memory, gap);
                 let x = xor(v, self.registers.acc);
-                self.put(Pointer::R1R0, memory, x);
+                self.put(Pointer::R1R0, memory, x, gap);
                 self
             }
             Instruction::AndAX(d) => {
@@ -116,9 +120,9 @@ impl Cpu {
                 self.set_register(n, x)
             }
             Instruction::IncM(p) => {
-                let v = self.operand(p, memory);
+                let v = self.operand(p, memory, gap);
                 let x = increment(v);
-                self.put(p, memory, x);
+                self.put(p, memory, x, gap);
                 self
             }
             Instruction::DecA => {
@@ -131,9 +135,9 @@ impl Cpu {
                 self.set_register(n, x)
             }
             Instruction::DecM(p) => {
-                let v = self.operand(p, memory);
+                let v = self.operand(p, memory, gap);
                 let x = decrement(v);
-                self.put(p, memory, x);
+                self.put(p, memory, x, gap);
                 self
             }
             Instruction::MovAR(n) => {
@@ -142,11 +146,11 @@ impl Cpu {
             }
             Instruction::MovRA(n) => self.set_register(n, self.registers.acc),
             Instruction::MovAM(p) => {
-                let v = self.operand(p, memory);
+                let v = self.operand(p, memory, gap);
                 self.set_acc(v)
             }
             Instruction::MovMA(p) => {
-                self.put(p, memory, self.registers.acc);
+                self.put(p, memory, self.registers.acc, gap);
                 self
             }
             Instruction::MovAX(d) => self.set_acc(d),
@@ -231,7 +235,7 @@ impl Cpu {
                 self
             }
             Instruction::ReadR4A(p) => {
-                let x = self.table_r4(p, mask, memory);
+                let x = self.table_r4(p, mask, memory, gap);
                 let high = x / 16;
                 let low = x % 16;
                 self.registers.r4 = high;
@@ -240,7 +244,7 @@ impl Cpu {
             }
             Instruction::ReadMr0A(p) => {
                 let x = self.table_mr0(p, mask, memory);
-                self.put(Pointer::R1R0, memory, x / 16);
+                self.put(Pointer::R1R0, memory, x / 16, gap);
                 self.set_acc(x % 16)
             }
             Instruction::SoundN(n) => {

@@ -1,7 +1,9 @@
 // Branches, subroutines and table reads.
 ghost use mathlib.Core.Path.{_≡_};
+ghost use mathlib.Core.List.{[], _∷_};
 ghost use Prim.Native.Nat.{_<_};
-ghost use Rattle.cpu.specs.Effect.{branched, called, holds, pageOf, returned, returnedWithCarry, tableMr0, tableR4, tested};
+ghost use Rattle.datapath.specs.Memory.{strays, tallied};
+ghost use Rattle.cpu.specs.Effect.{branched, called, holds, pageOf, placeOf, returned, returnedWithCarry, tableMr0, tableR4, tested};
 ghost use Rattle.cpu.specs.State.{state};
 use crate::Cpu;
 use datapath::alu::bit_set;
@@ -121,11 +123,12 @@ impl Cpu {
     }
 
     // The ROM byte that READ R4A and READF R4A take.
-    pub(crate) fn table_r4(self, p: Page, mask: &[u8], memory: &[u8; 160]) -> u8
+    pub(crate) fn table_r4(self, p: Page, mask: &[u8], memory: &[u8; 160], gap: &mut u16) -> u8
         ensures { λ r. ⌜ r ≡ tableR4 (now (mask .entry)) p (state self (now (memory .entry))) ⌝ }
+        ensures { λ _. ⌜ now (gap .exit) ≡ tallied (now (gap .entry)) (strays (placeOf Pointer.R1R0 self ∷ [])) ⌝ }
     {
         let page = self.page(p);
-        let low = self.operand(Pointer::R1R0, memory);
+        let low = self.operand(Pointer::R1R0, memory, gap);
         byte_at(
             mask,
             page * 256 + 16 * self.registers.acc as u16 + low as u16,

@@ -1,5 +1,7 @@
 // What an instruction reads and writes: data memory, registers and ports.
 ghost use mathlib.Core.Path.{_≡_};
+ghost use mathlib.Core.List.{[], _∷_};
+ghost use Rattle.datapath.specs.Memory.{strays, tallied};
 ghost use Rattle.cpu.specs.Effect.{nibbleAt, placeOf, portOf, registerOf, taking, withNibble, withPair, withRegister};
 ghost use Rattle.cpu.specs.State.{state, withAcc};
 use crate::Cpu;
@@ -7,6 +9,7 @@ use datapath::alu::Sum;
 use datapath::memory::load;
 use datapath::memory::pointer;
 use datapath::memory::store;
+use datapath::memory::tally;
 use isa::DataAddress;
 use isa::Pointer;
 use isa::Port;
@@ -22,20 +25,25 @@ impl Cpu {
         }
     }
 
-    // The nibble there.
-    pub(crate) fn operand(self, p: Pointer, memory: &[u8; 160]) -> u8
+    // The nibble there. `gap` counts the read where it strays.
+    pub(crate) fn operand(self, p: Pointer, memory: &[u8; 160], gap: &mut u16) -> u8
         ensures { λ r. ⌜ r ≡ nibbleAt p (state self (now (memory .entry))) ⌝ }
+        ensures { λ _. ⌜ now (gap .exit) ≡ tallied (now (gap .entry)) (strays (placeOf p self ∷ [])) ⌝ }
     {
         let a = self.place(p);
-        load(memory, a)
+        let x = load(memory, a);
+        tally(gap, x.stray);
+        x.nibble
     }
 
-    // Writes the nibble there.
-    pub(crate) fn put(self, p: Pointer, memory: &mut [u8; 160], value: u8)
+    // Writes the nibble there. `gap` counts the write where it strays.
+    pub(crate) fn put(self, p: Pointer, memory: &mut [u8; 160], value: u8, gap: &mut u16)
         ensures { λ _. ⌜ state self (now (memory .exit)) ≡ withNibble p value (state self (now (memory .entry))) ⌝ }
+        ensures { λ _. ⌜ now (gap .exit) ≡ tallied (now (gap .entry)) (strays (placeOf p self ∷ [])) ⌝ }
     {
         let a = self.place(p);
-        store(memory, a, value);
+        let stray = store(memory, a, value);
+        tally(gap, stray);
     }
 
     // A sum goes to ACC and CF.

@@ -1,13 +1,16 @@
 // Run.
 ghost use mathlib.Core.Path.{_≡_};
+ghost use Rattle.datapath.specs.Memory.{tallied};
+ghost use Rattle.cpu.specs.Gap.{straysIn};
 ghost use Rattle.cpu.specs.Run.{ran};
 ghost use Rattle.cpu.specs.State.{state};
 use crate::Cpu;
 
 impl Cpu {
-    // At most `steps` steps; none once halted or faulted. The memory is lent, so that the loop moves numbers alone.
-    pub fn run(self, mask: &[u8], memory: &mut [u8; 160], steps: u16) -> Cpu
+    // At most `steps` steps; none once halted or faulted. Memory and count are lent, so that the loop moves numbers alone.
+    pub fn run(self, mask: &[u8], memory: &mut [u8; 160], steps: u16, gap: &mut u16) -> Cpu
         ensures { λ r. ⌜ state r (now (memory .exit)) ≡ ran (now (mask .entry)) steps (state self (now (memory .entry))) ⌝ }
+        ensures { λ _. ⌜ now (gap .exit) ≡ tallied (now (gap .entry)) (straysIn (now (mask .entry)) steps (state self (now (memory .entry)))) ⌝ }
     {
         let mut current = self;
         let mut left = steps;
@@ -18,7 +21,7 @@ impl Cpu {
             if current.status.fault != 0 {
                 return current;
             }
-            current = current.go_on(mask, memory);
+            current = current.go_on(mask, memory, gap);
             left -= 1;
         }
         current

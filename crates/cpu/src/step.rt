@@ -1,6 +1,8 @@
 // One step: an interrupt taken, or one instruction, and the cycles that it spends.
 ghost use mathlib.Core.Path.{_≡_};
 ghost use Rattle.rom.specs.Fetching.{movedBy};
+ghost use Rattle.datapath.specs.Memory.{tallied};
+ghost use Rattle.cpu.specs.Gap.{straysAt, straysBy};
 ghost use Rattle.cpu.specs.State.{state};
 ghost use Rattle.cpu.specs.Step.{entered, executed, step, ticked, timed, vectorOf};
 use crate::Cpu;
@@ -85,9 +87,10 @@ impl Cpu {
 
     // One instruction, on a processor without a fault. One that faults sets the fault alone, so the PC goes back and no copy is kept.
     // Cycles are found beside the length, so that the compiler computes the rule once.
-    fn execute(mut self, mask: &[u8], memory: &mut [u8; 160]) -> Cpu
+    fn execute(mut self, mask: &[u8], memory: &mut [u8; 160], gap: &mut u16) -> Cpu
         requires { ⌜ self .status .fault ≡ 0 ⌝ }
         ensures { λ r. ⌜ state r (now (memory .exit)) ≡ executed (now (mask .entry)) (state self (now (memory .entry))) ⌝ }
+        ensures { λ _. ⌜ now (gap .exit) ≡ tallied (now (gap .entry)) (straysAt (now (mask .entry)) (state self (now (memory .entry)))) ⌝ }
     {
         let pc = self.control.pc.0 % 4096;
         let first = byte_at(mask, pc);
@@ -100,7 +103,7 @@ impl Cpu {
         let size = length(first);
         let next = address_after(pc, size);
         self.control.pc.0 = next;
-        let mut after = self.effect(instruction, mask, memory);
+        let mut after = self.effect(instruction, mask, memory, gap);
         if after.status.fault != 0 {
             after.control.pc.0 = before;
             return after;
@@ -109,9 +112,10 @@ impl Cpu {
     }
 
     // A step of a processor that is neither halted nor faulted.
-    pub(crate) fn go_on(mut self, mask: &[u8], memory: &mut [u8; 160]) -> Cpu
+    pub(crate) fn go_on(mut self, mask: &[u8], memory: &mut [u8; 160], gap: &mut u16) -> Cpu
         requires { ⌜ (self .status .halted ≡ 0) × (self .status .fault ≡ 0) ⌝ }
         ensures { λ r. ⌜ state r (now (memory .exit)) ≡ step (now (mask .entry)) (state self (now (memory .entry))) ⌝ }
+        ensures { λ _. ⌜ now (gap .exit) ≡ tallied (now (gap .entry)) (straysBy (now (mask .entry)) (state self (now (memory .entry)))) ⌝ }
     {
         let vector = self.pending();
         if vector == 8 {
@@ -122,12 +126,13 @@ impl Cpu {
             self.control.tf = 0;
             return self.enter(4);
         }
-        self.execute(mask, memory)
+        self.execute(mask, memory, gap)
     }
 
     // One step, on the data memory that is lent.
-    pub fn step(self, mask: &[u8], memory: &mut [u8; 160]) -> Cpu
+    pub fn step(self, mask: &[u8], memory: &mut [u8; 160], gap: &mut u16) -> Cpu
         ensures { λ r. ⌜ state r (now (memory .exit)) ≡ step (now (mask .entry)) (state self (now (memory .entry))) ⌝ }
+        ensures { λ _. ⌜ now (gap .exit) ≡ tallied (now (gap .entry)) (straysBy (now (mask .entry)) (state self (now (memory .entry)))) ⌝ }
     {
         if self.status.halted != 0 {
             return self;
@@ -135,6 +140,6 @@ impl Cpu {
         if self.status.fault != 0 {
             return self;
         }
-        self.go_on(mask, memory)
+        self.go_on(mask, memory, gap)
     }
 }

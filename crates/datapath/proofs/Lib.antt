@@ -1,1 +1,2 @@
 pub mod Rotate
+pub mod Tally

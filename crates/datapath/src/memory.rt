@@ -1,7 +1,14 @@
-// The data memory. Every data read goes by `load` and every data write by `store`.
+// The data memory. Every data read goes by `load` and every data write by `store`, and each tells whether it fell in the gap, 80h-DFh.
 ghost use mathlib.Core.Path.{_≡_};
-ghost use Rattle.datapath.specs.Memory.{loaded, pointed, stored};
+ghost use Rattle.datapath.specs.Alu.{flag};
+ghost use Rattle.datapath.specs.Memory.{accessed, inGap, pointed, stored, tallied};
 use isa::DataAddress;
+
+// What a read gives: the nibble, and whether the address is in the gap.
+pub struct Access {
+    pub nibble: u8,
+    pub stray: bool,
+}
 
 // The address that a register pair names.
 pub fn pointer(high: u8, low: u8) -> DataAddress
@@ -11,30 +18,52 @@ pub fn pointer(high: u8, low: u8) -> DataAddress
 }
 
 // The nibble at an address; 80h-DFh read 0.
-pub fn load(memory: &[u8; 160], address: DataAddress) -> u8
-    ensures { λ r. ⌜ r ≡ loaded (now (memory .entry)) address ⌝ }
+pub fn load(memory: &[u8; 160], address: DataAddress) -> Access
+    ensures { λ r. ⌜ r ≡ accessed (now (memory .entry)) address ⌝ }
 {
     let a = address.0 as usize;
     if a < 0x80 {
-        return memory[a];
+        return Access {
+            nibble: memory[a],
+            stray: false,
+        };
     }
     if a < 0xe0 {
-        return 0;
+        return Access {
+            nibble: 0,
+            stray: true,
+        };
     }
-    memory[a - 96]
+    Access {
+        nibble: memory[a - 96],
+        stray: false, // the display
+    }
 }
 
-// Writes the nibble at an address; 80h-DFh ignore it.
-pub fn store(memory: &mut [u8; 160], address: DataAddress, value: u8)
+// Writes the nibble at an address; 80h-DFh ignore it. The answer tells whether the address is one of those.
+pub fn store(memory: &mut [u8; 160], address: DataAddress, value: u8) -> bool
     ensures { λ _. ⌜ now (memory .exit) ≡ stored (now (memory .entry)) address value ⌝ }
+    ensures { λ r. ⌜ r ≡ inGap address ⌝ }
 {
     let a = address.0 as usize;
     if a < 0x80 {
         memory[a] = value;
-        return;
+        return false;
     }
     if a <= 0xdf {
-        return;
+        return true;
     }
     memory[a - 96] = value;
+    false
+}
+
+// Counts an access where it fell in the gap. The count stops at its largest value.
+pub fn tally(gap: &mut u16, stray: bool)
+    ensures { λ _. ⌜ now (gap .exit) ≡ tallied (now (gap .entry)) (flag stray) ⌝ }
+{
+    if stray {
+        if *gap < 65535 {
+            *gap += 1;
+        }
+    }
 }

@@ -49,10 +49,10 @@ module _ (mask marks : List ℕ) (bytes : Bytes mask) (safe : Safe mask) (mark :
   each rest (i ∷ is) m k zero h =
       let n = next mask i m in
       subst (λ (s : List ℕ). Shows marks (take 48 s)) (sym (append-assoc (reported n) (reports mask is n) rest))
-      (subst (Shows marks) (sym (take-at (reported n) (reports mask is n ++ rest) 48 (report-length (n .cpu) (n .memory)))) (shows n (input-kept mask safe mask i (λ v e. refl) m k)))
+      (subst (Shows marks) (sym (take-at (reported n) (reports mask is n ++ rest) 48 (report-length n))) (shows n (input-kept mask safe mask i (λ v e. refl) m k)))
   each rest (i ∷ is) m k (suc j) h =
       let n = next mask i m in
-      let l = report-length (n .cpu) (n .memory) in
+      let l = report-length n in
       subst (λ (s : List ℕ). Shows marks (take 48 (drop (48 * suc j) s))) (sym (append-assoc (reported n) (reports mask is n) rest))
       (subst (λ (s : List ℕ). Shows marks (take 48 s)) (sym (past (reported n) (reports mask is n ++ rest) j l))
       (each rest is n (input-kept mask safe mask i (λ v e. refl) m k) j (left (length (reports mask is n)) j (omega (arith, length-append (reported n) (reports mask is n), l, h)))))

@@ -1,2 +1,3 @@
+pub mod Gap
 pub mod Lent
 pub mod Property2

@@ -1,6 +1,7 @@
-// Power-on, the other events and the report on a machine by value, from numbers.
+// Power-on, the other events, the report and the count of strays on a machine by value, from numbers.
 ghost use mathlib.Core.Path.{_≡_};
-ghost use Rattle.ht1130.specs.Lent.{optionsOf, hosted};
+ghost use Rattle.ht1130.specs.Lent.{gapNumber, optionsOf, hosted};
+ghost use Rattle.machine.specs.Gap.{gapCount};
 ghost use Rattle.machine.specs.Power.{powerOn};
 ghost use Rattle.machine.specs.Report.{report, reporting};
 use cpu::Options;
@@ -48,4 +49,12 @@ pub(crate) fn shown(machine: Machine, out: &mut [u8]) -> u8
     ensures { λ r. ⌜ reporting r (now (out .exit)) ≡ report machine (now (out .entry)) ⌝ }
 {
     machine.report(out)
+}
+
+// The count in bytes 4 and 5, the refusal in byte 0.
+pub(crate) fn gap_number(machine: Machine) -> u64
+    ensures { λ r. ⌜ r ≡ gapNumber (gapCount machine) ⌝ }
+{
+    let answer = machine.gap_count();
+    answer.refusal as u64 + answer.count as u64 * 0x100000000
 }

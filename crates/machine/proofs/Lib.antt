@@ -1,4 +1,5 @@
 pub mod Answers
+pub mod Counts
 pub mod Fill
 pub mod Lists
 pub mod Pulses

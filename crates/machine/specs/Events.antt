@@ -1,5 +1,5 @@
--- The events, document 01, "One step, and events" and "Refused inputs", and document 02, wish 1. Assumes nothing.
-use Prim.Native.Nat.{ℕ, _+_}
+-- The events, document 01, "One step, and events" and "Refused inputs", and document 02, wishes 1 and 6. Assumes nothing.
+use Prim.Native.Nat.{ℕ}
 use mathlib.Core.Path.{_≡_}
 use mathlib.Core.Bool.{Bool, true, not, _&&_}
 use mathlib.Core.List.{List, [], _∷_}
@@ -7,6 +7,7 @@ use lib.Dec.{eqb}
 use lib.Bits.{bitAnd, bitXor}
 use lib.ListN.{length}
 use Rattle.isa.specs.Choice.{pick}
+use Rattle.datapath.specs.Memory.{tallied}
 use Rattle.datapath.specs.Timer.{counted}
 use Rattle.cpu.specs.State.{withHeld, withHalted, withPins}
 use Rattle.cpu.specs.Step.{timed}
@@ -15,6 +16,7 @@ use Rattle.cpu.specs.declared.Cpu.{Cpu}
 use Rattle.cpu.specs.declared.Options.{Options}
 use Rattle.machine.specs.Machine.{stateOf, machineOf}
 use Rattle.machine.specs.Power.{reset, answered, powerOn}
+use Rattle.cpu.specs.Gap.{straysIn}
 use Rattle.cpu.specs.Run.{ran}
 use Rattle.machine.specs.declared.Machine.{Machine}
 use Rattle.machine.specs.declared.Answer.{Answer}
@@ -24,7 +26,7 @@ use Rattle.machine.specs.declared.events.Named.{Named}
 use Rattle.machine.specs.declared.events.Named.the-variants.{Known, Unknown}
 
 abbrev pub onCpuOf : (Cpu → Cpu) → Machine → Machine
-onCpuOf f m = record { cpu = f (m .cpu); memory = m .memory }
+onCpuOf f m = record { cpu = f (m .cpu); memory = m .memory; gap = m .gap }
 
 -- an edge is held, and the machine wakes
 abbrev pub woken : Cpu → Cpu
@@ -65,9 +67,9 @@ clocked c = eqb (c .options .rate) 255 && eqb (c .timer .running) 1
 unfoldable pub counting : ℕ → Cpu → Cpu
 counting n c = pick (clocked c) (timed (counted (c .timer .count) n) c) c
 
--- what an event makes of a machine, where nothing is refused
+-- what an event makes of a machine, where nothing is refused. Run alone takes steps, and counts what of their accesses falls in the gap
 unfoldable pub happened : List ℕ → Event → Machine → Machine
-happened mask (Run n) m = machineOf (ran mask n (stateOf m))
+happened mask (Run n) m = machineOf (ran mask n (stateOf m)) (tallied (m .gap) (straysIn mask n (stateOf m)))
 happened mask (Pins pm ps pp) m = onCpuOf (pinned pm ps pp) m
 happened mask (Int level) m = onCpuOf (interrupted level) m
 happened mask (Tmclk n) m = onCpuOf (counting n) m
@@ -89,7 +91,7 @@ valuesOk (Int level) = bit level
 valuesOk (Tmclk n) = true
 valuesOk Res = true
 
--- "5: machine field outside its range .. or halted with a fault"
+-- "5: machine field outside its range .. or halted with a fault"; the count of strays is in range whatever it is
 abbrev pub rangeRefusal : Machine → ℕ
 rangeRefusal m = pick (valid (stateOf m)) 0 5
 
@@ -139,6 +141,16 @@ namedAnswer mask Unknown m = answered (pick (valid (stateOf m)) (kindRefusal Unk
 abbrev pub answerTo : List ℕ → Input → Machine → Answer
 answerTo mask (power options image) m = powerOn options image m
 answerTo mask (named e) m = namedAnswer mask e m
+
+-- the steps of an input: "Run: two-byte step count". No other takes any
+unfoldable pub stepsOf : Input → ℕ
+stepsOf (power options image) = 0
+stepsOf (named (Known (Run n))) = n
+stepsOf (named (Known (Pins pm ps pp))) = 0
+stepsOf (named (Known (Int level))) = 0
+stepsOf (named (Known (Tmclk n))) = 0
+stepsOf (named (Known Res)) = 0
+stepsOf (named Unknown) = 0
 
 -- an input with the mask that it came with: a Run may have a mask of its own
 pub record Call : Type 0 where

@@ -1,4 +1,5 @@
 pub mod Events
+pub mod Gap
 pub mod Machine
 pub mod Power
 pub mod Property2

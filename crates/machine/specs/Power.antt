@@ -30,11 +30,11 @@ afterRes registers pins options cycles = record {
   cycles = cycles;
 }
 
--- "It keeps ACC, R0-R4, data memory, pins, options and cycle count"
+-- "It keeps ACC, R0-R4, data memory, pins, options and cycle count"; and, document 02, wish 6, the count of strays "since the last power-on"
 abbrev pub reset : Machine → Machine
-reset m = record { cpu = afterRes (m .cpu .registers) (m .cpu .pins) (m .cpu .options) (m .cpu .cycles); memory = m .memory }
+reset m = record { cpu = afterRes (m .cpu .registers) (m .cpu .pins) (m .cpu .options) (m .cpu .cycles); memory = m .memory; gap = m .gap }
 
--- the machine that a power-on makes
+-- the machine that a power-on makes; it counts its strays from 0
 unfoldable pub powered : Options → List ℕ → Machine
 powered options image = record {
   cpu = afterRes
@@ -43,6 +43,7 @@ powered options image = record {
       options
       0;
   memory = drop 6 image;
+  gap = 0;
 }
 
 -- a machine before its first power-on: all 0 but what RES sets. Its commons are out of range, so refusal 5 answers what 1 and 3 do not
@@ -54,6 +55,7 @@ blank = record {
       (record { rate = 0; commons = 0; pm = 0; ps = 0; pp = 0 })
       0;
   memory = replicate 160 0;
+  gap = 0;
 }
 
 -- "2: image .. not 166"; "3: in an image .. nibble .. over 15"; "4: option handed in at power-on, wake nibbles too, outside its list"

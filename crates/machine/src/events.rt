@@ -1,5 +1,6 @@
 // The events other than power-on, applied to a machine by value.
 ghost use mathlib.Core.Path.{_≡_};
+ghost use Prim.Native.Nat.{ℕ};
 ghost use lib.ListN.{length};
 ghost use mathlib.Core.List.{[]};
 ghost use Rattle.cpu.specs.State.{state};
@@ -162,10 +163,10 @@ pub fn values_ok(event: Event) -> bool
     }
 }
 
-// The refusal of an event, 0 for none: the lowest number wins.
+// The refusal of an event, 0 for none: the lowest number wins. It does not look at the count of strays.
 fn refusal(cpu: Cpu, memory: &[u8; 160], event: Event, mask: &[u8]) -> u8
     requires { ⌜ length (now memory) ≡ 160 ⌝ }
-    ensures { λ r. ⌜ r ≡ refusalOf (now (mask .entry)) event (machineOf (state cpu (now (memory .entry)))) ⌝ }
+    ensures { λ r. ⌜ ((count : ℕ) → r ≡ refusalOf (now (mask .entry)) event (machineOf (state cpu (now (memory .entry))) count)) ⌝ }
 {
     if mask_ok(event, mask) {
         if values_ok(event) {
@@ -179,12 +180,12 @@ fn refusal(cpu: Cpu, memory: &[u8; 160], event: Event, mask: &[u8]) -> u8
     1
 }
 
-// What an event makes of the processor, and of the data memory where it is lent.
-fn happened(cpu: Cpu, event: Event, mask: &[u8], memory: &mut [u8; 160]) -> Cpu
-    ensures { λ r. ⌜ machineOf (state r (now (memory .exit))) ≡ happened (now (mask .entry)) event (machineOf (state cpu (now (memory .entry)))) ⌝ }
+// What an event makes of the processor, and of the data memory and the count of strays where they are lent.
+fn happened(cpu: Cpu, event: Event, mask: &[u8], memory: &mut [u8; 160], gap: &mut u16) -> Cpu
+    ensures { λ r. ⌜ machineOf (state r (now (memory .exit))) (now (gap .exit)) ≡ happened (now (mask .entry)) event (machineOf (state cpu (now (memory .entry))) (now (gap .entry))) ⌝ }
 {
     match event {
-        Event::Run(n) => cpu.run(mask, memory, n),
+        Event::Run(n) => cpu.run(mask, memory, n, gap),
         Event::Pins(pm, ps, pp) => pinned(cpu, pm, ps, pp),
         Event::Int(level) => interrupted(cpu, level),
         Event::Tmclk(n) => counting(cpu, n),
@@ -204,8 +205,11 @@ impl Machine {
                 machine: self,
             };
         }
-        let cpu = happened(self.cpu, event, mask, &mut self.memory);
+        // Two fields of one record are not lent to one call: the count goes by a copy.
+        let mut gap = self.gap;
+        let cpu = happened(self.cpu, event, mask, &mut self.memory, &mut gap);
         self.cpu = cpu;
+        self.gap = gap;
         Answer {
             refusal: 0,
             machine: self,
@@ -259,8 +263,10 @@ impl Machine {
                 machine: self,
             };
         }
-        let next = self.cpu.step(mask, &mut self.memory);
+        let mut count = self.gap;
+        let next = self.cpu.step(mask, &mut self.memory, &mut count);
         self.cpu = next;
+        self.gap = count;
         Answer {
             refusal: 0,
             machine: self,

@@ -1,16 +1,18 @@
-// The machine: processor and data memory by value, power-on, Run and the other events, display and report.
+// The machine: processor, data memory and count of strays by value, power-on, Run and the other events, display, report and the count's query.
 pub mod events;
+pub mod gap;
 pub mod power;
 pub mod ranges;
 pub mod report;
 
 use cpu::Cpu;
 
-// `memory` is data memory 00h-7Fh, then E0h-FFh, a nibble each.
+// `memory` is data memory 00h-7Fh, then E0h-FFh, a nibble each; `gap` counts the accesses to 80h-DFh since the last power-on, and stops at 65,535.
 #[repr(C)]
 pub struct Machine {
     pub cpu: Cpu,
     pub memory: [u8; 160],
+    pub gap: u16,
 }
 
 // What an event gives back: document 01's refusal number, 0 for none, and the machine. A refused machine is as it was. The machine stands

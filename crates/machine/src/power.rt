@@ -118,7 +118,11 @@ fn powered(options: Options, image: &[u8]) -> Machine
     };
     let cpu = after_res(registers, pins, options, 0);
     let memory = image_memory(image);
-    Machine { cpu, memory }
+    Machine {
+        cpu,
+        memory,
+        gap: 0,
+    }
 }
 
 impl Machine {
@@ -151,6 +155,7 @@ impl Machine {
         Machine {
             cpu,
             memory: [0; 160],
+            gap: 0,
         }
     }
 

@@ -1,6 +1,6 @@
 // The display and the report of a machine.
 ghost use mathlib.Core.Path.{_≡_};
-ghost use Prim.Native.Nat.{_<_};
+ghost use Prim.Native.Nat.{ℕ, _<_};
 ghost use lib.ListN.{getD, length};
 ghost use Rattle.cpu.specs.State.{state};
 ghost use Rattle.machine.specs.Machine.{machineOf};
@@ -21,9 +21,9 @@ fn shown(cpu: Cpu, memory: &[u8; 160], s: u8) -> u8
     }
     let x = load(memory, DataAddress(0xe0 + s));
     if cpu.options.commons == 3 {
-        return x % 8;
+        return x.nibble % 8;
     }
-    x
+    x.nibble
 }
 
 // The first 16 bytes.
@@ -52,10 +52,10 @@ fn heading(cpu: Cpu) -> [u8; 16]
     ]
 }
 
-// Byte `k` of a report whose first bytes are lent.
+// Byte `k` of a report whose first bytes are lent. No byte tells the count of strays.
 fn report_byte(first: &[u8; 16], cpu: Cpu, memory: &[u8; 160], k: u8) -> u8
     requires { ⌜ (now first ≡ heading cpu) × (k < 48) ⌝ }
-    ensures { λ r. ⌜ r ≡ getD (reported (machineOf (state cpu (now (memory .entry))))) k 0 ⌝ }
+    ensures { λ r. ⌜ ((count : ℕ) → r ≡ getD (reported (machineOf (state cpu (now (memory .entry))) count)) k 0) ⌝ }
 {
     if k < 16 {
         return first[k as usize];
@@ -66,7 +66,7 @@ fn report_byte(first: &[u8; 16], cpu: Cpu, memory: &[u8; 160], k: u8) -> u8
 // Writes the 48 bytes of a report.
 fn write_report(cpu: Cpu, memory: &[u8; 160], out: &mut [u8])
     requires { ⌜ length (now out) ≡ 48 ⌝ }
-    ensures { λ _. ⌜ now (out .exit) ≡ reported (machineOf (state cpu (now (memory .entry)))) ⌝ }
+    ensures { λ _. ⌜ ((count : ℕ) → now (out .exit) ≡ reported (machineOf (state cpu (now (memory .entry))) count)) ⌝ }
 {
     let first = heading(cpu);
     let mut k = 0;

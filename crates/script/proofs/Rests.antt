@@ -67,7 +67,7 @@ unfolding reports
 reports-length mask [] m = refl
 reports-length mask (i ∷ is) m =
     let p = length-append (reported (next mask i m)) (reports mask is (next mask i m)) in
-    let q = report-length (next mask i m .cpu) (next mask i m .memory) in
+    let q = report-length (next mask i m) in
     let r = reports-length mask is (next mask i m) in
     omega arith
 

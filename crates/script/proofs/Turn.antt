@@ -74,7 +74,7 @@ module _ (mask s out₀ : List ℕ) where
 
           go : out' ≡ take done out ++ (reported m' ++ drop (done + 48) out) → Held mask s out₀ out' at' (done + 48) m'
           go o =
-              let l = report-length (m' .cpu) (m' .memory) in
+              let l = report-length m' in
               let n = ap length o ∙ put-length out (reported m') done l fits in
               record {
                 buffer =

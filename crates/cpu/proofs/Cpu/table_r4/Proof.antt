@@ -1,4 +1,4 @@
--- `cpu::Cpu::table_r4` meets its contract: the page and the nibble are the definitions'. Assumes nothing.
+-- `cpu::Cpu::table_r4` meets its contract: the page, the nibble and the count are the definitions'. Assumes nothing.
 use mathlib.Core.Path.{ap₂, _∙_}
 use Prim.Native.Nat.{ℕ, _+_, _*_}
 use Rattle.rom.specs.Fetching.{byteAt}
@@ -34,7 +34,12 @@ byte-at-requires : tie.Need-byte-at-requires
 byte-at-requires c κs = search needs
 
 returns : tie.Need-returns
-returns c = c .byte-at .ensures ∙ ap₂ (λ (n m : ℕ). byteAt (c .before .before .before .before .before .args .mask .now) (n * 256 + 16 * c .before .before .before .before .before .args .self .registers .acc + m)) (c .before .before .before .page .ensures .0) (c .before .before .operand .ensures)
+returns c =
+    let a = c .before .before .before .before .before .before .args in
+    let low = c .before .before .operand .ensures in (
+      c .byte-at .ensures ∙ ap₂ (λ (n m : ℕ). byteAt (a .mask .now) (n * 256 + 16 * a .self .registers .acc + m)) (c .before .before .before .before .page .ensures .0) (low .0),
+      low .1,
+    )
 
 pub table-r4-spec : {M : Type 1} → statement M
 table-r4-spec =

@@ -18,9 +18,13 @@ store-spec =
     (tie.spec
     (λ c. search needs) (λ c. search needs)
     -- below 80h
-    (λ c. rw (lt-ltb _ 0x80 (c .if1 .taken)) refl)
+    (λ c. let e = lt-ltb _ 0x80 (c .if1 .taken) in (rw e refl, rw e refl))
     -- the gap
-    (λ c. rw (le-ltb _ 0x80 (c .before .if1 .left), lt-ltb _ 0xe0 (below (c .if2 .taken))) refl)
+    (λ c.
+    let e = le-ltb _ 0x80 (c .before .if1 .left) in
+    let f = lt-ltb _ 0xe0 (below (c .if2 .taken)) in (rw (e, f) refl, rw (e, f) refl))
     (λ c. search needs) (λ c. search needs)
     -- the display
-    (λ c. rw (le-ltb _ 0x80 (c .before .if1 .left), le-ltb _ 0xe0 (c .if2 .left)) refl))
+    (λ c.
+    let e = le-ltb _ 0x80 (c .before .if1 .left) in
+    let f = le-ltb _ 0xe0 (c .if2 .left) in (rw (e, f) refl, rw (e, f) refl)))

@@ -12,7 +12,7 @@ use Rattle.machine.proofs.Machine.blank.Tie as tie
 
 returns : tie.Need-returns
 unfolding blank
-returns c = ap (λ (k : Cpu). machineOf (state k (replicate 160 0))) (c .after-res .ensures)
+returns c = ap (λ (k : Cpu). machineOf (state k (replicate 160 0)) 0) (c .after-res .ensures)
 
 pub blank-spec : {M : Type 1} → statement M
 blank-spec = tie.close (tie.spec (λ c κs. search needs) returns)

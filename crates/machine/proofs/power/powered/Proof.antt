@@ -12,7 +12,7 @@ use Rattle.machine.proofs.power.powered.Tie as tie
 
 returns : tie.Need-returns
 unfolding powered
-returns c = ap₂ (λ (k : Cpu) (m : List ℕ). machineOf (state k m)) (c .before .after-res .ensures) (c .image-memory .ensures)
+returns c = ap₂ (λ (k : Cpu) (m : List ℕ). machineOf (state k m) 0) (c .before .after-res .ensures) (c .image-memory .ensures)
 
 pub powered-spec : {M : Type 1} → statement M
 powered-spec =

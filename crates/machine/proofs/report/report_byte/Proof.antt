@@ -9,14 +9,14 @@ use Rattle.machine.proofs.report.report_byte.Statement.{statement}
 use Rattle.machine.proofs.report.report_byte.Tie as tie
 
 returns : tie.Need-returns
-returns c =
+returns c count =
     let a = c .before .before .args in
-    ap (λ (l : List ℕ). getD l (a .k) 0) (c .before .before .pre .0) ∙ in-heading (a .cpu) (a .memory .now) (a .k) (c .before .if1 .taken)
+    ap (λ (l : List ℕ). getD l (a .k) 0) (c .before .before .pre .0) ∙ in-heading (a .cpu) (a .memory .now) count (a .k) (c .before .if1 .taken)
 
 returns-2 : tie.Need-returns-2
-returns-2 c =
+returns-2 c count =
     let a = c .before .before .args in
-    c .shown .ensures ∙ in-display (a .cpu) (a .memory .now) (a .k) (c .before .if1 .left) (c .before .before .pre .1)
+    c .shown .ensures ∙ in-display (a .cpu) (a .memory .now) count (a .k) (c .before .if1 .left) (c .before .before .pre .1)
 
 pub report-byte-spec : {M : Type 1} → statement M
 report-byte-spec = tie.close (tie.spec (λ c. omega arith) returns (λ c κs. omega arith) returns-2)

@@ -13,7 +13,7 @@ use Rattle.machine.proofs.report.write_report.Statement.{statement}
 use Rattle.machine.proofs.report.write_report.Tie as tie
 
 abbrev Inv-loop : tie.InvT-loop
-Inv-loop cpu memory out₀ first k₀ out k = (k ≤ 48) × (length out ≡ length out₀) × (take k out ≡ take k (reported (machineOf (state cpu memory))))
+Inv-loop cpu memory out₀ first k₀ out k = (k ≤ 48) × (length out ≡ length out₀) × (take k out ≡ take k (reported (machineOf (state cpu memory) 0)))
 
 abbrev μ-loop : tie.MeasureT-loop
 μ-loop cpu memory out₀ first k₀ out k = 48 - k
@@ -28,21 +28,21 @@ loop-again : tie.Need-loop-again Inv-loop μ-loop
 loop-again c =
     let l = c .before .before .before in
     let a = l .before .before .before .args in
-    let target = reported (machineOf (state (a .cpu) (a .memory .now))) in (
+    let target = reported (machineOf (state (a .cpu) (a .memory .now)) 0) in (
       omega arith,
       length-set (l .loop .out) (l .loop .k) (c .report-byte .result) ∙ l .loop .inv .1,
-      fill-more target (l .loop .out) (l .loop .k) (c .report-byte .result) (omega arith) (omega (arith, report-length (a .cpu) (a .memory .now)))
-          (c .report-byte .ensures) (l .loop .inv .2),
+      fill-more target (l .loop .out) (l .loop .k) (c .report-byte .result) (omega arith) (omega (arith, report-length (machineOf (state (a .cpu) (a .memory .now)) 0)))
+          (c .report-byte .ensures 0) (l .loop .inv .2),
     )
 
 same-length : tie.Need-same-length Inv-loop μ-loop
 same-length c = c .before .loop .inv .1
 
 returns : tie.Need-returns Inv-loop μ-loop
-returns c =
+returns c count =
     let l = c .before in
     let a = l .before .before .before .args in
-    fill-all (reported (machineOf (state (a .cpu) (a .memory .now)))) (l .loop .out) (l .loop .k) (omega arith) (omega (arith, report-length (a .cpu) (a .memory .now))) (l .loop .inv .2)
+    fill-all (reported (machineOf (state (a .cpu) (a .memory .now)) 0)) (l .loop .out) (l .loop .k) (omega arith) (omega (arith, report-length (machineOf (state (a .cpu) (a .memory .now)) 0))) (l .loop .inv .2)
 
 pub write-report-spec : {M : Type 1} → statement M
 write-report-spec =
