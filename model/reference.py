@@ -20,6 +20,8 @@ IMAGE = 166         # ACC, R0-R4, 128 + 32 data nibbles
 REPORT = 48         # bytes of one report
 SOUND_OFF = 16
 EXTERNAL = 255      # timer rate: external clock
+GAP = range(0x80, 0xE0)     # data addresses without memory
+MOST_STRAYS = 65535         # where the count of accesses to them stops
 
 # ---------------------------------------------------------------------------
 # The machine
@@ -66,6 +68,7 @@ class Machine:
     int_pin: int
     options: Options
     cycles: int             # 32 bits
+    gap: int                # accesses to 80h-DFh since the last power-on: document 02, wish 6
 
 
 def copy_machine(m):
@@ -118,7 +121,7 @@ def power_on(options, image):
                 pc=0, cf=0, tf=0, timer=0, running=0, enable=0, held_edge=0, level=0,
                 stack_address=0, stack_carry=0, halted=0, fault=0,
                 pa=15, sound_channel=SOUND_OFF, sound_mode=0,
-                pm=15, ps=15, pp=15, int_pin=1, options=options, cycles=0)
+                pm=15, ps=15, pp=15, int_pin=1, options=options, cycles=0, gap=0)
     _reset(m)   # 'All else is as after RES, ports 15, INT 1, cycle count 0'
     return m
 
@@ -323,6 +326,38 @@ def _effect(mask, m, i):
 
 
 # ---------------------------------------------------------------------------
+# Strays into the gap (document 02, wish 6)
+# ---------------------------------------------------------------------------
+
+def accesses(m, instruction):
+    """Data addresses that an instruction reads, and those that it writes. Told by its mnemonic, beside its effect: a pair
+    in brackets is written where it stands first and read where something is made of it."""
+    operation, _, rest = instruction.code.mnemonic.partition(' ')
+    if operation in ('READ', 'READF'):      # 'ACC is bits 4-7 and M(R1,R0) bits 0-3', 'high to M(R1,R0)'
+        here = [pointer(m, 1, 0)]
+        return (here, []) if rest == 'R4A' else ([], here)
+    reads, writes = [], []
+    for pair, high, low in (('[R1R0]', 1, 0), ('[R3R2]', 3, 2)):
+        if pair in rest:
+            here = pointer(m, high, low)
+            writes += [here] if rest.startswith(pair) else []
+            reads += [here] if operation != 'MOV' or not rest.startswith(pair) else []
+    return reads, writes
+
+
+def strays(m, instruction):
+    """How many of its accesses fall in the gap: 'A read-modify-write counts two'."""
+    reads, writes = accesses(m, instruction)
+    return sum(address in GAP for address in reads + writes)
+
+
+def gap_count(m):
+    """'the count has its own query': 'the lesser of 65,535 and the number of gap accesses since the last
+    power-on'; refusal 5."""
+    return m.gap if machine_ok(m) else Refused(5)
+
+
+# ---------------------------------------------------------------------------
 # One step, and events
 # ---------------------------------------------------------------------------
 
@@ -361,6 +396,7 @@ def _step(mask, m):
     if fault:   # 'A fault leaves the machine as before ..., with the fault set'
         m.fault = fault
         return
+    m.gap = min(MOST_STRAYS, m.gap + strays(m, i))      # after the fault: 'a refused or faulting instruction none'
     m.pc = moved(i, m.pc)
     _effect(mask, m, i)
     _spend(m, i.code.cycles)
@@ -440,7 +476,8 @@ def event_tmclk(m, count):
 
 
 def event_res(m):
-    """Kind 6: RES; 'keeps ACC, R0-R4, data memory, pins, options and cycle count'."""
+    """Kind 6: RES; 'keeps ACC, R0-R4, data memory, pins, options and cycle count', and the strays 'since the last
+    power-on'."""
     if not machine_ok(m):
         return Refused(5)
     m = copy_machine(m)
@@ -758,7 +795,7 @@ def machine_ok(m):
             and all(0 <= nibble <= 15 for nibble in nibbles)
             and 0 <= m.pc <= 4095 and 0 <= m.stack_address <= 4095
             and 0 <= m.timer <= 255 and 0 <= m.level <= 2 and 0 <= m.fault <= 3
-            and 0 <= m.sound_channel <= SOUND_OFF and 0 <= m.cycles < 2 ** 32
+            and 0 <= m.sound_channel <= SOUND_OFF and 0 <= m.cycles < 2 ** 32 and 0 <= m.gap <= MOST_STRAYS
             and options_ok(m.options) and not (m.halted and m.fault))
 
 

@@ -186,7 +186,7 @@ def test_refusals():
     limits = dict(acc=15, pc=4095, cf=1, tf=1, timer=255, running=1, enable=1, held_edge=1,
                   level=2, stack_address=4095, stack_carry=1, halted=1, fault=3, pa=15,
                   sound_channel=16, sound_mode=1, pm=15, ps=15, pp=15, int_pin=1,
-                  cycles=2 ** 32 - 1)
+                  cycles=2 ** 32 - 1, gap=65535)
     covered = set(limits) | {'r', 'data', 'options'}
     same(covered, {f.name for f in fields(ref.Machine)}, 'fields of the machine')
     for field, limit in limits.items():
@@ -257,8 +257,8 @@ def test_effects():
     hold('IN A,PS', one('33', pm=1, ps=2, pp=3), acc=2)
     # A write to 80h is lost, INC [R1R0] there too.
     m = machine(r=[0, 8, 0, 0, 0], acc=9)
-    same(one('05', m=m), replace(m, pc=1, cycles=1), 'write to 80h')
-    same(one('0C', m=m), replace(m, pc=1, cycles=1), 'INC at 80h')
+    same(one('05', m=m), replace(m, pc=1, cycles=1, gap=1), 'write to 80h')
+    same(one('0C', m=m), replace(m, pc=1, cycles=1, gap=2), 'INC at 80h')
     hold('SOUND 3', one('45 03', sound_mode=1), sound_channel=3, sound_mode=1)
     hold('SOUND OFF', one('4A', sound_channel=3, sound_mode=1), sound_channel=16, sound_mode=1)
     hold('SOUND LOOP', one('49'), sound_channel=16, sound_mode=1)
@@ -597,6 +597,100 @@ def test_held():
             exact += spent == most
             runs += 1
     same(exact > runs // 2 > 200, True, f'{exact} of {runs} runs spend their bound')
+
+
+# --- Strays into the gap ----------------------------------------------------
+
+# Document 001, by hand: codes that access M(R1,R0) or M(R3,R2), and how often.
+R1R0_ONCE = '04 05 08 09 0A 0B 1A 1B 1C 4C 4D 4E 4F'.split()
+R1R0_TWICE = '0C 0D 1D 1E 1F'.split()
+R3R2_ONCE = '06 07'.split()
+R3R2_TWICE = '0E 0F'.split()
+
+EDGES = {0x00: 0, 0x7F: 0, 0x80: 1, 0xDF: 1, 0xE0: 0, 0xFF: 0}
+
+
+def at_pairs(r1r0, r3r2):
+    return [r1r0 % 16, r1r0 // 16, r3r2 % 16, r3r2 // 16, 0]
+
+
+def test_gap():
+    # Each code by its pair at the edges, the other pair on the other side.
+    for codes, times, by_r1r0 in ((R1R0_ONCE, 1, True), (R1R0_TWICE, 2, True),
+                                  (R3R2_ONCE, 1, False), (R3R2_TWICE, 2, False)):
+        for code in codes:
+            for address, inside in EDGES.items():
+                other = 0x10 if inside else 0x90
+                r = at_pairs(address, other) if by_r1r0 else at_pairs(other, address)
+                hold(f'{code} at {address:02X}', one(code, r=r, gap=100), gap=100 + times * inside, fault=0)
+    # No other code counts: all that can be read, both pairs in the gap.
+    counting = R1R0_ONCE + R1R0_TWICE + R3R2_ONCE + R3R2_TWICE
+    for first in range(256):
+        if isa.read(first, 0x3E if first == 0x37 else 0) and f'{first:02X}' not in counting:
+            m = one(f'{first:02X} {"3E" if first == 0x37 else "00"}', r=at_pairs(0x80, 0xDF), level=1 if first in (0x2E, 0x2F) else 0)
+            hold(f'{first:02X} does not count', m, gap=0, fault=0)
+    # It stops at 65,535.
+    for gap, once, twice in ((65532, 65533, 65534), (65533, 65534, 65535), (65534, 65535, 65535), (65535, 65535, 65535)):
+        r = at_pairs(0xA5, 0)
+        hold(f'MOV at {gap}', one('04', r=r, gap=gap), gap=once)
+        hold(f'INC at {gap}', one('0C', r=r, gap=gap), gap=twice)
+
+
+def test_gap_events():
+    here = dict(r=at_pairs(0x80, 0xDF), gap=7)
+    # A fault counts nothing, nor does a step after it.
+    for text, level, fault in (('35', 0, 1), ('40 10', 0, 1), ('F0 00', 1, 2), ('F0 00', 2, 2), ('2E', 0, 3), ('2F', 0, 3)):
+        m = one(text, level=level, **here)
+        hold(f'fault {fault}', m, fault=fault, gap=7)
+        same(ref.run(mask((0, '0C'), fill=0x0C), m, 9), m, 'Run when faulted')
+    # The step that takes an interrupt counts nothing; the handler counts.
+    for vector, flags in ((8, dict(held_edge=1)), (4, dict(tf=1))):
+        m = ref.step(mask(fill=0x0C), machine(enable=1, **flags, **here))
+        hold('interrupt taken', m, pc=vector, level=2, gap=7)
+        hold('in its handler', ref.step(mask(fill=0x0C), m), gap=9)
+    # Refused: nothing happens, so nothing counts. The query looks at the whole machine.
+    m = machine(**here)
+    same(ref.run(bytes(4095), m, 5), Refused(1), 'Run with a short mask')
+    same(ref.run(mask(fill=0x0C), replace(m, pc=4096), 5), Refused(5), 'Run out of range')
+    same((m.gap, ref.gap_count(m)), (7, 7), 'the count')
+    same(ref.gap_count(replace(m, acc=16)), Refused(5), 'the count of a machine out of range')
+    for gap in (0, 1, 65534, 65535):
+        same(ref.gap_count(replace(m, gap=gap)), gap, f'count {gap}')
+        hold('RES keeps it', ref.event_res(replace(m, gap=gap)), gap=gap)
+        hold('pins keep it', ref.event_pins(replace(m, gap=gap), 0, 0, 0), gap=gap)
+        hold('INT keeps it', ref.event_int(replace(m, gap=gap), 0), gap=gap)
+        hold('TMCLK keeps it', ref.event_tmclk(replace(m, gap=gap), 300), gap=gap)
+        hold('power-on clears it', ref.event_power_on(replace(m, gap=gap), OPTIONS, [8] * 166), gap=0)
+    # A report has no count in it.
+    same(ref.report(m), ref.report(replace(m, gap=65535)), 'report')
+    # Two for INC, none for JMP: 32,768 turns reach the end, in one Run or in two.
+    loop, start = mask((0, '0C E0 00')), machine(r=at_pairs(0x80, 0))
+    hold('32,767 turns', ref.run(loop, start, 65534), gap=65534)
+    m = ref.run(loop, start, 65535)
+    hold('a turn more', m, gap=65535)
+    hold('and many more', ref.run(loop, m, 1000), gap=65535)
+
+
+def test_accesses():
+    # What the effect reads and writes, written down as it goes, is what the mnemonic tells.
+    rng, met = random.Random(6), set()
+    read, write = ref.data_read, ref._data_write
+    table = bytes(rng.randrange(256) for _ in range(4096))
+    for first in list(range(256)) * 16:
+        program = bytes([first, 0x3E if first == 0x37 else rng.randrange(16)]) + table[2:]
+        m = machine(acc=rng.randrange(16), r=[rng.randrange(16) for _ in range(5)], level=rng.randrange(3))
+        i = ref.fetch(program, 0)
+        if ref.fault_of(i, m.level):
+            continue
+        log = ([], [])
+        ref.data_read = lambda m, a: (log[0].append(a), read(m, a))[1]
+        ref._data_write = lambda m, a, x: (log[1].append(a), write(m, a, x))[1]
+        after = ref.step(program, m)
+        ref.data_read, ref._data_write = read, write
+        assert log == ref.accesses(m, i), i
+        assert after.gap == sum(0x80 <= a < 0xE0 for a in log[0] + log[1]), i
+        met.add(i.code.mnemonic)
+    same(len(met), len(isa.TABLE), 'lines of the summary met')
 
 
 # --- Lists of events --------------------------------------------------------
