@@ -40,9 +40,9 @@ enum { HT1130_MASK = 4096, HT1130_IMAGE = 166, HT1130_REPORT = 48 };
 enum { HT1130_CHANNEL_OFF = 16, HT1130_RATE_EXTERNAL = 255 };
 
 /*
- * The machine record: 200 bytes, 4-byte aligned. Bytes 15, 19, 34 and 35 are
- * padding of no defined value: compare fields, not bytes. A host may read and
- * write any field; a call refuses what is out of range with 5. The offset of
+ * The machine record: 204 bytes, 4-byte aligned. Bytes 15, 19, 34, 35, 202 and
+ * 203 are padding of no defined value: compare fields, not bytes. A host may read
+ * and write any field; a call refuses what is out of range with 5. The offset of
  * each part stands beside it.
  */
 typedef struct ht1130_machine {
@@ -57,6 +57,7 @@ typedef struct ht1130_machine {
     struct { uint8_t rate, commons, pm, ps, pp; } options;    /* 29  0-13 but 6, 255 external; 3, 4; wake nibbles of the ports */
     uint32_t cycles;                                          /* 36  goes on past its largest value to 0 */
     uint8_t memory[160];                                      /* 40  data memory 00h-7Fh, then E0h-FFh, nibbles */
+    uint16_t gap;                                             /* 200 strays: see ht1130_gap_count; any value is in range */
 } ht1130_machine;
 
 /*
@@ -87,6 +88,19 @@ uint8_t ht1130_apply(ht1130_machine *machine, uint16_t kind, uint16_t count, uin
  * 0, or refuses with 2 or 5.
  */
 uint8_t ht1130_report(const ht1130_machine *machine, uint8_t *out, size_t out_len);
+
+/* An answer of eight bytes is taken apart by these; ht1130_tools.h has more. */
+#define HT1130_REFUSAL(answer) ((uint8_t)(answer))             /* 0, or the refusal */
+#define HT1130_COUNT(answer) ((uint16_t)((answer) >> 32))      /* ht1130_gap_count, ht1130_way; 0 where it is refused */
+
+/*
+ * How often the mask touched data memory that is not there: reads and writes at
+ * 80h-DFh since the last power-on, 65,535 for more. An instruction that reads and
+ * writes counts two, one that faults none, nor does a refused Run; RES keeps the
+ * count. Example: a machine powered on with R1 8 and all else 0 has counted 3
+ * after MOV A,[R1R0] and INC [R1R0]. Refuses with 5.
+ */
+uint64_t ht1130_gap_count(const ht1130_machine *machine);
 
 #ifdef __cplusplus
 }

@@ -20,7 +20,7 @@ struct Sort {
     case: fn(&mut Prng, u64) -> Outcome,
 }
 
-const SORTS: [Sort; 24] = [
+const SORTS: [Sort; 25] = [
     Sort {
         name: "instructions read",
         cases: |_| 256,
@@ -97,6 +97,11 @@ const SORTS: [Sort; 24] = [
         case: event_list,
     },
     Sort {
+        name: "counts to their end",
+        cases: |n| n / 20,
+        case: count_to_the_end,
+    },
+    Sort {
         name: "scripts, valid",
         cases: |n| 2 * n,
         case: script_valid,
@@ -146,7 +151,8 @@ const SORTS: [Sort; 24] = [
 /// The cases that `.ci/run` takes.
 pub const CASES: u64 = 4000;
 
-/// What the bounds have to meet in so many cases, to tell the rule from another.
+/// What the bounds and the count of strays have to meet in so many cases, to tell the
+/// rule from another.
 #[derive(Clone, Copy)]
 enum Met {
     Bounded,
@@ -161,9 +167,14 @@ enum Met {
     Less,
     Exact,
     HeldOn,
+    Strays,
+    ByOneStep,
+    Stopped,
+    Cleared,
+    GapRefused,
 }
 
-const MUST_MEET: [(Met, &str, u64); 12] = [
+const MUST_MEET: [(Met, &str, u64); 17] = [
     (Met::Bounded, "pairs with a bound", 50_000),
     (Met::Over10, "of them over 10", 30_000),
     (Met::Over100, "over 100", 15_000),
@@ -176,6 +187,11 @@ const MUST_MEET: [(Met, &str, u64); 12] = [
     (Met::Less, "of them that spend less", 1_200),
     (Met::Exact, "runs that must spend just the bound", 2_000),
     (Met::HeldOn, "runs with a held edge", 4_500),
+    (Met::Strays, "accesses to the gap", 5_000_000),
+    (Met::ByOneStep, "single steps that counted", 70_000),
+    (Met::Stopped, "events that counted on past 65,535", 15_000),
+    (Met::Cleared, "power-ons that cleared a count", 3_000),
+    (Met::GapRefused, "counts, of machines out of range", 25_000),
 ];
 
 static MET: [AtomicU64; MUST_MEET.len()] = [const { AtomicU64::new(0) }; MUST_MEET.len()];
@@ -260,8 +276,8 @@ fn same_machine(
     library: &ht1130::Machine,
     plain: &plain::Machine,
 ) -> Outcome {
-    let library = to_plain(library);
-    if library == *plain {
+    let (library, plain) = (to_plain(library), plain.recorded());
+    if library == plain {
         return Ok(());
     }
     let mut text = what();
@@ -277,7 +293,7 @@ fn same_machine(
     }
     name_differing! {
         acc r pc cf tf timer running enabled held level stack stack_cf halted fault pa channel mode
-        pm ps pp int options cycles memory
+        pm ps pp int options cycles memory strays
     }
     Err(text)
 }
@@ -480,7 +496,7 @@ fn way_of_both(mask: &[u8], length: usize, way: Result<u16, plain::Refusal>) -> 
     let mut list = Buffers::new(length);
     let library = library::way(&lent, list.library());
     let plain = plain::listed(way, length);
-    same(what, library, packed::way(&plain))?;
+    same(what, library, packed::counted(&plain))?;
     same(|| "mask after its way".into(), &lent[..], mask)?;
     // Which of several ways is free, so the library's is tested, and then taken.
     let bytes = 3 * plain.unwrap_or(0) as usize;
@@ -740,7 +756,7 @@ fn held_from(prng: &mut Prng, mask: &Mask, pair: Pair, bound: Bound) -> Outcome 
 
 /// An event that may come between two steps, refused ones too: a Run gets a mask
 /// that is too short.
-fn between(prng: &mut Prng) -> (u16, u16, u8, u8, u8) {
+fn between(prng: &mut Prng) -> Event {
     let mut value = || prng.byte() % 17;
     let ports = [value(), value(), value()];
     match prng.below(8) {
@@ -931,11 +947,21 @@ fn machine(prng: &mut Prng) -> ht1130::Machine {
     if prng.below(4) == 0 {
         cpu.timer.count = 250 + prng.below(6) as u8;
     }
+    if prng.below(3) == 0 {
+        let edges = [0x7F, 0x80, 0xDF, 0xE0, 0x80 + prng.byte() % 0x60];
+        let (one, other) = (pick(prng, &edges), pick(prng, &edges));
+        (cpu.registers.r0, cpu.registers.r1) = (one & 15, one >> 4);
+        (cpu.registers.r2, cpu.registers.r3) = (other & 15, other >> 4);
+    }
+    if prng.below(3) == 0 {
+        m.gap = pick(prng, &[0, 0, 65532, 65533, 65534, 65535, 65000]);
+    }
     m
 }
 
-/// Fields by number: 31 of the processor, then the memory.
-const FIELDS: u64 = 31 + 160;
+/// Fields by number: 31 of the processor, the memory, the count.
+const FIELDS: u64 = 31 + 160 + 1;
+const GAP: u64 = FIELDS - 1;
 
 fn set(m: &mut ht1130::Machine, field: u64, value: u32) {
     let byte = value as u8;
@@ -972,6 +998,7 @@ fn set(m: &mut ht1130::Machine, field: u64, value: u32) {
         28 => cpu.options.ps = byte,
         29 => cpu.options.pp = byte,
         30 => cpu.cycles = value,
+        GAP => m.gap = value as u16,
         31.. => m.memory[field as usize - 31] = byte,
     }
 }
@@ -987,7 +1014,7 @@ fn within(field: u64, value: u32) -> u32 {
         19 => value % 17,
         25 => script::RATES[value as usize % 14] as u32,
         26 => 3 + value % 2,
-        30 => value,
+        30 | GAP => value,
         _ => value % 16,
     }
 }
@@ -998,6 +1025,7 @@ fn over(field: u64) -> u32 {
         6 | 14 => 4096,
         7 | 8 | 10 | 11 | 12 | 15 | 16 | 20 | 24 => 2,
         9 | 30 => 256,
+        GAP => 65536,
         13 => 3,
         17 => 4,
         19 => 17,
@@ -1007,11 +1035,23 @@ fn over(field: u64) -> u32 {
     }
 }
 
+type Event = (u16, u16, u8, u8, u8);
+
 /// The same event on both; all fields compared after it, refused or not.
-fn event_on_both(m: &mut ht1130::Machine, event: (u16, u16, u8, u8, u8), mask: &[u8]) -> Outcome {
+fn event_on_both(m: &mut ht1130::Machine, event: Event, mask: &[u8]) -> Outcome {
+    next_on_both(m, &mut to_plain(m), event, mask)
+}
+
+/// The next event of a list, with the plain machine that those before it left.
+fn next_on_both(
+    m: &mut ht1130::Machine,
+    plain: &mut plain::Machine,
+    event: Event,
+    mask: &[u8],
+) -> Outcome {
     let before = *m;
     let (kind, count, a, b, c) = event;
-    let mut plain = to_plain(m);
+    let strays = plain.strays;
     let lent = mask.to_vec();
     let library = fenced(m, |m| {
         number(ht1130::apply_kind(m, kind, count, a, b, c, &lent))
@@ -1025,13 +1065,30 @@ fn event_on_both(m: &mut ht1130::Machine, event: (u16, u16, u8, u8, u8), mask: &
         )
     };
     same(|| format!("refusal of {}", what()), library, refusal)?;
-    same_machine(what, m, &plain).map_err(|text| {
+    same_machine(what, m, plain).map_err(|text| {
         if kind == plain::RUN {
             text + &first_step(before, count, mask)
         } else {
             text
         }
-    })
+    })?;
+    let more = plain.strays - strays;
+    meet(Met::Strays, more as usize);
+    meet(Met::ByOneStep, (count == 1 && more > 0) as usize);
+    meet(Met::Stopped, (more > 0 && plain.strays > 65535) as usize);
+    count_of_both(m, plain)
+}
+
+/// The query of the count, by number and by the safe function.
+fn count_of_both(m: &ht1130::Machine, plain: &plain::Machine) -> Outcome {
+    let lent = *m;
+    let count = plain.gap_count();
+    let what = || format!("count of strays of {m:X?}");
+    same(what, library::gap_count(&lent), packed::counted(&count))?;
+    let safe = ht1130::gap_count(&lent).map_err(|refusal| refusal.number());
+    same(what, safe, count)?;
+    meet(Met::GapRefused, (count.is_err() && m.gap > 0) as usize);
+    same(|| "machine after its count".into(), lent, *m)
 }
 
 /// Names the step at which two runs part.
@@ -1066,7 +1123,7 @@ fn report_of_both(m: &ht1130::Machine, length: usize) -> Outcome {
     same(|| "machine after its report".into(), lent, *m)
 }
 
-fn any_event(prng: &mut Prng, steps: u16) -> (u16, u16, u8, u8, u8) {
+fn any_event(prng: &mut Prng, steps: u16) -> Event {
     let kind = match prng.below(16) {
         0 => prng.below(10) as u16,
         1 => pick(
@@ -1093,10 +1150,10 @@ fn any_event(prng: &mut Prng, steps: u16) -> (u16, u16, u8, u8, u8) {
 }
 
 fn event_mask(prng: &mut Prng) -> Vec<u8> {
-    if prng.below(12) == 0 {
-        mask_of_wrong_length(prng)
-    } else {
-        any_mask(prng).to_vec()
+    match prng.below(12) {
+        0 => mask_of_wrong_length(prng),
+        1..=3 => masks::straying(prng).to_vec(),
+        _ => any_mask(prng).to_vec(),
     }
 }
 
@@ -1181,7 +1238,7 @@ fn options(prng: &mut Prng) -> plain::Options {
     options
 }
 
-fn power_on_both(prng: &mut Prng, m: &mut ht1130::Machine) -> Outcome {
+fn power_on_both(prng: &mut Prng, m: &mut ht1130::Machine, plain: &mut plain::Machine) -> Outcome {
     let length = if prng.below(8) == 0 {
         pick(prng, &[0, 1, 6, 165, 167, 332, 4096])
     } else {
@@ -1193,7 +1250,6 @@ fn power_on_both(prng: &mut Prng, m: &mut ht1130::Machine) -> Outcome {
     }
     let options = options(prng);
     let before = *m;
-    let mut plain = to_plain(m);
     let lent = library::options(&options);
     let library = fenced(m, |m| number(ht1130::power_on(m, lent, &image)))?;
     let refusal = plain.power_on(options, &image).err().unwrap_or(0);
@@ -1204,7 +1260,9 @@ fn power_on_both(prng: &mut Prng, m: &mut ht1130::Machine) -> Outcome {
         )
     };
     same(|| format!("refusal of {}", what()), library, refusal)?;
-    same_machine(what, m, &plain)
+    same_machine(what, m, plain)?;
+    meet(Met::Cleared, (refusal == 0 && before.gap > 0) as usize);
+    count_of_both(m, plain)
 }
 
 fn power_on(prng: &mut Prng, case: u64) -> Outcome {
@@ -1214,29 +1272,54 @@ fn power_on(prng: &mut Prng, case: u64) -> Outcome {
             set(&mut m, field, prng.next() as u32);
         }
     }
-    power_on_both(prng, &mut m)
+    let mut plain = to_plain(&m);
+    power_on_both(prng, &mut m, &mut plain)
 }
 
-/// Many events on one lent record, good and bad; compared after each.
-fn event_list(prng: &mut Prng, _: u64) -> Outcome {
-    let mask = if prng.below(2) == 0 {
-        masks::lively(prng)
-    } else {
-        any_mask(prng)
+/// Many events on one lent record, good and bad; compared after each. The plain
+/// machine goes its own way: it counts every stray since its last power-on.
+fn event_list(prng: &mut Prng, case: u64) -> Outcome {
+    let mask = match case % 4 {
+        0 | 1 => masks::lively(prng),
+        2 => any_mask(prng),
+        _ => masks::straying(prng),
     };
+    // In half of the lists few power-ons, so that counts come to their end.
+    let apart = pick(prng, &[40, 400]);
     let mut m = machine(prng);
+    let mut plain = to_plain(&m);
     for _ in 0..prng.below(600) {
-        if prng.below(40) == 0 {
-            power_on_both(prng, &mut m)?;
+        if prng.below(apart) == 0 {
+            power_on_both(prng, &mut m, &mut plain)?;
             continue;
         }
         let steps = pick(prng, &[1, 10, 100, 100, 2000]);
         let event = any_event(prng, steps);
         let length = if prng.below(30) == 0 { MASK - 1 } else { MASK };
-        event_on_both(&mut m, event, &mask[..length])?;
+        next_on_both(&mut m, &mut plain, event, &mask[..length])?;
         report_of_both(&m, REPORT)?;
     }
-    event_on_both(&mut m, (plain::RUN, 65535, 0, 0, 0), &mask)
+    next_on_both(&mut m, &mut plain, (plain::RUN, 65535, 0, 0, 0), &mask)
+}
+
+/// From power-on to 65,535 strays and on, by events of all kinds.
+fn count_to_the_end(prng: &mut Prng, _: u64) -> Outcome {
+    let mask = masks::round_in_the_gap(prng);
+    let mut m = machine(prng);
+    let mut plain = to_plain(&m);
+    while plain.strays != 0 {
+        power_on_both(prng, &mut m, &mut plain)?;
+    }
+    let most = pick(prng, &[300, 5000, 65535]);
+    while plain.strays < 66_000 {
+        let event = match prng.below(4) {
+            0 => between(prng),
+            1 => (plain::RES, 0, 0, 0, 0),
+            _ => (plain::RUN, prng.below(most + 1) as u16, 0, 0, 0),
+        };
+        next_on_both(&mut m, &mut plain, event, &mask)?;
+    }
+    Ok(())
 }
 
 // Scripts

@@ -43,6 +43,7 @@ pub fn to_plain(machine: &ht1130::Machine) -> plain::Machine {
         },
         cycles: cpu.cycles,
         memory: machine.memory,
+        strays: machine.gap as u64,
     }
 }
 
@@ -58,6 +59,11 @@ pub fn options(o: &plain::Options) -> ht1130::Options {
 
 pub fn number(result: Result<(), ht1130::Refusal>) -> u8 {
     result.map_or_else(|refusal| refusal.number(), |()| 0)
+}
+
+pub fn gap_count(machine: &ht1130::Machine) -> u64 {
+    // SAFETY: the record is valid for the call.
+    unsafe { ffi::ht1130_gap_count(machine) }
 }
 
 pub fn check(mask: &[u8], marks: &mut [u8]) -> u64 {
@@ -132,7 +138,8 @@ pub mod packed {
         }
     }
 
-    pub fn way(result: &Result<u16, Refusal>) -> u64 {
+    /// What `way` and `gap_count` answer.
+    pub fn counted(result: &Result<u16, Refusal>) -> u64 {
         match result {
             Err(refusal) => *refusal as u64,
             Ok(count) => (*count as u64) << 32,

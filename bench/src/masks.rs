@@ -193,6 +193,53 @@ pub fn lively(prng: &mut Prng) -> Mask {
     mask
 }
 
+/// A program that lives in the gap: its pairs are set to 7Fh-E0h, and half of its code
+/// goes through them.
+pub fn straying(prng: &mut Prng) -> Mask {
+    let mut mask = lively(prng);
+    let mut at = 0x20;
+    while at < 0xD00 {
+        let place = 0x7F + prng.byte() % 0x62;
+        let (length, first, second) = match prng.below(16) {
+            0 => (2, 0x50 | place & 15, place >> 4), // MOV R1R0
+            1 => (2, 0x60 | place & 15, place >> 4), // MOV R3R2
+            2..=8 => (1, through_a_pair(prng), NOP),
+            _ => instruction(prng, true),
+        };
+        mask[at] = first;
+        if length == 2 {
+            mask[at + 1] = second;
+        }
+        at += length;
+    }
+    mask
+}
+
+/// A loop whose pairs both stay in the gap, with handlers that go there too.
+pub fn round_in_the_gap(prng: &mut Prng) -> Mask {
+    let mut place = || 0x80 + prng.byte() % 0x60;
+    let (one, other) = (place(), place());
+    let mut code = vec![0x50 | one & 15, one >> 4, 0x60 | other & 15, other >> 4]; // MOV R1R0; MOV R3R2
+    code.push(0x2C + (prng.byte() & 1)); // EI or DI
+    code.extend((0..1 + prng.below(40)).map(|_| through_a_pair(prng)));
+    code.extend([0xE0, 0x10]); // JMP 010h
+    with(&[
+        (0x00, &[0xE0, 0x10]),                 // JMP 010h
+        (0x04, &[through_a_pair(prng), 0x2F]), // and RETI
+        (0x08, &[through_a_pair(prng), 0x2F]),
+        (0x10, &code),
+    ])
+}
+
+/// A code that reads or writes data memory.
+fn through_a_pair(prng: &mut Prng) -> u8 {
+    match prng.byte() % 22 {
+        n @ 0..=11 => 0x04 + n,
+        n @ 12..=17 => 0x1A + n - 12,
+        n => 0x4C + n - 18,
+    }
+}
+
 /// Reaches every address in every level, most of them in more than one way.
 pub fn worst() -> Mask {
     let mut mask: Mask = std::array::from_fn(|at| 0xA0 | at as u8 & 1); // JNZ R0,0A1h or 1A0h

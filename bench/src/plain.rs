@@ -62,6 +62,9 @@ pub struct Machine {
     pub options: Options,
     pub cycles: u32,
     pub memory: [u8; MEMORY],
+    /// Every access to 80h-DFh since the last power-on. It goes on where the
+    /// machine's count stops: `recorded`.
+    pub strays: u64,
 }
 
 pub const FAULT_UNREADABLE: u8 = 1;
@@ -109,6 +112,7 @@ impl Machine {
             },
             cycles: 0,
             memory: [0; MEMORY],
+            strays: 0,
         }
     }
 
@@ -129,6 +133,7 @@ impl Machine {
         self.pp = 15;
         self.int = 1;
         self.cycles = 0;
+        self.strays = 0;
         self.reset();
         Ok(())
     }
@@ -180,6 +185,21 @@ impl Machine {
             && (self.halted == 0 || self.fault == 0)
             && self.options.allowed()
             && nibbles(&self.memory)
+    }
+
+    /// The machine as its record has it: 65,535 stands for more strays.
+    pub fn recorded(&self) -> Machine {
+        Machine {
+            strays: self.strays.min(65535),
+            ..*self
+        }
+    }
+
+    pub fn gap_count(&self) -> Result<u16, Refusal> {
+        if !self.in_range() {
+            return Err(5);
+        }
+        Ok(self.recorded().strays as u16)
     }
 
     /// One event on a lent machine. What the kind does not name is not looked at.
@@ -326,12 +346,23 @@ impl Machine {
             0x05 => self.store(self.acc),
             0x06 => self.acc = self.load_at(self.r[3], self.r[2]),
             0x07 => self.store_at(self.r[3], self.r[2], self.acc),
-            0x08 => self.add(self.load(), self.cf),
-            0x09 => self.add(self.load(), 0),
-            0x0A => self.add(15 - self.load(), self.cf),
-            0x0B => self.add(15 - self.load(), 1),
-            0x0C => self.store((self.load() + 1) & 15),
-            0x0D => self.store((self.load() + 15) & 15),
+            0x08..=0x0B => {
+                let m = self.load();
+                match op {
+                    0x08 => self.add(m, self.cf),
+                    0x09 => self.add(m, 0),
+                    0x0A => self.add(15 - m, self.cf),
+                    _ => self.add(15 - m, 1),
+                }
+            }
+            0x0C => {
+                let m = self.load();
+                self.store((m + 1) & 15);
+            }
+            0x0D => {
+                let m = self.load();
+                self.store((m + 15) & 15);
+            }
             0x0E => {
                 let m = self.load_at(self.r[3], self.r[2]);
                 self.store_at(self.r[3], self.r[2], (m + 1) & 15);
@@ -353,9 +384,18 @@ impl Machine {
             0x1A => self.acc &= self.load(),
             0x1B => self.acc ^= self.load(),
             0x1C => self.acc |= self.load(),
-            0x1D => self.store(self.load() & self.acc),
-            0x1E => self.store(self.load() ^ self.acc),
-            0x1F => self.store(self.load() | self.acc),
+            0x1D => {
+                let m = self.load();
+                self.store(m & self.acc);
+            }
+            0x1E => {
+                let m = self.load();
+                self.store(m ^ self.acc);
+            }
+            0x1F => {
+                let m = self.load();
+                self.store(m | self.acc);
+            }
             0x20 => self.r[0] = self.acc,
             0x21 => self.acc = self.r[0],
             0x22 => self.r[1] = self.acc,
@@ -502,7 +542,7 @@ impl Machine {
         self.cf = (sum > 15) as u8;
     }
 
-    fn load(&self) -> u8 {
+    fn load(&mut self) -> u8 {
         self.load_at(self.r[1], self.r[0])
     }
 
@@ -510,11 +550,14 @@ impl Machine {
         self.store_at(self.r[1], self.r[0], value)
     }
 
-    fn load_at(&self, high: u8, low: u8) -> u8 {
+    fn load_at(&mut self, high: u8, low: u8) -> u8 {
         match high << 4 | low {
             address @ 0..=0x7F => self.memory[address as usize],
             address @ 0xE0..=0xFF => self.memory[address as usize - 0x60],
-            _ => 0,
+            _ => {
+                self.strays += 1;
+                0
+            }
         }
     }
 
@@ -522,7 +565,7 @@ impl Machine {
         match high << 4 | low {
             address @ 0..=0x7F => self.memory[address as usize] = value,
             address @ 0xE0..=0xFF => self.memory[address as usize - 0x60] = value,
-            _ => {}
+            _ => self.strays += 1,
         }
     }
 
@@ -1335,6 +1378,82 @@ mod tests {
         assert_eq!(stored.memory, m.memory);
         assert_eq!(step(stored, &[0x3E, 0x04]).acc, 5);
         assert_eq!(step(m, &[0x04]).acc, 0);
+    }
+
+    /// Both pairs at these addresses.
+    fn pairs_at(r1r0: u8, r3r2: u8) -> Machine {
+        Machine {
+            r: [r1r0 & 15, r1r0 >> 4, r3r2 & 15, r3r2 >> 4, 0],
+            strays: 7,
+            ..machine()
+        }
+    }
+
+    #[test]
+    fn every_access_to_the_gap_counts() {
+        for op in 0..=255 {
+            // By the data sheet's summary: through R1R0, through R3R2.
+            let (r1r0, r3r2) = match op {
+                0x04 | 0x05 | 0x08..=0x0B | 0x1A..=0x1C | 0x4C..=0x4F => (1, 0),
+                0x0C | 0x0D | 0x1D..=0x1F => (2, 0),
+                0x06 | 0x07 => (0, 1),
+                0x0E | 0x0F => (0, 2),
+                _ => (0, 0),
+            };
+            for (address, inside) in [(0x7F, 0), (0x80, 1), (0xDF, 1), (0xE0, 0), (0xFF, 0)] {
+                let m = step(pairs_at(address, 0), &[op, 0]);
+                assert_eq!(m.strays, 7 + r1r0 * inside, "{op:02X} at {address:02X}");
+                let m = step(pairs_at(0, address), &[op, 0]);
+                assert_eq!(m.strays, 7 + r3r2 * inside, "{op:02X} at {address:02X}");
+            }
+        }
+    }
+
+    #[test]
+    fn what_does_not_run_does_not_count() {
+        let inc = [0x0C; MASK];
+        let m = pairs_at(0x80, 0xDF);
+        for (level, code) in [
+            (0, [0x35, 0]),
+            (0, [0x40, 0x10]),
+            (0, [0x2E, 0]),
+            (0, [0x2F, 0]),
+            (1, [0xF0, 0]),
+            (2, [0xF0, 0]),
+        ] {
+            let mut m = step(Machine { level, ..m }, &code);
+            assert_ne!(m.fault, 0);
+            m.apply(RUN, 9, 0, 0, 0, &inc).unwrap();
+            assert_eq!(m.strays, 7);
+        }
+        let mut m = Machine {
+            enabled: 1,
+            held: 1,
+            ..m
+        };
+        m.apply(RUN, 1, 0, 0, 0, &inc).unwrap(); // takes the edge
+        assert_eq!((m.level, m.strays), (2, 7));
+        assert_eq!(m.apply(RUN, 1, 0, 0, 0, &inc[1..]), Err(1));
+        m.pc = 4096;
+        assert_eq!(m.apply(RUN, 1, 0, 0, 0, &inc), Err(5));
+        assert_eq!((m.strays, m.gap_count()), (7, Err(5)));
+    }
+
+    #[test]
+    fn the_count_stops_and_only_power_on_clears_it() {
+        let mut m = pairs_at(0x80, 0);
+        m.apply(RUN, 40_000, 0, 0, 0, &[0x0C; MASK]).unwrap();
+        assert_eq!((m.strays, m.gap_count()), (80_007, Ok(65535)));
+        let other = Machine { strays: 65535, ..m };
+        assert_eq!(m.recorded(), other);
+        for (kind, count) in [(PINS, 0), (INT, 0), (TMCLK, 9), (RES, 0)] {
+            m.apply(kind, count, 0, 0, 0, &[]).unwrap();
+            assert_eq!(m.gap_count(), Ok(65535));
+        }
+        assert_eq!(m.power_on(OPTIONS, &[16; IMAGE]), Err(3));
+        assert_eq!(m.gap_count(), Ok(65535));
+        m.power_on(OPTIONS, &[0; IMAGE]).unwrap();
+        assert_eq!(m.gap_count(), Ok(0));
     }
 
     #[test]

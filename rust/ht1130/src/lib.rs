@@ -170,7 +170,7 @@ impl Default for Options {
     }
 }
 
-/// A machine without its memory.
+/// A machine without its memory and its count of strays.
 #[repr(C)]
 #[derive(Clone, Copy, PartialEq, Eq, Debug)]
 pub struct Cpu {
@@ -203,10 +203,13 @@ pub struct Cpu {
 #[repr(C)]
 #[derive(Clone, Copy, PartialEq, Eq, Debug)]
 pub struct Machine {
-    /// All but the memory.
+    /// All but the memory and the count.
     pub cpu: Cpu,
     /// Data memory 00h-7Fh, then the display E0h-FFh, nibbles.
     pub memory: [u8; 160],
+    /// Reads and writes at 80h-DFh, as [`gap_count`] gives them. Any value is in
+    /// range.
+    pub gap: u16,
 }
 
 impl Machine {
@@ -265,6 +268,7 @@ impl Machine {
                 cycles: 0,
             },
             memory: [0; 160],
+            gap: 0,
         }
     }
 }
@@ -566,6 +570,7 @@ pub mod ffi {
             mask_len: usize,
         ) -> u8;
         pub fn ht1130_report(machine: *const Machine, out: *mut u8, out_len: usize) -> u8;
+        pub fn ht1130_gap_count(machine: *const Machine) -> u64;
         pub fn ht1130_check(
             mask: *const u8,
             mask_len: usize,
@@ -688,6 +693,32 @@ pub fn report_bytes(machine: &Machine) -> Result<[u8; REPORT], Refusal> {
     let mut out = [0; REPORT];
     report(machine, &mut out)?;
     Ok(out)
+}
+
+/// How often the mask touched data memory that is not there: reads and writes at
+/// 80h-DFh since the last power-on, 65,535 for more. An instruction that reads and
+/// writes counts two, one that faults none, nor does a refused `Run`; RES keeps
+/// the count.
+///
+/// Refused: `Machine`.
+///
+/// ```
+/// use ht1130::{Event, Machine, Options, IMAGE, MASK};
+///
+/// let mut mask = [0x3E; MASK]; // NOP throughout
+/// mask[..4].copy_from_slice(&[0x50, 0x08, 0x04, 0x0C]); // MOV R1R0,80H; MOV A,[R1R0]; INC [R1R0]
+///
+/// let mut machine = Machine::zeroed();
+/// ht1130::power_on(&mut machine, Options::default(), &[0; IMAGE])?;
+/// ht1130::apply(&mut machine, Event::Run(9), &mask)?;
+/// assert_eq!(ht1130::gap_count(&machine)?, 3);
+/// # Ok::<(), ht1130::Refusal>(())
+/// ```
+pub fn gap_count(machine: &Machine) -> Result<u16, Refusal> {
+    // SAFETY: the record is valid for the call.
+    let answer = unsafe { ffi::ht1130_gap_count(machine) };
+    accepted(part(answer, 0))?;
+    Ok(high(answer))
 }
 
 /// Checks a mask and writes [`MASK`] marks, also where it fails: 1 the code at

@@ -103,6 +103,40 @@ fn pulses_asleep() {
 }
 
 #[test]
+fn strays() {
+    // MOV R1R0,7FH; MOV R3R2,0E0H; MOV A,[R1R0]; INC [R3R2]
+    let beside = mask(&[(0, &[0x5F, 0x07, 0x60, 0x0E, 0x04, 0x0E])]);
+    // MOV R1R0,80H; MOV R3R2,0DFH; MOV A,[R1R0]; INC [R3R2]; READ R4A; READ MR0A; RET
+    let inside = mask(&[(0, &[0x50, 0x08, 0x6F, 0x0D, 0x04, 0x0E, 0x4C, 0x4E, 0x2E])]);
+    let mut m = powered(Options::default());
+    ht1130::apply(&mut m, Event::Run(9), &beside).unwrap();
+    assert_eq!(ht1130::gap_count(&m), Ok(0));
+    ht1130::apply(&mut m, Event::Res, &[]).unwrap();
+    for (steps, count) in [(2, 0), (1, 1), (1, 3), (1, 4), (1, 5), (9, 5)] {
+        ht1130::apply(&mut m, Event::Run(steps), &inside).unwrap();
+        assert_eq!(ht1130::gap_count(&m), Ok(count));
+    }
+    assert_eq!((m.cpu.status.fault, m.gap), (3, 5));
+    ht1130::apply(&mut m, Event::Res, &[]).unwrap();
+    assert_eq!(ht1130::gap_count(&m), Ok(5));
+    let refused = ht1130::apply(&mut m, Event::Run(4), &inside[1..]);
+    assert_eq!(
+        (refused, ht1130::gap_count(&m)),
+        (Err(Refusal::MaskLength), Ok(5))
+    );
+    m.gap = 65533;
+    for count in [65533, 65533, 65534, 65535, 65535] {
+        ht1130::apply(&mut m, Event::Run(1), &inside).unwrap();
+        assert_eq!(ht1130::gap_count(&m), Ok(count));
+    }
+    m.cpu.control.pc = 4096;
+    assert_eq!(ht1130::gap_count(&m), Err(Refusal::Machine));
+    assert_eq!(ht1130::gap_count(&Machine::zeroed()), Err(Refusal::Machine));
+    ht1130::power_on(&mut m, Options::default(), &[0; IMAGE]).unwrap();
+    assert_eq!(ht1130::gap_count(&m), Ok(0));
+}
+
+#[test]
 fn refusals() {
     let nops = mask(&[]);
     let mut m = powered(Options::default());

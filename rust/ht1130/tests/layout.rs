@@ -37,6 +37,7 @@ fn rust_fields() -> Vec<(&'static str, usize, usize)> {
     .to_vec();
     fields.push(("cycles", offset_of!(Machine, cpu.cycles), 4));
     fields.push(("memory", offset_of!(Machine, memory), 160));
+    fields.push(("gap", offset_of!(Machine, gap), size_of_field(&BLANK.gap)));
     fields
 }
 
@@ -80,7 +81,8 @@ fn c_and_rust_agree() {
     }
     body += "    return 0;\n}\n";
     assert_eq!(run_c("layout", &body), expected);
-    assert_eq!((size_of::<Machine>(), align_of::<Machine>()), (200, 4));
+    assert_eq!((size_of::<Machine>(), align_of::<Machine>()), (204, 4));
+    assert_eq!(rust_fields().last(), Some(&("gap", 200, 2)));
 }
 
 #[test]
@@ -131,7 +133,10 @@ fn c_and_rust_number_alike() {
 /// A record as bytes, so that Rust's layout has no part in what follows.
 #[repr(C, align(4))]
 #[derive(Clone, Copy)]
-struct Record([u8; 200]);
+struct Record([u8; SIZE]);
+
+/// The bytes of a record, by the header.
+const SIZE: usize = 204;
 
 /// The offsets that the header prints.
 mod at {
@@ -161,18 +166,22 @@ mod at {
     pub const WAKE: [usize; 3] = [31, 32, 33];
     pub const CYCLES: usize = 36;
     pub const MEMORY: usize = 40;
-    pub const PADDING: [usize; 4] = [15, 19, 34, 35];
+    pub const GAP: usize = 200;
+    pub const PADDING: [usize; 6] = [15, 19, 34, 35, 202, 203];
 }
 
 impl Record {
     /// A record full of rubbish, powered on with values that can be told apart.
     fn powered(rate: u8) -> Record {
-        let mut record = Record([0xA5; 200]);
+        Record([0xA5; SIZE]).powered_again(rate)
+    }
+
+    fn powered_again(mut self, rate: u8) -> Record {
         let image = image();
         // SAFETY: the record has the header's size and alignment, the image its length.
         let refusal = unsafe {
             ffi::ht1130_power_on(
-                record.0.as_mut_ptr().cast(),
+                self.0.as_mut_ptr().cast(),
                 rate,
                 3,
                 1,
@@ -183,7 +192,7 @@ impl Record {
             )
         };
         assert_eq!(refusal, 0);
-        record
+        self
     }
 
     fn apply(&mut self, kind: u16, count: u16, [a, b, c]: [u8; 3], mask: &[u8]) {
@@ -235,14 +244,14 @@ fn memory(i: usize) -> u8 {
 
 #[track_caller]
 fn same(found: &Record, expected: &Record) {
-    for offset in (0..200).filter(|offset| !at::PADDING.contains(offset)) {
+    for offset in (0..SIZE).filter(|offset| !at::PADDING.contains(offset)) {
         assert_eq!(found.0[offset], expected.0[offset], "byte {offset}");
     }
 }
 
 /// What `Record::powered` has to be.
 fn expected(rate: u8) -> Record {
-    let mut record = Record([0; 200]);
+    let mut record = Record([0; SIZE]);
     record.put(at::ACC, &[1]);
     for (n, offset) in at::R.into_iter().enumerate() {
         record.put(offset, &[n as u8 + 2]);
@@ -296,6 +305,9 @@ fn steps_land_where_the_header_says() {
     step(&[0x05], 1, &[(at::MEMORY + 0x7B, 7)]); // MOV [R1R0],A
     step(&[0x6A, 0x0E], 2, &[(at::R[2], 10), (at::R[3], 14)]); // MOV R3R2,EAh
     step(&[0x07], 1, &[(at::MEMORY + 0xEA - 0x60, 7)]); // MOV [R3R2],A
+    step(&[0x68, 0x0B], 2, &[(at::R[2], 8), (at::R[3], 11)]); // MOV R3R2,B8h
+    step(&[0x07], 1, &[(at::GAP, 1)]); // MOV [R3R2],A
+    step(&[0x0E], 1, &[(at::GAP, 3)]); // INC [R3R2]
     step(&[0x46, 0x0C], 2, &[(at::R[4], 12)]); // MOV R4,12
     step(&[0x2B], 1, &[(at::CF, 1)]); // STC
     step(&[0x47, 0xD6], 2, &[(at::COUNT, 0xD6)]); // TIMER D6h
@@ -394,6 +406,46 @@ fn events_land_where_the_header_says() {
         &|r| r.step(&[0x3E]),
         &[(at::PC, &[1]), (at::CYCLES, &[0, 0, 0, 1])],
     ); // NOP
+       // The count's high byte comes after its low byte.
+    check(&|r| r.put(at::R[1], &[8]), &[(at::R[1], &[8])]);
+    check(
+        &|r| r.put(at::GAP, &[0xFE, 0x12]),
+        &[(at::GAP, &[0xFE, 0x12])],
+    );
+    check(
+        &|r| r.step(&[0x0C]),
+        &[(at::PC, &[2]), (at::CYCLES, &[1]), (at::GAP, &[0x00, 0x13])],
+    ); // INC [R1R0]
+       // RES keeps it, power-on clears it.
+    check(
+        &|r| r.apply(ht1130::RES, 0, [0; 3], &[]),
+        &[(at::PC, &[0, 0])],
+    );
+    check(
+        &|r| *r = r.powered_again(255),
+        &[(0, &self::expected(255).0[..at::GAP]), (at::GAP, &[0, 0])],
+    );
+}
+
+/// The count is read where it is written, and answered in bytes 4 and 5.
+#[test]
+fn counts_come_from_where_the_header_says() {
+    let mut record = expected(9);
+    let count = |record: &Record| {
+        // SAFETY: the record has the header's size and alignment.
+        unsafe { ffi::ht1130_gap_count(record.0.as_ptr().cast()) }
+    };
+    for (bytes, answer) in [
+        ([0, 0], 0),
+        ([0x34, 0x12], 0x1234_0000_0000),
+        ([0xFF, 0xFF], 0xFFFF_0000_0000),
+    ] {
+        record.put(at::GAP, &bytes);
+        record.put(at::ACC, &[15]);
+        assert_eq!(count(&record), answer);
+        record.put(at::ACC, &[16]);
+        assert_eq!(count(&record), 5);
+    }
 }
 
 /// The library reads where it writes.
@@ -459,7 +511,7 @@ fn rubbish_above_narrow_arguments_does_not_matter() {
     let byte = |value: u8| 0xDEAD_BEEF_CAFE_A500 | value as u64;
     let word = |value: u16| 0xDEAD_BEEF_CAFE_0000 | value as u64;
     let image = image();
-    let mut record = Record([0xA5; 200]);
+    let mut record = Record([0xA5; SIZE]);
     let machine = record.0.as_mut_ptr();
     let mask = [0x3E; MASK];
     // SAFETY: the record, image and mask have the header's sizes; the wider
