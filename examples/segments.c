@@ -1,6 +1,7 @@
 /*
  * A host in C: it powers a machine, lets its program draw on the display,
- * presses a key, and prints what the 32 segments of each common show.
+ * presses a key, and prints what the 32 segments of each common show and how
+ * often the program went where no memory is.
  *
  *   segments [MASK]     MASK is a file of 4,096 bytes; without it, the one below
  */
@@ -115,6 +116,14 @@ static void print_display(const ht1130_machine *machine)
     }
 }
 
+/* A mask that goes where no memory is works by luck. */
+static void print_strays(const ht1130_machine *machine)
+{
+    uint64_t answer = ht1130_gap_count(machine);
+    accepted("count", HT1130_REFUSAL(answer));
+    printf("%u reads and writes at 80h-DFh\n", HT1130_COUNT(answer));
+}
+
 static void print_way(const uint8_t mask[HT1130_MASK])
 {
     static uint8_t list[HT1130_WAY];
@@ -198,6 +207,7 @@ int main(int argc, char **argv)
     run(&machine, 1000, mask);
     printf("key pressed\n");
     print_display(&machine);
+    print_strays(&machine);
 
     print_refusals(&machine, mask);
     return 0;

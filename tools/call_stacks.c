@@ -43,6 +43,7 @@ static void power_on(void) { answer = ht1130_power_on(&machine, 2, 4, 0, 0, 0, i
 static void run(void) { answer = ht1130_apply(&machine, HT1130_RUN, 3, 0, 0, 0, mask, sizeof mask); }
 static void pins(void) { answer = ht1130_apply(&machine, HT1130_PINS, 0, 15, 15, 15, mask, sizeof mask); }
 static void report(void) { answer = ht1130_report(&machine, reports, HT1130_REPORT); }
+static void gap_count(void) { answer = ht1130_gap_count(&machine); }
 static void check(void) { answer = ht1130_check(mask, sizeof mask, marks, sizeof marks); }
 static void way(void) { answer = ht1130_way(mask, sizeof mask, list, sizeof list); }
 static void bound(void) { answer = ht1130_bound(mask, sizeof mask, 3, 1); }
@@ -150,6 +151,8 @@ int main(int count, char **words)
     on_a_stack(words[1], "run", run, 0);
     on_a_stack(words[1], "pins", pins, 0);
     on_a_stack(words[1], "report", report, 0);
+    machine.gap = 3;
+    on_a_stack(words[1], "gap_count", gap_count, 3ull << 32);
     on_a_stack(words[1], "check", check, 0);
     on_a_stack(words[1], "check_script", check_script, 0);
     on_a_stack(words[1], "run_script", run_script, 0);

@@ -32,7 +32,7 @@ done
 
 say "archives: each exports its own functions and no others"
 exports() { nm -g --defined-only "$HT1130_LIB_DIR/lib$1.a" | awk '$2 == "T" || $2 == "W" { print $3 }' | sort; }
-diff <(printf 'ht1130_%s\n' apply power_on report) <(exports ht1130)
+diff <(printf 'ht1130_%s\n' apply gap_count power_on report) <(exports ht1130)
 diff <(printf 'ht1130_%s\n' assemble bound check check_script read run_script way write) <(exports ht1130_tools)
 for name in ht1130 ht1130_tools; do
     # of the C library only these two

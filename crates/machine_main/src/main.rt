@@ -4,8 +4,9 @@
 //     1 power-on: length of the image (1), options (5), image (168, of which that length is handed in)
 //     2 Run: steps (2), length of the mask handed in (2; over 4,096 counts as 4,097)
 //     3 PM, PS, PP   4 INT   5 TMCLK (2)   6 RES   7 one step
-//     8 all of the processor (36)   9 data memory: index, value
-// 8 and 9 put the machine in a state and print nothing. A case starts from the machine before its first power-on.
+//     8 all of the processor (36)   9 data memory: index, value   10 the count of strays (2)
+//     11 the query of that count, which has a line of its own
+// 8 to 10 put the machine in a state and print nothing. A case starts from the machine before its first power-on.
 mod input;
 mod text;
 
@@ -17,6 +18,7 @@ use machine::Machine;
 use machine::events::Event;
 use text::put;
 use text::put_answer;
+use text::put_count;
 
 // The image has room for a longer one than a whole one.
 fn power_on(fd: i32, machine: Machine) -> Answer {
@@ -62,6 +64,17 @@ fn set_nibble(fd: i32, mut machine: Machine) -> Machine {
     machine
 }
 
+fn set_gap(fd: i32, mut machine: Machine) -> Machine {
+    let gap = word(fd);
+    machine.gap = gap;
+    machine
+}
+
+fn query(machine: Machine) -> Machine {
+    put_count(machine.gap_count());
+    machine
+}
+
 fn answer(kind: u8, fd: i32, machine: Machine, mask: &[u8]) -> Answer {
     match kind {
         1 => power_on(fd, machine),
@@ -79,6 +92,8 @@ fn command(fd: i32, machine: Machine, mask: &[u8]) -> Machine {
     match kind {
         8 => set_cpu(fd, machine),
         9 => set_nibble(fd, machine),
+        10 => set_gap(fd, machine),
+        11 => query(machine),
         _ => {
             let a = answer(kind, fd, machine, mask);
             put_answer(a);

@@ -1,9 +1,9 @@
 // A line for each answer. Digits are upper-case hexadecimal.
-//     R AAAAAA PPPP CT NNR EHL SSSSC HF PCCM MSPI RRCMSP CCCCCCCC MEMORY
+//     R AAAAAA PPPP CT NNR EHL SSSSC HF PCCM MSPI RRCMSP CCCCCCCC GGGG MEMORY
 // Refusal; ACC, R0-R4; PC, CF, TF; timer, running; enable flag, held edge, level; stack address, stack carry; halted, fault; PA,
-// sound channel, sound mode; PM, PS, PP, INT; rate, commons, wake nibbles; cycle count; data memory, a digit each.
+// sound channel, sound mode; PM, PS, PP, INT; rate, commons, wake nibbles; cycle count; count of strays; data memory, a digit each.
 // A number over 15 where one digit has room stands in brackets with two. Where a nibble of data memory is over 15, the high digits
-// of all 160 follow.
+// of all 160 follow. The line of a query has its refusal and its count.
 use cpu::Control;
 use cpu::Cpu;
 use cpu::Interrupts;
@@ -15,6 +15,7 @@ use cpu::Stack;
 use cpu::Status;
 use cpu::Timer;
 use machine::Answer;
+use machine::gap::Strays;
 
 pub fn put(text: &[u8]) {
     io::write_all(libc::STDOUT_FILENO, text);
@@ -170,6 +171,15 @@ pub fn put_answer(answer: Answer) {
     let memory = machine.memory;
     put_small(answer.refusal);
     put_cpu(machine.cpu);
+    put(b" ");
+    put_word(machine.gap);
     put_memory(&memory);
+    put(b"\n");
+}
+
+pub fn put_count(answer: Strays) {
+    put_small(answer.refusal);
+    put(b" ");
+    put_word(answer.count);
     put(b"\n");
 }
