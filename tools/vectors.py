@@ -24,7 +24,7 @@ from reference import Options
 CRATE = Path(__file__).resolve().parent.parent / 'crates' / 'machine_main'
 NOP = 0x3E
 IMAGE_ROOM = 168            # bytes of an image in the file
-POWER_ON, RUN, PINS, INT, TMCLK, RES, STEP, SET_CPU, SET_NIBBLE = range(1, 10)
+POWER_ON, RUN, PINS, INT, TMCLK, RES, STEP, SET_CPU, SET_NIBBLE, SET_GAP, QUERY = range(1, 12)
 
 seen = Counter()            # what the vectors met, by name
 
@@ -110,7 +110,7 @@ def line(refusal, m):
         small(m.pa) + f'{m.sound_channel:02X}' + small(m.sound_mode),
         smalls(m.pm, m.ps, m.pp, m.int_pin),
         f'{o.rate:02X}' + smalls(o.commons, o.wake_pm, o.wake_ps, o.wake_pp),
-        f'{m.cycles:08X}', ''.join(f'{x % 16:X}' for x in m.data)]
+        f'{m.cycles:08X}', f'{m.gap:04X}', ''.join(f'{x % 16:X}' for x in m.data)]
     if max(m.data) > 15:
         parts.append(''.join(f'{x // 16:X}' for x in m.data))
     return ' '.join(parts)
@@ -136,7 +136,7 @@ def cpu_bytes(m):
 BLANK = ref.Machine(
     acc=0, r=[0] * 5, data=[0] * 160, pc=0, cf=0, tf=0, timer=0, running=0, enable=0, held_edge=0,
     level=0, stack_address=0, stack_carry=0, halted=0, fault=0, pa=15, sound_channel=16,
-    sound_mode=0, pm=0, ps=0, pp=0, int_pin=0, options=Options(0, 0, 0, 0, 0), cycles=0)
+    sound_mode=0, pm=0, ps=0, pp=0, int_pin=0, options=Options(0, 0, 0, 0, 0), cycles=0, gap=0)
 
 
 class Case:
@@ -168,10 +168,13 @@ class Case:
         image = draw.nibbles(ref.IMAGE) if image is None else image
         o = (options.rate, options.commons, options.wake_pm, options.wake_ps, options.wake_pp)
         room = list(image) + draw.bytes(IMAGE_ROOM - len(image))
+        before = self.m.gap
         self.add(POWER_ON, bytes([len(image), *o, *room]))
         # Whether a power-on over a machine out of range is refused is left open here.
         assert self.m is BLANK or ref.machine_ok(self.m)
         self.answer('power-on', ref.power_on(options, image))
+        seen['power-on clears a count'] += before > self.m.gap
+        seen['refused power-on keeps a count'] += before == self.m.gap > 0
 
     def step(self):
         self.add(STEP)
@@ -214,6 +217,15 @@ class Case:
     def res(self):
         self.add(RES)
         self.answer('RES', ref.event_res(self.m))
+        seen['RES keeps a count'] += self.m.gap > 0
+
+    def query(self):
+        """The count has a line of its own."""
+        self.add(QUERY)
+        result = ref.gap_count(self.m)
+        refused = isinstance(result, Refused)
+        seen['refused query' if refused else 'query'] += 1
+        self.lines.append(f'{small(result.number)} 0000' if refused else f'0 {result:04X}')
 
     def set(self, m):
         """Puts the machine in a state; no line. Data memory one nibble at a time."""
@@ -221,6 +233,8 @@ class Case:
         for i in range(160):
             if m.data[i] != self.m.data[i]:
                 self.add(SET_NIBBLE, [i, m.data[i]])
+        if m.gap != self.m.gap:
+            self.add(SET_GAP, two(m.gap))
         self.m = m
 
     def put(self, **fields):
@@ -238,32 +252,18 @@ def pending(m):
     return m.level == 0 and m.enable == 1 and (m.held_edge == 1 or m.tf == 1)
 
 
-def touched(m, i):
-    """Data addresses that an instruction reads and writes."""
-    mnemonic = i.code.mnemonic
-    operation, _, rest = mnemonic.partition(' ')
-    if operation in ('READ', 'READF'):
-        here = [ref.pointer(m, 1, 0)]
-        return (here, []) if rest == 'R4A' else ([], here)
-    reads, writes = [], []
-    for name, high, low in (('[R1R0]', 1, 0), ('[R3R2]', 3, 2)):
-        if name in mnemonic:
-            if not mnemonic.startswith('MOV ['):
-                reads.append(ref.pointer(m, high, low))
-            if rest.startswith('['):
-                writes.append(ref.pointer(m, high, low))
-    return reads, writes
-
-
 def note_instruction(mask, m, i, after):
     """What one instruction that runs meets."""
     mnemonic = i.code.mnemonic
     seen[f'ran {mask[m.pc]:02X}'] += 1
     seen[f'ran {mnemonic}'] += 1
     seen[f'{mnemonic} leaves CF {after.cf}'] += 1
-    reads, writes = touched(m, i)
+    reads, writes = ref.accesses(m, i)
     seen['gap read'] += any(0x80 <= a <= 0xDF for a in reads)
     seen['gap write'] += any(0x80 <= a <= 0xDF for a in writes)
+    counted = after.gap - m.gap
+    seen[f'{mnemonic} counts {counted}'] += 1
+    seen[f'count of {m.gap} and {ref.strays(m, i)} more'] += ref.strays(m, i) > 0
     seen['read at E0h-FFh'] += any(a >= 0xE0 for a in reads)
     seen['write at E0h-FFh'] += any(a >= 0xE0 for a in writes)
     if mnemonic.startswith('READ') and m.pc % 256 == 255:
@@ -792,6 +792,162 @@ def pulses_asleep():
 
 
 # ---------------------------------------------------------------------------
+# Strays into the gap: document 02, wish 6
+# ---------------------------------------------------------------------------
+
+THROUGH_R1R0 = [0x04, 0x05, 0x08, 0x09, 0x0A, 0x0B, 0x0C, 0x0D, *range(0x1A, 0x20), *range(0x4C, 0x50)]
+THROUGH_R3R2 = [0x06, 0x07, 0x0E, 0x0F]
+INC, INC_OTHER = 0x0C, 0x0E             # [R1R0], [R3R2]: two accesses each
+
+
+def pairs_at(r1r0, r3r2):
+    return [r1r0 % 16, r1r0 // 16, r3r2 % 16, r3r2 // 16]
+
+
+def gap_edges():
+    """Every instruction that goes to data memory, on both sides of both ends of the gap; the other pair is
+    always across the nearest end."""
+    mask = [NOP] * 4096
+    codes = THROUGH_R1R0 + THROUGH_R3R2
+    mask[0x100:0x100 + len(codes)] = codes
+    case = Case(mask)
+    case.power_on()
+    for k, code in enumerate(codes):
+        for address, other in ((0x7F, 0x80), (0x80, 0x7F), (0xDF, 0xE0), (0xE0, 0xDF)):
+            pairs = pairs_at(address, other) if code in THROUGH_R1R0 else pairs_at(other, address)
+            m = random_state(case.m, 0x100 + k, draw.below(3))
+            case.set(replace(m, r=pairs + m.r[4:], gap=256 * k))
+            case.step()
+            seen[f'data address {address:02X} by {code:02X}, counted {case.m.gap - 256 * k}'] += 1
+
+
+def gap_all():
+    """Every line of the summary with both pairs in the gap; CALL, RET and RETI in each level, what cannot be read
+    too. A fault counts nothing."""
+    firsts = sorted({first for first in range(256) if isa.BY_FIRST[first]},
+                    key=lambda first: (isa.BY_FIRST[first].mnemonic, isa.BY_FIRST[first].name or '', first))
+    one_each = {(isa.BY_FIRST[first].mnemonic, isa.BY_FIRST[first].name): first for first in firsts}
+    mask, trials = [NOP] * 4096, []
+    for k, first in enumerate(sorted(one_each.values())):
+        good = [s for s in range(256) if isa.read(first, s) is not None]
+        mask[4 * k:4 * k + 2] = [first, draw.pick(good)]
+        trials += [(4 * k, level) for level in ((0, 1, 2) if first in (0x2E, 0x2F) or first >= 0xF0 else (k % 3,))]
+    for at, code in ((0x800, [0x35]), (0x810, [0x37, 0x00]), (0x820, [0x40, 0x10]), (0x830, [0x5A, 0x10])):
+        mask[at:at + len(code)] = code
+        trials.append((at, 0))
+    case = Case(mask)
+    case.power_on()
+    for pc, level in trials:
+        m = random_state(case.m, pc, level)
+        case.set(replace(m, r=pairs_at(0x80 + draw.below(0x60), 0x80 + draw.below(0x60)) + m.r[4:], gap=1000))
+        case.step()
+        if case.m.fault:
+            assert case.m.gap == 1000
+            seen['fault with both pairs in the gap'] += 1
+            case.run(3)
+    case.query()
+
+
+def gap_ends():
+    """Counts that come to 65,535: one and two at a time, and in a Run."""
+    mask = [NOP] * 4096
+    mask[:6] = [0x04, 0x07, INC, INC_OTHER, 0x4C, 0x4E]
+    mask[0x10:0x13] = [INC, 0xE0, 0x10]                         # and JMP 010H
+    case = Case(mask)
+    case.power_on()
+    for gap in (65532, 65533, 65534, 65535):
+        for pc in range(6):
+            m = random_state(case.m, pc, 0)
+            case.set(replace(m, r=pairs_at(0xB7, 0xC9) + m.r[4:], gap=gap))
+            case.step()
+            case.query()
+    # 32,767 turns of the loop count 65,534, in one Run and in steps of it.
+    for counts in ((65534, 1, 1, 1, 100), (40000, 25000, 533, 2, 2, 9)):
+        case.power_on(image=[8] * ref.IMAGE)
+        case.put(pc=0x10)
+        for count in counts:
+            case.run(count)
+            case.query()
+        assert case.m.gap == 65535
+    case.res()
+    case.query()
+    case.power_on(image=[8] * ref.IMAGE)
+    case.query()
+
+
+def gap_events():
+    """What the other events do to a count: nothing, but an accepted power-on clears it. Steps that take an
+    interrupt, and what is refused, count nothing."""
+    case = Case([INC] * 4096)
+    case.query()                        # before the first power-on
+    case.power_on()
+    for gap in (0, 1, 0x1234, 65535):
+        for flags in (dict(held_edge=1, tf=0), dict(held_edge=0, tf=1), dict(held_edge=1, tf=1)):
+            m = random_state(case.m, draw.below(4096), 0)
+            case.set(replace(m, r=pairs_at(0x90, 0xA0) + m.r[4:], enable=1, gap=gap, **flags))
+            assert pending(case.m)
+            case.step()
+            assert case.m.gap == gap
+            case.step()                 # INC in the handler
+        for halted, fault in ((0, 0), (1, 0), (0, 2)):
+            case.set(replace(random_state(case.m, 9, 1), r=[8] * 5, halted=halted, fault=fault, gap=gap))
+            for event in (lambda: case.pins(*draw.nibbles(3)), lambda: case.int(1), lambda: case.tmclk(700),
+                          lambda: case.run(0), lambda: case.run(3, 4095), lambda: case.run(3, 4097),
+                          lambda: case.pins(16, 0, 0), lambda: case.int(2),
+                          lambda: case.power_on(image=[8] * 165), lambda: case.power_on(image=[16] * 166),
+                          lambda: case.power_on(Options(6, 4, 0, 0, 0)), case.res):
+                event()
+                assert case.m.gap == gap
+            case.query()
+        # A machine out of range: no Run, no step, no answer.
+        whole = replace(case.m, r=[8] * 5, gap=gap)
+        for m in (replace(whole, acc=16), replace(whole, pc=4096), replace(whole, halted=1, fault=1),
+                  replace(whole, data=whole.data[:159] + [16])):
+            case.set(m)
+            case.run(5)
+            case.step()
+            case.query()
+        case.set(whole)
+        case.power_on(image=[8] * ref.IMAGE)
+        case.query()
+        case.run(5)
+        case.query()
+
+
+def gap_program():
+    """A program whose pairs are mostly in the gap, in main, subroutine and both handlers."""
+    mask = program({'HALT'})
+    at = 0
+    while at < 0x400:
+        code = isa.BY_FIRST[mask[at]]
+        if code and code.mnemonic in ('MOV R1R0,XXH', 'MOV R3R2,XXH'):
+            mask[at + 1] = 8 + draw.below(6)
+        elif mask[at] == NOP and draw.chance(50):
+            mask[at] = draw.pick(THROUGH_R1R0 + THROUGH_R3R2)
+        elif code and code.mnemonic in ('INC Rn', 'DEC Rn', 'MOV Rn,A') and draw.chance(70):
+            mask[at] = draw.pick(THROUGH_R1R0 + THROUGH_R3R2)
+        at += code.length if code else 1
+    assert ref.checker(mask)[1] == 'passed'
+    return mask
+
+
+def gap_lists():
+    """Lists of events under masks that live in the gap, with the count asked for now and then."""
+    for k in range(6):
+        case = Case(gap_program())
+        case.power_on(replace(random_options(), rate=draw.pick((0, 1, 2, 3, 255))), image=[8 + k] * ref.IMAGE)
+        for _ in range(40):
+            random_event(case)
+            if draw.chance(25):
+                case.query()
+        before = case.m.gap
+        case.run(5000)
+        seen['strays in a list'] += case.m.gap
+        seen['strays in its last Run'] += case.m.gap - before
+        case.query()
+
+
+# ---------------------------------------------------------------------------
 # The files
 # ---------------------------------------------------------------------------
 
@@ -809,7 +965,7 @@ def statistics(data, output):
     print(f'cases {len(cases)}; lines {output.count(chr(10))}; steps one by one {seen["step"]}, '
           f'in Runs {seen["step in a Run"]}; vectors.bin {len(data)} bytes, '
           f'stdout {len(output)} bytes')
-    assert seen['step'] >= 2000 and seen['step in a Run'] > 2 * 65535 and len(output) < 700_000
+    assert seen['step'] >= 2000 and seen['step in a Run'] > 2 * 65535 and len(output) < 900_000
     expect('first bytes fetched', (f'fetched {first:02X}' for first in range(256)))
     expect('first bytes run without a fault', (f'ran {first:02X}' for first in readable))
     expect('lines of the summary run', (f'ran {row[0]}' for row in isa.TABLE))
@@ -834,6 +990,21 @@ def statistics(data, output):
     expect('steps with the timer running, by rate',
            (f'step with the timer running at rate {rate}' for rate in ref.RATES))
     expect('gap reads and writes', ('gap read', 'gap write'))
+    once = [row[0] for row in isa.TABLE if row[0].startswith('READ') or '[' in row[0]]
+    twice = [name for name in once if name.startswith(('INC', 'DEC')) or 'R0],A' in name and not name.startswith('MOV')]
+    assert (len(once), len(twice)) == (22, 7)
+    expect('instructions that count one', (f'{name} counts 1' for name in once if name not in twice))
+    expect('instructions that count two', (f'{name} counts 2' for name in twice))
+    expect('instructions that count none', (f'{row[0]} counts 0' for row in isa.TABLE))
+    expect('ends of the gap', (f'data address {address:02X} by {first:02X}, counted {times}'
+                               for first in THROUGH_R1R0 + THROUGH_R3R2
+                               for address, inside in ((0x7F, 0), (0x80, 1), (0xDF, 1), (0xE0, 0))
+                               for times in [inside * (1 + (isa.BY_FIRST[first].mnemonic in twice))]))
+    expect('counts that stop', (f'count of {gap} and {more} more' for gap in range(65532, 65536) for more in (1, 2)))
+    expect('counts cleared and kept', ('power-on clears a count', 'refused power-on keeps a count', 'RES keeps a count',
+                                       'fault with both pairs in the gap'))
+    expect('queries of the count', ('query', 'refused query'))
+    expect('strays in lists of events', ('strays in a list', 'strays in its last Run'))
     expect('reads and writes at E0h-FFh', ('read at E0h-FFh', 'write at E0h-FFh'))
     expect('data addresses at the edges',
            (f'data address {address} by {code}' for address in ('00', '7F', '80', 'DF', 'E0', 'FF')
@@ -861,7 +1032,8 @@ def statistics(data, output):
 def files():
     """All that is stored, as a dict from paths to bytes. Once in a run: the cases are one list."""
     for part in (directed, subroutines, data_edges, arithmetic, timer, interrupts, pins_and_int,
-                 stopped, power_ons, refused, random_events, long_runs, pulses_asleep):
+                 stopped, power_ons, refused, random_events, long_runs, pulses_asleep,
+                 gap_edges, gap_all, gap_ends, gap_events, gap_lists):
         part()
     data = two(len(cases))
     for case in cases:
