@@ -181,6 +181,20 @@ def edge_program(rng):
     return bytes(image)
 
 
+THROUGH_PAIRS = [code for code in STRAIGHT if '[' in code.mnemonic or code.mnemonic.startswith('READ')]
+
+
+def straying(rng):
+    """Codes through pairs that are in the gap or one beside it; what they read goes to PA, and to the display."""
+    out = b''
+    while len(out) < reference.MASK:
+        low, high = rng.randrange(16), rng.randrange(8, 14)
+        beside = rng.choice(((15, 7), (0, 14), (low, high), (low, high)))
+        out += rng.choice([any_code(rng, THROUGH_PAIRS), any_code(rng, THROUGH_PAIRS), any_code(rng, COMMON), write('OUT PA,A'),
+                           write(rng.choice(('MOV R1R0,XXH', 'MOV R3R2,XXH')), *beside)])
+    return out[:reference.MASK]
+
+
 # Interrupts from the timer at each rate, over a sum in decimal.
 TIMER_PROGRAM = make_panel_cases.TIMER
 SLEEPER = make_panel_cases.SLEEPER
@@ -325,6 +339,8 @@ def panel_cases(rng):
     for k in range(40):
         program = make_panel_cases.turbo(rng.choice(('TIMER ON', 'TIMER ON', 'TIMER OFF')), rng.choice(('EI', 'DI')))
         yield f'pulses of a shaft {k}', program, shaft(rng)
+    for k in range(20):
+        yield f'strays {k}', straying(rng), b''.join(good(rng, 600))
 
 
 def limits(rng):

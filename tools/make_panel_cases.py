@@ -27,6 +27,11 @@ WORKED = bytes.fromhex('06000100020400000000' '020002000200' '030003000e0f0f' '0
 LINES = ['2C0010000000000000000000000F1000' + '0' * 64,
          '2C001000020002000000000000051000' + '0' * 64]
 
+# 65,534 accesses to 80h by 32,767 turns of 3 cycles; then two more, one of which is past 65,535. PC and cycle count alone move.
+STRAYS = ['2C001000' + moved + '0000000F1000' + '0' * 64
+          for moved in ('0000' '00000000', '0200' '02000000', '0200' 'FF7F0100', '0200' '02800100', '0300' '03800100', '0000' '03800100',
+                        '0000' '00000000')]
+
 # ---------------------------------------------------------------------------
 # Programs
 # ---------------------------------------------------------------------------
@@ -49,6 +54,9 @@ EVERY_KIND = assemble({
             ('MOV A,TMRL',), ('INC Rn', 0), ('MOV [R1R0],A',),
             ('JMP addr', 'loop')],
     **HANDLERS})
+
+# Two accesses a turn to an address where no memory is.
+INTO_THE_GAP = assemble({0x000: [('MOV R1R0,XXH', 0x0, 0x8), 'loop', ('INC [R1R0]',), ('JMP addr', 'loop')]})
 
 # The main program counts its rounds at E0h in decimal, with CF kept over interrupts.
 TIMER = assemble({
@@ -203,6 +211,7 @@ GUARDS = {
     'pulses-asleep-internal-clock-disabled': 'the same with interrupts off',
     'pulses-asleep-timer-stopped': 'pulses asleep move no stopped timer; woken by INT and by a pin',
     'pulses-asleep-timer-stopped-disabled': 'the same with interrupts off',
+    'strays': 'over 65,535 accesses to data memory that is not there: no report shows their count, and none is disturbed by it',
     'round-the-end': 'an instruction whose second byte is the byte at 0',
     'fault-1': 'a second byte that breaks its pattern: fault 1, the PC stays, a later edge changes no fault; RES clears it',
     'fault-2': 'CALL in level 1: fault 2; pins and TMCLK on a faulted machine',
@@ -269,6 +278,7 @@ def cases():
     yield 'pulses-asleep-internal-clock-disabled', turbo('TIMER ON', 'DI'), idle_asleep(13, 6, 5), IDLE_DISABLED
     yield 'pulses-asleep-timer-stopped', turbo('TIMER OFF', 'EI'), idle_asleep(255, 1, 5, 6, 5), IDLE_ENABLED
     yield 'pulses-asleep-timer-stopped-disabled', turbo('TIMER OFF', 'DI'), idle_asleep(255, 6, 5), IDLE_DISABLED
+    yield 'strays', INTO_THE_GAP, power_on() + run(1) + run(65534) + run(2) + run(1) + res() + power_on(), STRAYS
     yield 'round-the-end', ROUND_THE_END, power_on() + run(2) + run(1) + run(1) + run(1) + run(9), None
     yield 'fault-1', UNREADABLE, power_on() + run(65535) + int_pin(0) + run(1) + res() + run(2), None
     yield 'fault-2', CALL_IN_CALL, power_on() + run(1) + run(1) + pins(0, 0, 0) + tmclk(9) + run(9) + res(), None
