@@ -44,8 +44,9 @@ extern "C" {
 enum { HT1130_SCRIPT = 65535, HT1130_WAY = 36864, HT1130_TEXT = 65535 };
 
 /*
- * The answers are a number of eight bytes, taken apart by these, and by HT1130_REFUSAL and HT1130_COUNT of ht1130.h. Where
- * one is refused, all else is 0 but the offset or line.
+ * The answers are a number of eight bytes, taken apart by HT1130_REFUSAL and
+ * HT1130_COUNT of ht1130.h and by these. Where there is a refusal, all else is 0
+ * but the offset or line.
  */
 #define HT1130_FAULT(answer) ((uint8_t)((answer) >> 8))        /* ht1130_check, ht1130_read */
 #define HT1130_LEVEL(answer) ((uint8_t)((answer) >> 16))       /* ht1130_check */
