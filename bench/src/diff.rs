@@ -1306,6 +1306,7 @@ fn event_list(prng: &mut Prng, case: u64) -> Outcome {
 fn count_to_the_end(prng: &mut Prng, _: u64) -> Outcome {
     let mask = masks::round_in_the_gap(prng);
     let mut m = machine(prng);
+    m.gap |= 1; // only a power-on makes it 0
     let mut plain = to_plain(&m);
     while plain.strays != 0 {
         power_on_both(prng, &mut m, &mut plain)?;
