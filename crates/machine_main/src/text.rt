@@ -15,7 +15,7 @@ use cpu::Stack;
 use cpu::Status;
 use cpu::Timer;
 use machine::Answer;
-use machine::gap::Strays;
+use machine::gap::GapCount;
 
 pub fn put(text: &[u8]) {
     io::write_all(libc::STDOUT_FILENO, text);
@@ -177,7 +177,7 @@ pub fn put_answer(answer: Answer) {
     put(b"\n");
 }
 
-pub fn put_count(answer: Strays) {
+pub fn put_count(answer: GapCount) {
     put_small(answer.refusal);
     put(b" ");
     put_word(answer.count);
