@@ -63,6 +63,9 @@ gcc -std=c11 -O2 -Wall -Wextra -Werror -I include -o "$work/segments" examples/s
 diff examples/segments.out "$work/segments.out"
 "$work/segments" demo/forbidden.bin > "$work/segments_forbidden.out"    # a mask that fails: the way
 diff examples/segments_forbidden.out "$work/segments_forbidden.out"
+# MOV R1R0,80H; MOV A,[R1R0]; INC [R1R0]; then JMP 004H for ever: one access and two
+{ printf '\x50\x08\x04\x0c\xe0\x04' && head -c 4090 /dev/zero; } > "$work/strays.bin"
+diff <(echo '3 reads and writes at 80h-DFh') <("$work/segments" "$work/strays.bin" | grep ' reads and writes ')
 
 say "examples/assemble.c"
 gcc -std=c11 -O2 -Wall -Wextra -Werror -I include -o "$work/assemble" examples/assemble.c "$HT1130_LIB_DIR/libht1130_tools.a"

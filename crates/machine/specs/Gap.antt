@@ -58,11 +58,13 @@ GapCounted =
 abbrev pub CountGoesOn : Type 0
 CountGoesOn = (calls : List Call) (m : Machine) → m .gap ≤ 65535 → after calls m .gap ≡ lesser 65535 (gapAccessesAfter (m .gap) calls m)
 
--- ---- "Reports are unaffected": a machine with another count gives the same reports, and every input finds the same refusal and leaves the same fields
+-- ---- "Reports are unaffected": a machine with another count gives the same reports, and every input finds the same refusal and leaves the same in
+-- every other field
 abbrev pub withGap : ℕ → Machine → Machine
 withGap n m = machineOf (stateOf m) n
 
 pub record CountAside : Type 0 where
   pub reports : (n : ℕ) (m : Machine) (out : List ℕ) → report (withGap n m) out ≡ report m out
   pub refusals : (n : ℕ) (mask : List ℕ) (i : Input) (m : Machine) → answerTo mask i (withGap n m) .refusal ≡ answerTo mask i m .refusal
-  pub states : (n : ℕ) (mask : List ℕ) (i : Input) (m : Machine) → stateOf (answerTo mask i (withGap n m) .machine) ≡ stateOf (answerTo mask i m .machine)
+  pub states : (n : ℕ) (mask : List ℕ) (i : Input) (m : Machine)
+      → stateOf (answerTo mask i (withGap n m) .machine) ≡ stateOf (answerTo mask i m .machine)
