@@ -1,6 +1,7 @@
 /*
  * ht1130.h - the proved HT1130 engine, for C: what a board links. A bench also
- * takes ht1130_tools.h: the mask checker, scripts, instructions, the assembler.
+ * takes ht1130_tools.h: the mask checker, scripts, instructions, the assembler,
+ * readings.
  *
  * Link with libht1130.a, which `rt staticlib ht1130` writes (x86-64). Nothing
  * here allocates, blocks, keeps state of its own or calls back: a call works on

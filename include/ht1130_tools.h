@@ -1,7 +1,8 @@
 /*
  * ht1130_tools.h - the proved mask checker with the way to a forbidden place and
- * the bound on how long an edge is held, scripts, instructions and the assembler
- * of the HT1130, for C: what a bench links beside the engine of ht1130.h.
+ * the bound on how long an edge is held, scripts, instructions, the assembler and
+ * the reading on the panel of the HT1130, for C: what a bench links beside the
+ * engine of ht1130.h.
  *
  * Link with libht1130_tools.a, which `rt staticlib ht1130_tools` writes (x86-64),
  * beside libht1130.a or alone: neither archive needs the other. What ht1130.h
@@ -15,11 +16,12 @@
  * Refusals. The lowest number that holds is answered; of a script 1, then 6 or 7
  * of the first bad record, then 8, 3, 4, 9; of a text 2, 12, 14, then 13.
  *   1 mask not HT1130_MASK bytes
- *   2 marks or assembled mask not HT1130_MASK bytes
+ *   2 marks or assembled mask not HT1130_MASK bytes, picture not HT1130_PICTURE
  *   3 nibble other than an option over 15, INT over 1; instruction field outside
  *     its pattern
  *   4 option outside its list, wake nibbles too
- *   5 address over 4,095, level over 2
+ *   5 address over 4,095, level over 2; machine field outside its range, or halted
+ *     with a fault
  *   6 script over HT1130_SCRIPT bytes, record cut off, payload length wrong
  *   7 unknown kind
  *   8 first record not power-on, or no record
@@ -31,6 +33,7 @@
  *     these, operand outside its field, or conditional branch that does not fit
  *  14 label missing, not above its ORG, or defined again
  *  15 the mask fails: it has no bounds
+ *  16 picture that shows no reading; reading that does not fit the glass
  */
 #ifndef HT1130_TOOLS_H
 #define HT1130_TOOLS_H
@@ -41,12 +44,12 @@
 extern "C" {
 #endif
 
-enum { HT1130_SCRIPT = 65535, HT1130_WAY = 36864, HT1130_TEXT = 65535 };
+enum { HT1130_SCRIPT = 65535, HT1130_WAY = 36864, HT1130_TEXT = 65535, HT1130_PICTURE = 8 };
 
 /*
  * The answers are a number of eight bytes, taken apart by HT1130_REFUSAL and
  * HT1130_COUNT of ht1130.h and by these. Where there is a refusal, all else is 0
- * but the offset or line.
+ * but the offset, line or digit.
  */
 #define HT1130_FAULT(answer) ((uint8_t)((answer) >> 8))        /* ht1130_check, ht1130_read */
 #define HT1130_LEVEL(answer) ((uint8_t)((answer) >> 16))       /* ht1130_check */
@@ -181,6 +184,47 @@ enum {
  * bit 11 of the address after it.
  */
 uint64_t ht1130_assemble(const uint8_t *text, size_t text_len, uint8_t *out, size_t out_len);
+
+/*
+ * What an operator reads on a glass of four digits. A picture is eight nibbles:
+ * digit k, leftmost 0, has the segments a, b, c, d in bits 0 to 3 of nibble 2k; e,
+ * f, g in bits 0 to 2 of nibble 2k + 1, and the point after the digit in bit 3.
+ *
+ *   0 abcdef   1 bc       2 abdeg   3 abcdg     4 bcfg
+ *   5 acdfg    6 acdefg   7 abc     8 abcdefg   9 abcdfg
+ *
+ * A picture shows blanks (or none), then a minus, g alone (or none), then digits
+ * to the right end; at most one of these digits has its point lit. Zeros may
+ * lead, and the point may be on the last digit. All blank is dark.
+ *
+ * The answer has HT1130_DARK 1 for dark, and then value and places 0; else the
+ * digits as a signed whole number, minus zero as 0, and the count of them after
+ * the point: -0.50 is the value -50 with 2 places. Refuses with 2, 3, or 16 and
+ * the leftmost digit k such that no valid picture has the digits 0 to k of this
+ * one: after a digit or a minus a blank is refused, at the right end a minus.
+ */
+uint64_t ht1130_glass_read(const uint8_t *picture, size_t len);
+#define HT1130_DIGIT(answer) ((uint8_t)((answer) >> 8))        /* 0 to 3 where a picture is refused with 16, else 0 */
+#define HT1130_DARK(answer) ((uint8_t)((answer) >> 16))        /* 0, 1 */
+#define HT1130_PLACES(answer) ((uint8_t)((answer) >> 24))      /* 0 to 3 */
+#define HT1130_VALUE(answer) ((int32_t)((answer) >> 32))       /* -999 to 9,999 */
+
+/*
+ * Draws a reading: `dark` other than 0 is dark, all blank, and then value and
+ * places are not looked at. A number stands at the right with its minus before it
+ * and the fewest digits: at least one, and one at least before a point, which is
+ * lit where places is not 0. The answer is then 0, and the picture reads back as
+ * this reading. Refuses with 2, or 16 (digit 0) where there are not digits enough:
+ * 9999 and -999 are drawn, -1000 and 0.0001 are not. The picture is then as it was.
+ */
+uint64_t ht1130_glass_draw(uint8_t dark, int32_t value, uint8_t places, uint8_t *picture, size_t len);
+
+/*
+ * What an operator reads of a machine: display nibbles 0 to 7 (E0h-E7h) as a
+ * report shows them, so that a halted machine is dark, and on three commons d and
+ * the point are never lit. Answers as ht1130_glass_read. Refuses with 5 or 16.
+ */
+uint64_t ht1130_reading(const ht1130_machine *machine);
 
 #ifdef __cplusplus
 }

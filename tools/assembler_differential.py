@@ -67,10 +67,11 @@ def stored_cases():
 
 
 def demonstration():
-    """The stored program through ./assemble, and a text that is refused, whose line the script shows."""
-    script, bad = ROOT / 'assemble', {'bad.asm': b'NOP\nNOP\tNOP\n', 'bad.bin': b'older'}
-    got, trouble, left = run_in_folder([script, DEMO / 'pump.asm', 'pump.bin'], {})
-    why = [trouble] * bool(trouble) + wrong(b'', got, {'pump.bin': (DEMO / 'pump.bin').read_bytes()}, left)
+    """The stored programs through ./assemble, and a text that is refused, whose line the script shows."""
+    script, bad, why = ROOT / 'assemble', {'bad.asm': b'NOP\nNOP\tNOP\n', 'bad.bin': b'older'}, []
+    for name in ('pump', 'gauge'):
+        got, trouble, left = run_in_folder([script, DEMO / f'{name}.asm', f'{name}.bin'], {})
+        why += [trouble] * bool(trouble) + wrong(b'', got, {f'{name}.bin': (DEMO / f'{name}.bin').read_bytes()}, left)
     got, _, left = run_in_folder([script, 'bad.asm', 'bad.bin'], bad)
     why += wrong(b'refused 12 at line 2\nNOP^INOP\n', got, bad, left)
     if why:
@@ -105,7 +106,7 @@ def random_texts():
 def compare_all():
     stored = stored_cases()
     demonstration()
-    print(f'differential: {stored} stored texts, the demonstration and {random_texts()} texts through assemble, 0 differences')
+    print(f'differential: {stored} stored texts, the demonstrations and {random_texts()} texts through assemble, 0 differences')
 
 
 def main():

@@ -26,7 +26,7 @@ static const uint8_t *volatile low;     /* what a call has touched so far starts
 
 static ht1130_machine machine;
 static uint8_t mask[HT1130_MASK], marks[HT1130_MASK], list[HT1130_WAY], image[HT1130_IMAGE], reports[3 * HT1130_REPORT];
-static uint8_t assembled[HT1130_MASK];
+static uint8_t assembled[HT1130_MASK], picture[HT1130_PICTURE];
 /* power-on, a Run of 3 steps, RES */
 static const uint8_t script[] = {6, 0, 1, 0, 2, 4, 0, 0, 0, 0, 2, 0, 2, 0, 3, 0, 0, 0, 6, 0};
 /* a label above and one below, the deepest parentheses, two bytes and one */
@@ -52,6 +52,9 @@ static void check_script(void) { answer = ht1130_check_script(mask, sizeof mask,
 static void run_script(void) { answer = ht1130_run_script(mask, sizeof mask, script, sizeof script, reports, sizeof reports); }
 static void read_at(void) { answer = ht1130_read(mask, sizeof mask, 2); }
 static void write_one(void) { answer = ht1130_write(HT1130_JMP, 0, 1); }
+static void glass_draw(void) { answer = ht1130_glass_draw(0, -50, 2, picture, sizeof picture); }
+static void glass_read(void) { answer = ht1130_glass_read(picture, sizeof picture); }
+static void reading(void) { answer = ht1130_reading(&machine); }
 static void assemble(void) { answer = ht1130_assemble((const uint8_t *)text, sizeof text - 1, assembled, sizeof assembled); }
 
 /* What must be found: a list of lengths, as the library reads them, in the frame of a callee that overwrites it. */
@@ -159,6 +162,10 @@ int main(int count, char **words)
     on_a_stack(words[1], "read", read_at, 0x0101000000000000);      /* form 0, one byte, one cycle */
     on_a_stack(words[1], "write", write_one, 0x01e00200);           /* JMP 001H: two bytes, E0 01 */
     on_a_stack(words[1], "assemble", assemble, 0);
+    on_a_stack(words[1], "glass_draw", glass_draw, 0);
+    on_a_stack(words[1], "glass_read", glass_read, 0xffffffce02000000);    /* -0.50: value -50, two places */
+    memcpy(machine.memory + 128, picture, sizeof picture);
+    on_a_stack(words[1], "reading", reading, 0xffffffce02000000);
     mask[1] = 0x03;     /* JMP 003H, where no instruction is: the mask fails, and there is a way of two pairs */
     mask[3] = 0x35;
     on_a_stack(words[1], "way", way, 0x0000000200000000);

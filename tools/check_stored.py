@@ -13,26 +13,29 @@ import sys
 
 import paths  # noqa: F401
 import checker_cases
+import glass_vectors
 import isa_table
 import make_assemble_cases
 import make_checkmask_cases
 import make_demo
 import make_panel_cases
+import make_readings_cases
 import reference
 import vectors
 
 ROOT = pathlib.Path(__file__).resolve().parent.parent
 
 # Folders whose files are all made.
-MADE = [make_panel_cases.CASES, make_checkmask_cases.CASES, make_assemble_cases.CASES, make_demo.FOLDER,
-        make_panel_cases.CRATE / 'data', make_checkmask_cases.CRATE / 'data',
-        ROOT / 'crates' / 'machine_main' / 'data', ROOT / 'crates' / 'checker_main' / 'data']
+MADE = [make_panel_cases.CASES, make_checkmask_cases.CASES, make_assemble_cases.CASES, make_readings_cases.CASES, make_demo.FOLDER,
+        make_panel_cases.CRATE / 'data', make_checkmask_cases.CRATE / 'data', make_readings_cases.CRATE / 'data',
+        ROOT / 'crates' / 'machine_main' / 'data', ROOT / 'crates' / 'checker_main' / 'data', glass_vectors.CRATE / 'data']
 
 
 def made():
     result = {ROOT / 'crates' / 'isa_main' / 'stdout': ('\n'.join(isa_table.lines()) + '\n').encode()}
-    for maker in (make_panel_cases, make_checkmask_cases, make_assemble_cases, make_demo, checker_cases, vectors):
-        with contextlib.redirect_stdout(io.StringIO()):     # vectors.py says what it meets
+    for maker in (make_panel_cases, make_checkmask_cases, make_assemble_cases, make_readings_cases, make_demo, checker_cases, glass_vectors,
+                  vectors):
+        with contextlib.redirect_stdout(io.StringIO()):     # some say what they meet
             files = maker.files()
         result.update((pathlib.Path(os.path.abspath(path)), content) for path, content in files.items())
     return result

@@ -1,11 +1,11 @@
 """Drives the reference model and the built programs on the same input and compares line by line.
 
-First the stored cases of tests/panel and tests/checkmask and the demonstration, then chance: masks
-and scripts, good and damaged, through target/bin/panel; masks through target/bin/checker_main and
-target/bin/checkmask, which fail, and then masks that pass (bound_differential.py); then the assembler's
-(assembler_differential.py). Always the same cases. At the first difference the case is saved under
-target/differential and the exit status is 1.
-Build the programs first: rt check panel checker_main checkmask assemble
+First the stored cases of tests/panel, tests/checkmask and tests/readings and the demonstrations, then
+chance: masks and scripts, good and damaged, through target/bin/panel; masks through target/bin/checker_main
+and target/bin/checkmask, which fail, and then masks that pass (bound_differential.py); then the assembler's
+(assembler_differential.py) and those of the glass (glass_differential.py). Always the same cases. At the
+first difference the case is saved under target/differential and the exit status is 1.
+Build the programs first: rt check panel checker_main checkmask assemble readings glass_main
 """
 
 import collections
@@ -18,6 +18,7 @@ import paths  # noqa: F401
 import assembler_differential
 import bound_differential
 import checker_cases
+import glass_differential
 import isa_table
 import make_panel_cases
 import reference
@@ -27,6 +28,7 @@ from panel_input import int_pin, pins, power_on, record, res, run, tmclk, two, w
 PANEL = BIN / 'panel'
 CHECKER = BIN / 'checker_main'
 CHECKMASK = BIN / 'checkmask'
+READINGS = glass_differential.READINGS
 LONGEST = make_panel_cases.LONGEST
 
 met = collections.Counter()     # what the panel cases met, by name
@@ -51,14 +53,16 @@ def stored_cases(program, names):
 
 
 def demonstrations():
-    """How many ran: through ./panel and ./checkmask, the last one on a file that is missing."""
+    """How many ran: through ./panel, ./readings and ./checkmask, the last one on a file that is missing."""
     demo = ROOT / 'demo'
     compare('demo', [ROOT / 'panel', demo / 'mask.bin', demo / 'script.bin'], {}, (demo / 'expected').read_bytes())
     compare('demo/pump.bin', [ROOT / 'panel', demo / 'pump.bin', demo / 'pump_script.bin'], {}, (demo / 'pump_expected').read_bytes())
     compare('demo/pump.bin', [ROOT / 'checkmask', demo / 'pump.bin'], {}, printed(reference.checkmask((demo / 'pump.bin').read_bytes())))
+    compare('demo/gauge.bin', [ROOT / 'readings', demo / 'gauge.bin', demo / 'gauge_script.bin'], {}, (demo / 'gauge_expected').read_bytes())
+    compare('demo/gauge.bin', [ROOT / 'checkmask', demo / 'gauge.bin'], {}, printed(reference.checkmask((demo / 'gauge.bin').read_bytes())))
     compare('demo/forbidden.bin', [ROOT / 'checkmask', demo / 'forbidden.bin'], {}, (demo / 'forbidden').read_bytes())
     compare('demo, no such file', [ROOT / 'checkmask', demo / 'none'], {}, b'refused 1\n')
-    return 5
+    return 7
 
 
 # ---------------------------------------------------------------------------
@@ -517,15 +521,17 @@ def random_ways():
 
 
 def main():
-    start(PANEL, CHECKER, CHECKMASK, assembler_differential.ASSEMBLE)
+    start(PANEL, CHECKER, CHECKMASK, assembler_differential.ASSEMBLE, READINGS, glass_differential.GLASS_MAIN)
     panels = stored_cases(PANEL, ('mask.bin', 'script.bin')) + random_panel_cases()
+    shown = stored_cases(READINGS, ('mask.bin', 'script.bin'))
     checks = stored_cases(CHECKMASK, ('mask.bin',)) + demonstrations()
     masks = random_masks()
     ways, failing = random_ways()
-    print(f'differential: {panels} panel cases, {checks} of checkmask and the demonstrations, {masks} masks, '
+    print(f'differential: {panels} panel cases, {shown} of readings, {checks} of checkmask and the demonstrations, {masks} masks, '
           f'{ways} masks with {failing} ways, 0 differences')
     bound_differential.compare_all()
     assembler_differential.compare_all()
+    glass_differential.compare_all()
 
 
 if __name__ == '__main__':

@@ -1,6 +1,6 @@
 #!/usr/bin/env bash
 # Tests both libraries from C and Rust: header, record layout, what the archives
-# hold, examples, and a comparison with a plain engine and assembler. Needs
+# hold, examples, and a comparison with a plain engine, assembler and glass. Needs
 # libht1130.a and libht1130_tools.a, in target/staticlib or in HT1130_LIB_DIR
 # (from the top of the repository, or absolute).
 set -euo pipefail
@@ -33,7 +33,7 @@ done
 say "archives: each exports its own functions and no others"
 exports() { nm -g --defined-only "$HT1130_LIB_DIR/lib$1.a" | awk '$2 == "T" || $2 == "W" { print $3 }' | sort; }
 diff <(printf 'ht1130_%s\n' apply gap_count power_on report) <(exports ht1130)
-diff <(printf 'ht1130_%s\n' assemble bound check check_script read run_script way write) <(exports ht1130_tools)
+diff <(printf 'ht1130_%s\n' assemble bound check check_script glass_draw glass_read read reading run_script way write) <(exports ht1130_tools)
 for name in ht1130 ht1130_tools; do
     # of the C library only these two
     nm -u "$HT1130_LIB_DIR/lib$name.a" | awk '$1 == "U" && $2 != "memcpy" && $2 != "memset" { print; bad = 1 } END { exit bad }'
@@ -80,6 +80,13 @@ waits() { printf '%b' "$1" > "$work/waits.asm" && "$work/assemble" "$work/waits.
 diff <(printf '%s level 2: not reached\n' 004 008) <(waits 'IDLE: JMP IDLE\n')
 diff <(printf '%s level 2: no bound\n' 004 008) <(waits 'EI\nIDLE: JMP IDLE\n ORG 4\n HALT\n ORG 8\nHERE: JMP HERE\n')
 
+say "examples/readings.c"
+gcc -std=c11 -O2 -Wall -Wextra -Werror -I include -o "$work/readings" examples/readings.c "$HT1130_LIB_DIR/libht1130.a" "$HT1130_LIB_DIR/libht1130_tools.a"
+"$work/readings" > "$work/readings.out"
+diff examples/readings.out "$work/readings.out"
+# a digit at the left with blanks after it
+diff <(echo 'run       unreadable at digit 1') <("$work/readings" demo/forbidden.bin | grep '^run ')
+
 say "rust/ht1130"
 cargo_in rust/ht1130 test --offline --release --quiet
 
@@ -90,7 +97,7 @@ diff examples/check_and_run.out "$work/check_and_run.out"
 target/cargo/release/check_and_run demo/forbidden.bin demo/script.bin > "$work/check_and_run_forbidden.out"
 diff examples/check_and_run_forbidden.out "$work/check_and_run_forbidden.out"
 
-say "bench: the plain engine's and assembler's own tests, then the libraries against them"
+say "bench: the plain engine's, assembler's and glass's own tests, then the libraries against them"
 cargo_in bench test --offline --release --quiet
 cargo_in bench build --offline --release --quiet
 target/cargo/release/bench diff --seed 1130

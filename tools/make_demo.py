@@ -1,7 +1,7 @@
 """Writes the demonstration: demo/mask.bin, demo/script.bin, and demo/expected by the reference model;
 then demo/forbidden.bin and demo/forbidden, a mask that fails and what `checkmask` says of it; and of
 demo/pump.asm, a text by hand, the mask that `assemble` makes, demo/pump.bin, a script for it,
-demo/pump_script.bin, and demo/pump_expected.
+demo/pump_script.bin, and demo/pump_expected; and the same of demo/gauge.asm, with what `readings` prints.
 
 The panel counts pulses on INT. Its digit is on the display: segments a, b, c, d are bits 0 to 3 of
 E0h, segments e, f, g bits 0 to 2 of E1h. A pulse wakes it; some time after the last one its timer
@@ -11,18 +11,24 @@ The pump doses: a press of the button, PM bit 0, starts it (PA bit 0), each stro
 and after five it stops. If strokes stay away, the timer trips it: PA bit 3 and a sound. Its digit is
 the count of strokes. The text has no comments and no data: a label before ORG names a number, and a
 table's bytes are written as the instructions that have these codes.
+
+The gauge shows a pressure in bars on all four digits, from 1.50 down: each edge on INT lets out half a
+bar, and at -1.00 nothing is left. A press of the button, PM bit 0, puts it to sleep, and the next one
+wakes it; the edge that wakes it lets out nothing.
 """
 
 import pathlib
 
 import paths  # noqa: F401
 import assembler
+import glass
 import reference
 from make_checkmask_cases import shortest_ways
 from panel_input import assemble, int_pin, pins, power_on, run
 
 FOLDER = pathlib.Path(__file__).resolve().parent.parent / 'demo'
 PUMP = FOLDER / 'pump.asm'
+GAUGE = FOLDER / 'gauge.asm'
 
 # Segments of each digit, bit 0 for a to bit 6 for g.
 SEGMENTS = [0x3F, 0x06, 0x5B, 0x4F, 0x66, 0x6D, 0x7D, 0x07, 0x7F, 0x6F]
@@ -112,11 +118,17 @@ def pump_script():
     return out + PRESS                          # running again: digit 0
 
 
-def pump_files():
-    number, line, image = assembler.assemble(PUMP.read_bytes())
+def assembled(source):
+    """The mask of a text, which passes."""
+    number, line, image = assembler.assemble(source.read_bytes())
     assert not number, (number, line)
-    assert [image[0xF00 + 16 * digit] for digit in range(len(SEGMENTS))] == SEGMENTS
     assert reference.checker(image)[1] == 'passed', reference.checker(image)[1]
+    return image
+
+
+def pump_files():
+    image = assembled(PUMP)
+    assert [image[0xF00 + 16 * digit] for digit in range(len(SEGMENTS))] == SEGMENTS
     lines = reference.panel(image, pump_script())
     reports = [bytes.fromhex(one) for one in lines]
     states = [(report[13], report[14], shown(one)) for report, one in zip(reports, lines)]     # PA, sound, digit
@@ -126,6 +138,30 @@ def pump_files():
     assert [states[k] for k in after] == want, states
     return {PUMP: PUMP.read_bytes(), FOLDER / 'pump.bin': image, FOLDER / 'pump_script.bin': pump_script(),
             FOLDER / 'pump_expected': ''.join(one + '\n' for one in lines).encode()}
+
+
+PRESSED, LET_GO = pins(14, 15, 15), pins(15, 15, 15)
+EDGE = int_pin(0) + run(100) + int_pin(1)
+
+
+def gauge_script():
+    out = power_on(rate=5, wake_pm=1) + run(100)    # 1.50
+    out += 4 * EDGE                                 # 1.00, 0.50, 0.00, -0.50
+    out += PRESSED + run(100) + LET_GO              # asleep
+    out += PRESSED + run(100) + LET_GO + run(100)   # awake: -0.50
+    return out + 2 * EDGE                           # -1.00, and no further
+
+
+GAUGE_LINES = ('dark 1.50 1.50 1.00 1.00 1.00 0.50 0.50 0.50 0.00 0.00 0.00 -0.50 -0.50 -0.50 dark dark '
+               '-0.50 -0.50 -0.50 -0.50 -0.50 -1.00 -1.00 -1.00 -1.00 -1.00').split()
+
+
+def gauge_files():
+    image = assembled(GAUGE)
+    lines = glass.readings(image, gauge_script())
+    assert lines == GAUGE_LINES, lines
+    return {GAUGE: GAUGE.read_bytes(), FOLDER / 'gauge.bin': image, FOLDER / 'gauge_script.bin': gauge_script(),
+            FOLDER / 'gauge_expected': ''.join(one + '\n' for one in lines).encode()}
 
 
 def files():
@@ -139,7 +175,8 @@ def files():
     assert shortest_ways(forbidden) == 1
     return {FOLDER / 'mask.bin': mask(), FOLDER / 'script.bin': script(),
             FOLDER / 'expected': ''.join(line + '\n' for line in lines).encode(), FOLDER / 'forbidden.bin': forbidden,
-            FOLDER / 'forbidden': ''.join(line + '\n' for line in reference.checkmask(forbidden)).encode(), **pump_files()}
+            FOLDER / 'forbidden': ''.join(line + '\n' for line in reference.checkmask(forbidden)).encode(),
+            **pump_files(), **gauge_files()}
 
 
 def main():

@@ -1,10 +1,11 @@
-//! Differential tests: the library against the plain engine and assembler, every
-//! field and every byte.
+//! Differential tests: the library against the plain engine, assembler and glass,
+//! every field and every byte.
 
 use crate::library::{self, number, packed, to_plain};
 use crate::plain::{self, Bound, Bounds, Mask, Pair, IMAGE, MASK, REPORT};
+use crate::plain_glass::{self, Code, Reading, BLANK, DIGITS, PICTURE, POINT};
 use crate::prng::Prng;
-use crate::{masks, plain_asm, routines, script, texts};
+use crate::{masks, pictures, plain_asm, routines, script, texts};
 use ht1130::WAY;
 use std::fmt::Debug;
 use std::sync::atomic::{AtomicU64, Ordering::Relaxed};
@@ -20,7 +21,7 @@ struct Sort {
     case: fn(&mut Prng, u64) -> Outcome,
 }
 
-const SORTS: [Sort; 25] = [
+const SORTS: [Sort; 31] = [
     Sort {
         name: "instructions read",
         cases: |_| 256,
@@ -146,13 +147,47 @@ const SORTS: [Sort; 25] = [
         cases: |n| n / 50,
         case: text_longest,
     },
+    Sort {
+        name: "pictures, all valid",
+        cases: |_| plain_glass::valid().len() as u64,
+        case: |_, case| {
+            picture_of_both(&plain_glass::picture_of(
+                plain_glass::valid()[case as usize].0,
+            ))
+        },
+    },
+    Sort {
+        name: "pictures, a digit of 256 at each place",
+        cases: |n| 2 * n,
+        case: pictures_read,
+    },
+    Sort {
+        name: "pictures refused",
+        cases: |n| n / 20,
+        case: pictures_refused,
+    },
+    Sort {
+        name: "values drawn and read back",
+        cases: |_| DRAWN_VALUES,
+        case: value_drawn,
+    },
+    Sort {
+        name: "readings drawn, any",
+        cases: |n| 5 * n,
+        case: reading_drawn,
+    },
+    Sort {
+        name: "readings of machines",
+        cases: |n| 4 * n,
+        case: machine_read,
+    },
 ];
 
 /// The cases that `.ci/run` takes.
 pub const CASES: u64 = 4000;
 
-/// What the bounds and the count of strays have to meet in so many cases, to tell the
-/// rule from another.
+/// What the bounds, the count of strays and the glass have to meet in so many cases, to
+/// tell the rule from another.
 #[derive(Clone, Copy)]
 enum Met {
     Bounded,
@@ -172,9 +207,43 @@ enum Met {
     Stopped,
     Cleared,
     GapRefused,
+    Pictures,
+    Dark,
+    Numbers,
+    Negative,
+    MinusZeros,
+    LeadingZeros,
+    LastPoints,
+    OnePlace,
+    TwoPlaces,
+    ThreePlaces,
+    BadAt0,
+    BadAt1,
+    BadAt2,
+    BadAt3,
+    NoShape,
+    SecondPoint,
+    LateBlank,
+    LateMinus,
+    LastMinus,
+    PointedBlank,
+    PointedMinus,
+    NoNibble,
+    NotEight,
+    Drawn,
+    DrawnNegative,
+    DrawnDark,
+    NoFit,
+    NoFitForMinus,
+    NoPicture,
+    SeenNumbers,
+    SeenBad,
+    SeenAsleep,
+    SeenOnThree,
+    SeenRefused,
 }
 
-const MUST_MEET: [(Met, &str, u64); 17] = [
+const MUST_MEET: [(Met, &str, u64); 51] = [
     (Met::Bounded, "pairs with a bound", 50_000),
     (Met::Over10, "of them over 10", 30_000),
     (Met::Over100, "over 100", 15_000),
@@ -192,6 +261,48 @@ const MUST_MEET: [(Met, &str, u64); 17] = [
     (Met::Stopped, "events that counted on past 65,535", 15_000),
     (Met::Cleared, "power-ons that cleared a count", 3_000),
     (Met::GapRefused, "counts, of machines out of range", 25_000),
+    (Met::Pictures, "pictures read", 4_000_000),
+    (Met::Dark, "of them dark", 3_000),
+    (Met::Numbers, "numbers", 200_000),
+    (Met::Negative, "negative numbers", 40_000),
+    (Met::MinusZeros, "minus zeros", 2_000),
+    (Met::LeadingZeros, "with a zero that leads", 20_000),
+    (Met::LastPoints, "with the point on the last digit", 40_000),
+    (Met::OnePlace, "with a digit after the point", 30_000),
+    (Met::TwoPlaces, "with two", 20_000),
+    (Met::ThreePlaces, "with three", 10_000),
+    (Met::BadAt0, "unreadable at digit 0", 1_000_000),
+    (Met::BadAt1, "at digit 1", 1_000_000),
+    (Met::BadAt2, "at digit 2", 1_000_000),
+    (Met::BadAt3, "at digit 3", 800_000),
+    (Met::NoShape, "for a shape that none has", 3_500_000),
+    (Met::SecondPoint, "for a second point", 35_000),
+    (
+        Met::LateBlank,
+        "for a blank after a digit or a minus",
+        130_000,
+    ),
+    (
+        Met::LateMinus,
+        "for a minus after a digit or a minus",
+        48_000,
+    ),
+    (Met::LastMinus, "for a minus at the right end", 1_000),
+    (Met::PointedBlank, "for a point on a blank", 60_000),
+    (Met::PointedMinus, "for a point on a minus", 24_000),
+    (Met::NoNibble, "pictures with a nibble over 15", 7_000),
+    (Met::NotEight, "pictures of another length", 1_000),
+    (Met::Drawn, "numbers drawn", 42_997),
+    (Met::DrawnNegative, "of them negative", 2_997),
+    (Met::DrawnDark, "darks drawn", 3_500),
+    (Met::NoFit, "numbers that do not fit", 29_609),
+    (Met::NoFitForMinus, "of them for the minus alone", 700),
+    (Met::NoPicture, "drawn to another length", 2_500),
+    (Met::SeenNumbers, "machines that show a number", 13_000),
+    (Met::SeenBad, "that show no reading", 1_000_000),
+    (Met::SeenAsleep, "dark asleep, not awake", 700),
+    (Met::SeenOnThree, "read otherwise on four commons", 2_000),
+    (Met::SeenRefused, "out of range", 36_000),
 ];
 
 static MET: [AtomicU64; MUST_MEET.len()] = [const { AtomicU64::new(0) }; MUST_MEET.len()];
@@ -1076,7 +1187,8 @@ fn next_on_both(
     meet(Met::Strays, more as usize);
     meet(Met::ByOneStep, (count == 1 && more > 0) as usize);
     meet(Met::Stopped, (more > 0 && plain.strays > 65535) as usize);
-    count_of_both(m, plain)
+    count_of_both(m, plain)?;
+    reading_of_both(m, plain)
 }
 
 /// The query of the count, by number and by the safe function.
@@ -1262,7 +1374,8 @@ fn power_on_both(prng: &mut Prng, m: &mut ht1130::Machine, plain: &mut plain::Ma
     same(|| format!("refusal of {}", what()), library, refusal)?;
     same_machine(what, m, plain)?;
     meet(Met::Cleared, (refusal == 0 && before.gap > 0) as usize);
-    count_of_both(m, plain)
+    count_of_both(m, plain)?;
+    reading_of_both(m, plain)
 }
 
 fn power_on(prng: &mut Prng, case: u64) -> Outcome {
@@ -1511,4 +1624,231 @@ fn text_longest(prng: &mut Prng, case: u64) -> Outcome {
         }
     }
     text_on_both(&text, pick(prng, &[MASK, MASK, MASK, 4095]))
+}
+
+// Readings
+
+/// Notes what a picture of nibbles came to, and why it was refused.
+fn note_picture(picture: &[u8], read: &Result<Reading, plain_glass::GlassRefusal>) {
+    meet(Met::Pictures, 1);
+    let glass: Vec<Code> = picture
+        .chunks_exact(2)
+        .map(|two| two[0] | two[1] << 4)
+        .collect();
+    let minus = plain_glass::minus();
+    let why = match *read {
+        Err((2, _)) => Met::NotEight,
+        Err((3, _)) => Met::NoNibble,
+        Err((_, digit)) => {
+            meet(
+                [Met::BadAt0, Met::BadAt1, Met::BadAt2, Met::BadAt3][digit as usize],
+                1,
+            );
+            let (before, code) = (&glass[..digit as usize], glass[digit as usize]);
+            let dark = before.iter().all(|&code| code == BLANK);
+            match code {
+                BLANK => Met::LateBlank,
+                _ if code == minus && dark => Met::LastMinus,
+                _ if code == minus => Met::LateMinus,
+                POINT => Met::PointedBlank,
+                _ if code == minus | POINT => Met::PointedMinus,
+                _ if (0..10).any(|n| plain_glass::shape(n) | POINT == code) => Met::SecondPoint,
+                _ => Met::NoShape,
+            }
+        }
+        Ok(Reading::Dark) => Met::Dark,
+        Ok(Reading::Number { value, places }) => {
+            meet(Met::Negative, (value < 0) as usize);
+            meet(
+                Met::MinusZeros,
+                (value == 0 && glass.contains(&minus)) as usize,
+            );
+            let digits: Vec<_> = glass
+                .iter()
+                .filter(|&&code| code != BLANK && code != minus)
+                .collect();
+            let leads = digits.len() > 1 && *digits[0] == plain_glass::shape(0);
+            meet(Met::LeadingZeros, leads as usize);
+            meet(Met::LastPoints, (glass[DIGITS - 1] & POINT != 0) as usize);
+            match places {
+                0 => {}
+                1 => meet(Met::OnePlace, 1),
+                2 => meet(Met::TwoPlaces, 1),
+                _ => meet(Met::ThreePlaces, 1),
+            }
+            Met::Numbers
+        }
+    };
+    meet(why, 1);
+}
+
+/// A picture of any length and nibbles, by number and by the safe function.
+fn picture_of_both(picture: &[u8]) -> Outcome {
+    let what = || format!("reading of the picture {}", hex(picture));
+    let lent = picture.to_vec();
+    let plain = plain_glass::read(picture);
+    same(what, library::glass_read(&lent), packed::reading(&plain))?;
+    let safe = library::plain_reading(ht1130::glass_read(&lent));
+    same(what, safe, plain)?;
+    note_picture(picture, &plain);
+    same(|| "picture after it was read".into(), &lent[..], picture)
+}
+
+/// Three digits by chance, and one that runs over all values, at each place.
+fn pictures_read(prng: &mut Prng, _: u64) -> Outcome {
+    for place in 0..DIGITS {
+        let mut glass = pictures::any(prng);
+        for code in 0..=255 {
+            glass[place] = code;
+            picture_of_both(&plain_glass::picture_of(glass))?;
+        }
+    }
+    Ok(())
+}
+
+/// 2, then 3, then 16, whatever else holds.
+fn pictures_refused(prng: &mut Prng, _: u64) -> Outcome {
+    let picture = plain_glass::picture_of(pictures::any(prng));
+    for at in 0..PICTURE {
+        for nibble in [16, 17, 31, 32, 127, 128, 240, 255, 16 | prng.byte()] {
+            let mut picture = picture;
+            picture[at] = nibble;
+            picture_of_both(&picture)?;
+        }
+    }
+    let mut longer = [&picture[..], &picture[..]].concat();
+    for length in [0, 1, 2, 6, 7, 9, 10, 15, 16] {
+        longer[prng.below(16) as usize] = prng.byte();
+        picture_of_both(&longer[..length])?;
+    }
+    let length = pick(prng, &[32, 48, 166, 256 + 8, 4096, 65536 + 8]);
+    picture_of_both(&vec![0; length])
+}
+
+/// A reading drawn to so many bytes, by number and by the safe function; what fits is
+/// read back.
+fn drawn_by_both(dark: u8, value: i32, places: u8, length: usize) -> Outcome {
+    let reading = match dark {
+        0 => Reading::Number { value, places },
+        _ => Reading::Dark,
+    };
+    let what = || format!("dark {dark}, value {value}, places {places} drawn to {length} bytes");
+    let mut picture = Buffers::new(length);
+    let library = library::glass_draw(dark, value, places, picture.library());
+    let plain = plain_glass::draw(reading, picture.plain());
+    same(what, library, packed::drawn(&plain))?;
+    picture.same(what)?;
+
+    let (lent, text) = match reading {
+        Reading::Dark => (ht1130::Reading::Dark, "dark".into()),
+        Reading::Number { value, places } => (
+            ht1130::Reading::Number { value, places },
+            plain_glass::written(value, places),
+        ),
+    };
+    same(what, lent.to_string(), text)?;
+    picture.library().fill(0x5A);
+    picture.plain().fill(0x5A);
+    let safe = ht1130::glass_draw(lent, picture.library());
+    let safe = safe.map_err(|refused| (refused.refusal.number(), refused.digit));
+    same(what, safe, plain_glass::draw(reading, picture.plain()))?;
+    picture.same(what)?;
+
+    let minus = (dark == 0 && value < 0) as usize;
+    match plain {
+        Err((2, _)) => meet(Met::NoPicture, 1),
+        Err(_) => {
+            let text = plain_glass::written(value, places);
+            let taken = text.bytes().filter(|&byte| byte != b'.').count();
+            meet(Met::NoFit, 1);
+            meet(Met::NoFitForMinus, (taken - minus == DIGITS) as usize);
+        }
+        Ok(()) => {
+            let back = library::plain_reading(ht1130::glass_read(picture.library()));
+            same(|| format!("read back: {}", what()), back, Ok(reading))?;
+            let drawn = if dark == 0 {
+                Met::Drawn
+            } else {
+                Met::DrawnDark
+            };
+            meet(drawn, 1);
+            meet(Met::DrawnNegative, minus);
+        }
+    }
+    Ok(())
+}
+
+/// Values from -1,100 to 11,000.
+const LEAST_VALUE: i32 = -1_100;
+const DRAWN_VALUES: u64 = 12_101;
+
+fn value_drawn(_: &mut Prng, case: u64) -> Outcome {
+    let value = LEAST_VALUE + case as i32;
+    (0..=5).try_for_each(|places| drawn_by_both(0, value, places, PICTURE))
+}
+
+fn reading_drawn(prng: &mut Prng, case: u64) -> Outcome {
+    let dark = match case % 4 {
+        0 => prng.byte(),
+        1 => pick(prng, &[1, 2, 128, 255]),
+        _ => 0,
+    };
+    let places = match prng.below(3) {
+        0 => prng.byte(),
+        _ => prng.byte() % 6,
+    };
+    let length = if prng.below(4) == 0 {
+        pick(prng, &[0, 1, 4, 7, 9, 16, 48, 256 + 8, 65536 + 8])
+    } else {
+        PICTURE
+    };
+    drawn_by_both(dark, pictures::value(prng), places, length)
+}
+
+/// What is seen of a machine, by number and by the safe function.
+fn reading_of_both(m: &ht1130::Machine, plain: &plain::Machine) -> Outcome {
+    let lent = *m;
+    let reading = plain_glass::reading(plain);
+    let what = || format!("reading of {m:X?}");
+    same(what, library::reading(&lent), packed::reading(&reading))?;
+    let safe = library::plain_reading(ht1130::reading(&lent));
+    same(what, safe, reading)?;
+    match reading {
+        Err((5, _)) => meet(Met::SeenRefused, 1),
+        Err(_) => meet(Met::SeenBad, 1),
+        Ok(Reading::Number { .. }) => meet(Met::SeenNumbers, 1),
+        Ok(Reading::Dark) => {}
+    }
+    same(|| "machine after its reading".into(), lent, *m)
+}
+
+/// A machine with a picture on its glass, through a few events.
+fn machine_read(prng: &mut Prng, case: u64) -> Outcome {
+    let mut m = machine(prng);
+    let picture = plain_glass::picture_of(pictures::any(prng));
+    m.memory[128..128 + PICTURE].copy_from_slice(&picture);
+    if case.is_multiple_of(8) {
+        let field = prng.below(FIELDS);
+        set(&mut m, field, prng.next() as u32);
+    }
+    let mut plain = to_plain(&m);
+    reading_of_both(&m, &plain)?;
+    let otherwise = |changed: plain::Machine| {
+        plain.in_range() && plain_glass::reading(&changed) != plain_glass::reading(&plain)
+    };
+    let (mut awake, mut on_four) = (plain, plain);
+    awake.halted = 0;
+    on_four.options.commons = 4;
+    meet(Met::SeenAsleep, otherwise(awake) as usize);
+    meet(Met::SeenOnThree, otherwise(on_four) as usize);
+    // HALT, or a few steps that leave most of the glass as it is.
+    let asleep = [0x37, 0x3E].repeat(MASK / 2);
+    let mask = masks::lively(prng);
+    for _ in 0..6 {
+        let steps = pick(prng, &[1, 3, 20]);
+        let event = any_event(prng, steps);
+        let mask = pick(prng, &[&asleep[..], &mask[..]]);
+        next_on_both(&mut m, &mut plain, event, mask)?;
+    }
+    Ok(())
 }

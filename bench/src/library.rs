@@ -1,7 +1,7 @@
 //! The library as the comparison needs it: records turned into the plain
 //! engine's, and answers in their eight raw bytes.
 
-use crate::plain;
+use crate::{plain, plain_glass};
 use ht1130::ffi;
 
 pub fn to_plain(machine: &ht1130::Machine) -> plain::Machine {
@@ -123,10 +123,39 @@ pub fn assemble(text: &[u8], out: &mut [u8]) -> u64 {
     unsafe { ffi::ht1130_assemble(text.as_ptr(), text.len(), out.as_mut_ptr(), out.len()) }
 }
 
+pub fn glass_read(picture: &[u8]) -> u64 {
+    // SAFETY: the slice is valid for the call.
+    unsafe { ffi::ht1130_glass_read(picture.as_ptr(), picture.len()) }
+}
+
+pub fn glass_draw(dark: u8, value: i32, places: u8, picture: &mut [u8]) -> u64 {
+    // SAFETY: the slice is valid for the call.
+    unsafe { ffi::ht1130_glass_draw(dark, value, places, picture.as_mut_ptr(), picture.len()) }
+}
+
+pub fn reading(machine: &ht1130::Machine) -> u64 {
+    // SAFETY: the record is valid for the call.
+    unsafe { ffi::ht1130_reading(machine) }
+}
+
+/// What the safe functions answer, as the plain glass says it.
+pub fn plain_reading(
+    answer: Result<ht1130::Reading, ht1130::GlassRefusal>,
+) -> Result<plain_glass::Reading, plain_glass::GlassRefusal> {
+    match answer {
+        Ok(ht1130::Reading::Dark) => Ok(plain_glass::Reading::Dark),
+        Ok(ht1130::Reading::Number { value, places }) => {
+            Ok(plain_glass::Reading::Number { value, places })
+        }
+        Err(refused) => Err((refused.refusal.number(), refused.digit)),
+    }
+}
+
 /// The plain answers as the header packs them.
 pub mod packed {
     use crate::plain::{Bound, Failure, Instruction, Refusal, ScriptRefusal};
     use crate::plain_asm::TextRefusal;
+    use crate::plain_glass::{GlassRefusal, Reading};
 
     pub fn verdict(result: &Result<Option<Failure>, Refusal>) -> u64 {
         match result {
@@ -189,6 +218,24 @@ pub mod packed {
             Ok((length, first, second)) => {
                 (*length as u64) << 8 | (*first as u64) << 16 | (*second as u64) << 24
             }
+        }
+    }
+
+    /// What `glass_read` and `reading` answer.
+    pub fn reading(result: &Result<Reading, GlassRefusal>) -> u64 {
+        match *result {
+            Err((refusal, digit)) => refusal as u64 | (digit as u64) << 8,
+            Ok(Reading::Dark) => 1 << 16,
+            Ok(Reading::Number { value, places }) => {
+                (places as u64) << 24 | (value as u32 as u64) << 32
+            }
+        }
+    }
+
+    pub fn drawn(result: &Result<(), GlassRefusal>) -> u64 {
+        match *result {
+            Err((refusal, digit)) => refusal as u64 | (digit as u64) << 8,
+            Ok(()) => 0,
         }
     }
 }

@@ -1,10 +1,13 @@
-//! Compares the proved library with a plain engine and assembler: what they do, and how fast.
+//! Compares the proved library with a plain engine, assembler and glass: what they do, and how
+//! fast.
 
 mod diff;
 mod library;
 mod masks;
+mod pictures;
 mod plain;
 mod plain_asm;
+mod plain_glass;
 mod prng;
 mod routines;
 mod script;

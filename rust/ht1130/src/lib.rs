@@ -1,5 +1,5 @@
 //! The Holtek HT1130, a 4-bit microcontroller with an LCD driver: a proved
-//! engine, mask checker and assembler.
+//! engine, mask checker and assembler, and the reading on its panel.
 //!
 //! This crate is the Rust side of `ht1130.h` and `ht1130_tools.h`. It keeps no state and, but for
 //! [`reports`], allocates nothing: a call works on what it is lent. Bad input is
@@ -38,6 +38,8 @@ pub const SCRIPT: usize = 65535;
 pub const WAY: usize = 36864;
 /// The most bytes a text to assemble may have.
 pub const TEXT: usize = 65535;
+/// Nibbles of a picture: two for each of four digits.
+pub const PICTURE: usize = 8;
 /// The timer rate that stands for the external clock.
 pub const EXTERNAL_CLOCK: u8 = 255;
 /// The sound channel that stands for off.
@@ -281,7 +283,8 @@ impl Machine {
 pub enum Refusal {
     /// The mask has not [`MASK`] bytes.
     MaskLength = 1,
-    /// The image, marks, report buffer or assembled mask has not its length.
+    /// The image, marks, report buffer, assembled mask or picture has not its
+    /// length.
     BufferLength = 2,
     /// A nibble over 15, INT over 1, or an operand outside its range.
     Value = 3,
@@ -310,10 +313,12 @@ pub enum Refusal {
     Label = 14,
     /// The mask fails, so that it has no bounds.
     MaskFails = 15,
+    /// A picture that shows no reading, or a reading that does not fit the glass.
+    Glass = 16,
 }
 
 impl Refusal {
-    /// The number, 1 to 15.
+    /// The number, 1 to 16.
     pub const fn number(self) -> u8 {
         self as u8
     }
@@ -336,7 +341,8 @@ impl Refusal {
             13 => Refusal::Range,
             14 => Refusal::Label,
             15 => Refusal::MaskFails,
-            _ => unreachable!("the library has refusals 1 to 15"),
+            16 => Refusal::Glass,
+            _ => unreachable!("the library has refusals 1 to 16"),
         })
     }
 }
@@ -345,7 +351,9 @@ impl fmt::Display for Refusal {
     fn fmt(&self, f: &mut fmt::Formatter<'_>) -> fmt::Result {
         f.write_str(match self {
             Refusal::MaskLength => "mask is not 4,096 bytes",
-            Refusal::BufferLength => "image, marks, report or mask buffer has the wrong length",
+            Refusal::BufferLength => {
+                "image, marks, report, mask or picture buffer has the wrong length"
+            }
             Refusal::Value => "value out of range",
             Refusal::Option => "mask option outside its list",
             Refusal::Machine => "machine field, address or level out of range",
@@ -359,6 +367,7 @@ impl fmt::Display for Refusal {
             Refusal::Range => "value, address or branch that does not fit",
             Refusal::Label => "label missing, not above its ORG or defined again",
             Refusal::MaskFails => "mask fails, so it has no bounds",
+            Refusal::Glass => "picture without a reading, or reading that does not fit",
         })
     }
 }
@@ -402,6 +411,28 @@ impl fmt::Display for TextRefusal {
 }
 
 impl Error for TextRefusal {
+    fn source(&self) -> Option<&(dyn Error + 'static)> {
+        Some(&self.refusal)
+    }
+}
+
+/// Why a picture or a reading was refused, and where.
+#[derive(Clone, Copy, PartialEq, Eq, Hash, Debug)]
+pub struct GlassRefusal {
+    /// The reason.
+    pub refusal: Refusal,
+    /// For [`Refusal::Glass`] of a picture the leftmost digit that no valid picture
+    /// with the same digits before it has, 0 to 3; else 0.
+    pub digit: u8,
+}
+
+impl fmt::Display for GlassRefusal {
+    fn fmt(&self, f: &mut fmt::Formatter<'_>) -> fmt::Result {
+        write!(f, "{} at digit {}", self.refusal, self.digit)
+    }
+}
+
+impl Error for GlassRefusal {
     fn source(&self) -> Option<&(dyn Error + 'static)> {
         Some(&self.refusal)
     }
@@ -475,6 +506,49 @@ pub enum Bound {
     NoBound,
     /// The most cycles from the pair to a return, the return included.
     Cycles(u32),
+}
+
+/// What an operator reads on the glass, as [`glass_read`] and [`reading`] answer.
+///
+/// It prints as a person writes it:
+///
+/// ```
+/// use ht1130::Reading;
+///
+/// let reading = Reading::Number { value: -50, places: 2 };
+/// assert_eq!(reading.to_string(), "-0.50");
+/// assert_eq!(Reading::Dark.to_string(), "dark");
+/// ```
+#[derive(Clone, Copy, PartialEq, Eq, Hash, Debug)]
+pub enum Reading {
+    /// All is blank.
+    Dark,
+    /// A signed whole number and a point in it.
+    Number {
+        /// All digits, with the sign.
+        value: i32,
+        /// How many of them are after the point.
+        places: u8,
+    },
+}
+
+impl fmt::Display for Reading {
+    fn fmt(&self, f: &mut fmt::Formatter<'_>) -> fmt::Result {
+        let (value, places) = match *self {
+            Reading::Dark => return f.write_str("dark"),
+            Reading::Number { value, places } => (value, places),
+        };
+        let (minus, size) = (if value < 0 { "-" } else { "" }, value.unsigned_abs());
+        if places == 0 {
+            return write!(f, "{minus}{size}");
+        }
+        // From 10 places on no digit of an i32 is before the point.
+        let (whole, rest) = match 10_u32.checked_pow(places.into()) {
+            Some(one) => (size / one, size % one),
+            None => (0, size),
+        };
+        write!(f, "{minus}{whole}.{rest:0width$}", width = places.into())
+    }
 }
 
 /// An instruction, by the numbers of [`form`].
@@ -602,6 +676,15 @@ pub mod ffi {
             out: *mut u8,
             out_len: usize,
         ) -> u64;
+        pub fn ht1130_glass_read(picture: *const u8, len: usize) -> u64;
+        pub fn ht1130_glass_draw(
+            dark: u8,
+            value: i32,
+            places: u8,
+            picture: *mut u8,
+            len: usize,
+        ) -> u64;
+        pub fn ht1130_reading(machine: *const Machine) -> u64;
     }
 }
 
@@ -940,4 +1023,116 @@ pub fn assembled(text: &[u8]) -> Result<[u8; MASK], TextRefusal> {
     let mut out = [0; MASK];
     assemble(text, &mut out)?;
     Ok(out)
+}
+
+fn glass_accepted(answer: u64) -> Result<(), GlassRefusal> {
+    accepted(part(answer, 0)).map_err(|refusal| GlassRefusal {
+        refusal,
+        digit: part(answer, 1),
+    })
+}
+
+fn glass_answer(answer: u64) -> Result<Reading, GlassRefusal> {
+    glass_accepted(answer)?;
+    Ok(match part(answer, 2) {
+        0 => Reading::Number {
+            value: (answer >> 32) as i32,
+            places: part(answer, 3),
+        },
+        _ => Reading::Dark,
+    })
+}
+
+/// Reads a picture of [`PICTURE`] nibbles, as an operator does: a glass of four
+/// digits. Digit k, leftmost 0, has the segments a, b, c, d in bits 0 to 3 of
+/// nibble 2k; e, f, g in bits 0 to 2 of nibble 2k + 1, and the point after the
+/// digit in bit 3. The shapes are the usual ones: 6 has a, 7 is a, b, c, and 9
+/// has d.
+///
+/// A picture shows blanks (or none), then a minus, g alone (or none), then digits
+/// to the right end; at most one of these digits has its point lit. Zeros may
+/// lead, and the point may be on the last digit. All blank is dark. Minus zero
+/// reads as 0.
+///
+/// Refused: `BufferLength`, then `Value` for a nibble over 15, then `Glass` with
+/// the leftmost digit k such that no valid picture has the digits 0 to k of this
+/// one.
+///
+/// ```
+/// use ht1130::{GlassRefusal, Reading, Refusal};
+///
+/// let picture = [0, 0, 0b1011, 0b1101, 15, 4, 6, 6]; // blank, 2 and its point, 3, 4
+/// let reading = ht1130::glass_read(&picture)?;
+/// assert_eq!(reading, Reading::Number { value: 234, places: 2 });
+/// assert_eq!(reading.to_string(), "2.34");
+///
+/// let refused = ht1130::glass_read(&[0, 0, 0b1011, 0b0101, 0, 0, 6, 6]); // a blank after a digit
+/// assert_eq!(refused, Err(GlassRefusal { refusal: Refusal::Glass, digit: 2 }));
+/// # Ok::<(), ht1130::GlassRefusal>(())
+/// ```
+pub fn glass_read(picture: &[u8]) -> Result<Reading, GlassRefusal> {
+    // SAFETY: the slice is valid for the call.
+    glass_answer(unsafe { ffi::ht1130_glass_read(picture.as_ptr(), picture.len()) })
+}
+
+/// Draws a reading into a picture of [`PICTURE`] nibbles, which [`glass_read`]
+/// reads as this reading: a number at the right, its minus before it, with the
+/// fewest digits, at least one, and one at least before a point. No point is lit
+/// where `places` is 0. Dark is drawn blank.
+///
+/// Refused: `BufferLength`, then `Glass`, digit 0, where four digits, of which a
+/// minus takes one, are not enough.
+///
+/// ```
+/// use ht1130::{Reading, PICTURE};
+///
+/// let mut picture = [0; PICTURE];
+/// ht1130::glass_draw(Reading::Number { value: -17, places: 1 }, &mut picture)?;
+/// assert_eq!(picture, [0, 0, 0, 4, 6, 8, 7, 0]); // blank, minus, 1 and its point, 7
+///
+/// assert!(ht1130::glass_draw(Reading::Number { value: -1000, places: 0 }, &mut picture).is_err());
+/// # Ok::<(), ht1130::GlassRefusal>(())
+/// ```
+pub fn glass_draw(reading: Reading, picture: &mut [u8]) -> Result<(), GlassRefusal> {
+    let (dark, value, places) = match reading {
+        Reading::Dark => (1, 0, 0),
+        Reading::Number { value, places } => (0, value, places),
+    };
+    // SAFETY: the slice is valid for the call.
+    glass_accepted(unsafe {
+        ffi::ht1130_glass_draw(dark, value, places, picture.as_mut_ptr(), picture.len())
+    })
+}
+
+/// The picture of a reading, as [`glass_draw`] draws it.
+///
+/// Refused: `Glass`, digit 0.
+pub fn glass_drawn(reading: Reading) -> Result<[u8; PICTURE], GlassRefusal> {
+    let mut picture = [0; PICTURE];
+    glass_draw(reading, &mut picture)?;
+    Ok(picture)
+}
+
+/// What an operator reads of a machine, by [`glass_read`]: display nibbles 0 to 7
+/// (E0h-E7h) as a report shows them. A halted machine is dark; on three commons
+/// segment d and the point are never lit.
+///
+/// Refused: `Machine`, then `Glass` with the digit.
+///
+/// ```
+/// use ht1130::{Event, Machine, Options, IMAGE, MASK};
+///
+/// let mut mask = [0x3E; MASK]; // NOP throughout
+/// mask[..4].copy_from_slice(&[0x56, 0x0E, 0x76, 0x05]); // MOV R1R0,E6h; MOV A,6; MOV [R1R0],A
+///
+/// let mut machine = Machine::zeroed();
+/// ht1130::power_on(&mut machine, Options::default(), &[0; IMAGE])?;
+/// assert_eq!(ht1130::reading(&machine)?.to_string(), "dark");
+/// ht1130::apply(&mut machine, Event::Run(3), &mask)?;
+/// assert_eq!(ht1130::reading(&machine)?.to_string(), "1");
+/// # Ok::<(), Box<dyn std::error::Error>>(())
+/// ```
+pub fn reading(machine: &Machine) -> Result<Reading, GlassRefusal> {
+    // SAFETY: the record is valid for the call.
+    glass_answer(unsafe { ffi::ht1130_reading(machine) })
 }

@@ -104,6 +104,7 @@ fn c_and_rust_number_alike() {
         ("SCRIPT", ht1130::SCRIPT),
         ("WAY", ht1130::WAY),
         ("TEXT", ht1130::TEXT),
+        ("PICTURE", ht1130::PICTURE),
     ];
     let numbers = kinds
         .into_iter()
@@ -448,6 +449,36 @@ fn counts_come_from_where_the_header_says() {
     }
 }
 
+/// The glass shows E0h-E7h; its answer is taken apart by the header's macros.
+#[test]
+fn readings_come_from_where_the_header_says() {
+    let mut record = expected(9);
+    record.put(at::COMMONS, &[4]);
+    record.put(at::MEMORY + 128, &[0, 4, 15, 11, 13, 6, 15, 3]); // -0.50
+    let reading = |record: &Record| {
+        // SAFETY: the record has the header's size and alignment.
+        unsafe { ffi::ht1130_reading(record.0.as_ptr().cast()) }
+    };
+    let mut answers = vec![reading(&record)];
+    record.put(at::MEMORY + 128 + 7, &[8]);
+    answers.push(reading(&record));
+    record.put(at::HALTED, &[1]);
+    answers.push(reading(&record));
+    record.put(at::ACC, &[16]);
+    answers.push(reading(&record));
+    let mut body =
+        String::from("#include <stdio.h>\n#include \"ht1130_tools.h\"\nint main(void) {\n");
+    for answer in answers {
+        body += &format!(
+            "    {{ uint64_t a = {answer}u; printf(\"%d %d %d %d %d\\n\", HT1130_REFUSAL(a), \
+             HT1130_DIGIT(a), HT1130_DARK(a), HT1130_PLACES(a), HT1130_VALUE(a)); }}\n"
+        );
+    }
+    body += "    return 0;\n}\n";
+    let expected = "0 0 0 2 -50\n16 3 0 0 0\n0 0 1 0 0\n5 0 0 0 0\n";
+    assert_eq!(run_c("readings", &body), expected);
+}
+
 /// The library reads where it writes.
 #[test]
 fn reports_come_from_where_the_header_says() {
@@ -503,6 +534,13 @@ mod wide {
         ) -> u8;
         pub fn ht1130_read(mask: *const u8, mask_len: usize, address: u64) -> u64;
         pub fn ht1130_write(form: u64, a: u64, b: u64) -> u64;
+        pub fn ht1130_glass_draw(
+            dark: u64,
+            value: u64,
+            places: u64,
+            picture: *mut u8,
+            len: usize,
+        ) -> u64;
     }
 }
 
@@ -556,6 +594,11 @@ fn rubbish_above_narrow_arguments_does_not_matter() {
             wide::ht1130_write(byte(36), byte(11), word(2047)),
             ffi::ht1130_write(36, 11, 2047)
         );
+        let mut picture = [0xA5; 8];
+        let value = 0xDEAD_BEEF_0000_0000 | -50_i32 as u32 as u64;
+        let (place, length) = (picture.as_mut_ptr(), picture.len());
+        let drawn = wide::ht1130_glass_draw(byte(0), value, byte(2), place, length);
+        assert_eq!((drawn, picture), (0, [0, 4, 15, 11, 13, 6, 15, 3])); // -0.50
     }
     let mut expected = expected(9);
     expected.put(at::PM, &[3, 5, 9, 0]);
