@@ -76,7 +76,7 @@ length-of : (n size count : ℕ) → length (digitsOf n size count) ≡ n
 length-of zero size count = refl
 length-of (suc n) size count = ap suc (length-of n size count)
 
-numerals-of : (n size count : ℕ) → Numerals (digitsOf n size count)
+pub numerals-of : (n size count : ℕ) → Numerals (digitsOf n size count)
 numerals-of zero size count = tt
 numerals-of (suc n) size count = (mod-lt (size / 10 ^ n) (lit< tt), numerals-of n size count)
 
@@ -199,15 +199,25 @@ fewest-digits p value count n l =
 
 -- ---- drawn and read back
 
-signed-size : (v : ℤ) → v ≡ signed (isNegative v) (natAbs v)
+pub signed-size : (v : ℤ) → v ≡ signed (isNegative v) (natAbs v)
 signed-size (pos n) = refl
 signed-size (negsuc n) = refl
+
+-- what the drawn digits show
+drawn-enough : (v : ℤ) (c : ℕ) → fits (isNegative v) (fewest (natAbs v) c) ≡ true → (natAbs v < 10 ^ fewest (natAbs v) c) × (c < fewest (natAbs v) c)
+drawn-enough v c f =
+    let u = fits-under (isNegative v) (fewest (natAbs v) c) f in
+    enough-means (natAbs v) c (fewest (natAbs v) c) (first-holds (natAbs v) c 4 1 (omega (arith, u)))
+
+pub drawn-size : (v : ℤ) (c : ℕ) → fits (isNegative v) (fewest (natAbs v) c) ≡ true → whole (digitsOf (fewest (natAbs v) c) (natAbs v) c) ≡ natAbs v
+drawn-size v c f = whole-of (fewest (natAbs v) c) (natAbs v) c ∙ mod-eq-of-lt (drawn-enough v c f .0)
+
+pub drawn-count : (v : ℤ) (c : ℕ) → fits (isNegative v) (fewest (natAbs v) c) ≡ true → afterPoint (digitsOf (fewest (natAbs v) c) (natAbs v) c) ≡ c
+drawn-count v c f = places-of (fewest (natAbs v) c) (natAbs v) c (drawn-enough v c f .1)
 
 read-number : (v : ℤ) (c : ℕ) → fits (isNegative v) (fewest (natAbs v) c) ≡ true → Numbered (drawnNumber v c) v c
 read-number v c f =
     let n : ℕ = fewest (natAbs v) c in
-    let u = fits-under (isNegative v) n f in
-    let e = enough-means (natAbs v) c n (first-holds (natAbs v) c 4 1 (omega (arith, u))) in
     let ds : List Digit = digitsOf n (natAbs v) c in
     record {
       blanks = glass - width (isNegative v) (length ds);
@@ -217,8 +227,8 @@ read-number v c f =
       numerals = numerals-of n (natAbs v) c;
       one-point = points-of n (natAbs v) c;
       parts = refl;
-      valued = signed-size v ∙ ap (signed (isNegative v)) (sym (whole-of n (natAbs v) c ∙ mod-eq-of-lt (e .0)));
-      counted = sym (places-of n (natAbs v) c (e .1));
+      valued = signed-size v ∙ ap (signed (isNegative v)) (sym (drawn-size v c f));
+      counted = sym (drawn-count v c f);
     }
 
 back : (cs : List Cell) → cells (nibbles cs) ≡ cs

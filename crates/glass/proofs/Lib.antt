@@ -3,6 +3,7 @@ pub mod Complete
 pub mod Digits
 pub mod Integers
 pub mod Laws
+pub mod Logs
 pub mod Marks
 pub mod Naturals
 pub mod Pairs

@@ -9,7 +9,8 @@ use lib.IntN.{ℤ, pos, natAbs}
 use Rattle.glass.specs.Shapes.{Cell, cell, glass, shapes, blank, hyphen, shape, cells}
 use Rattle.glass.specs.Pictures.{Digit, laid, Numerals, points, whole, afterPoint, Numbered}
 use Rattle.glass.specs.Reading.{EightNibbles, SeenAnswers}
-use Rattle.glass.specs.Drawing.{fewest, drawnOver}
+use Rattle.glass.specs.Drawing.{fewest, fitting, drawnOver}
+use Rattle.glass.specs.Text.{textOf, packed}
 use Rattle.glass.specs.declared.Reading.{Reading}
 use Rattle.glass.specs.declared.Reading.the-variants.{Number}
 use Rattle.glass.specs.declared.Seen.the-variants.{Shown}
@@ -43,3 +44,7 @@ abbrev pub MinusZero : Type 0
 MinusZero =
     (s : List ℕ) (blanks : ℕ) (digits : List Digit) → EightNibbles s → cells s ≡ laid blanks true digits → 0 < length digits → Numerals digits
     → points digits ≤ 1 → whole digits ≡ 0 → SeenAnswers s (Shown (Number (pos 0) (afterPoint digits)))
+
+-- a text is no other reading's: a log can be read back
+abbrev pub TextTells : Type 0
+TextTells = (r t : Reading) → fitting r ≡ true → fitting t ≡ true → packed (textOf r) ≡ packed (textOf t) → r ≡ t
