@@ -13,7 +13,7 @@ from isa_table import Refused
 
 checks = 0
 
-# 0 to 9, dark and with a point; a blank is 00, a minus 04.
+# 0 to 9, with the point off and on; a blank is 00, a minus 04.
 DIGITS = 'F3 60 B5 F4 66 D6 D7 70 F7 F6'.split()
 POINTED = 'FB 68 BD FC 6E DE DF 78 FF FE'.split()
 

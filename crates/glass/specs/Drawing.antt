@@ -20,8 +20,8 @@ abbrev pub firstEnough : ℕ → ℕ → ℕ → ℕ → ℕ
 firstEnough size count zero n = n
 firstEnough size count (suc more) n = cond (enough size count n) n (firstEnough size count more (suc n))
 
--- "with the fewest digits, at least one, and one before any point"; 5 where four are not enough. That it is the fewest of all pictures that read so is
--- a statement, `FewestDigits`
+-- "with the fewest digits, at least one, and one before any point"; 5 where four are not enough. That it is the fewest of all pictures that read so
+-- is a statement, `FewestDigits`
 abbrev pub fewest : ℕ → ℕ → ℕ
 fewest size count = firstEnough size count glass 1
 
@@ -61,7 +61,8 @@ abbrev pub drawn : Reading → List Cell
 drawn Dark = replicate glass blank
 drawn (Number value count) = drawnNumber value count
 
--- what drawing leaves: document 01's and 02's number, the digit of a 16, and the lent picture. 2 is a picture of another length; a refusal writes nothing
+-- what drawing leaves: document 01's and 02's number, the digit of a 16, and the lent picture. 2 is a picture of another length; a refusal writes
+-- nothing
 pub record Drawing : Type 0 where
   pub refusal : ℕ
   pub digit : ℕ

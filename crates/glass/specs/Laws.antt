@@ -1,5 +1,5 @@
--- What the shapes, reading and drawing are to one another. Document 02, wish 7: "6 has a, 7 is a, b, c, and 9 has d", "Every reading that fits so reads
--- back as itself", "Minus zero reads as 0", "the fewest digits". `read` promises `SeenAnswers`, `draw` promises `drawnOver`. Assumes nothing.
+-- What the shapes, reading and drawing are to one another. Document 02, wish 7: "6 has a, 7 is a, b, c, and 9 has d", "Every reading that fits so
+-- reads back as itself", "Minus zero reads as 0", "the fewest digits". `read` promises `SeenAnswers`, `draw` promises `drawnOver`. Assumes nothing.
 use Prim.Native.Nat.{ℕ, _*_, _/_, _%_, _<_, _≤_}
 use mathlib.Core.Path.{_≡_}
 use mathlib.Core.Bool.{true}

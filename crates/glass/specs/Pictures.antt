@@ -1,6 +1,6 @@
 -- What a picture may show. Document 02, wish 7: "Leading blanks are allowed, and one g alone as minus directly before the first digit. At most one
--- point is lit, and only on a digit. The answer is 'dark' when all is blank, else a signed whole number and the count of digits after the point. Minus
--- zero reads as 0". Assumes nothing.
+-- point is lit, and only on a digit. The answer is 'dark' when all is blank, else a signed whole number and the count of digits after the point.
+-- Minus zero reads as 0". Assumes nothing.
 use Prim.Native.Nat.{ℕ, _+_, _*_, _^_, _<_, _≤_}
 use mathlib.Core.Path.{_≡_}
 use mathlib.Core.Bool.{Bool, cond}

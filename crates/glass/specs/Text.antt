@@ -20,7 +20,7 @@ written Dark = code "d" ∷ code "a" ∷ code "r" ∷ code "k" ∷ []
 written (Number value count) =
     cond (isNegative value) (code "-" ∷ []) [] ++ spelt (digitsOf (fewest (natAbs value) count) (natAbs value) count)
 
--- the text of a reading. One that does not fit the glass has none: so a text has at most eight characters
+-- the text of a reading. One that does not fit the glass has none: so a text has at most five characters, and eight bytes hold it
 unfoldable pub textOf : Reading → List ℕ
 textOf r = cond (fitting r) (written r) []
 

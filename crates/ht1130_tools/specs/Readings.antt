@@ -1,5 +1,5 @@
--- Readings as numbers of eight bytes, which are this interface's own: the refusal in byte 0, the digit of a refusal in byte 1, 1 for dark in byte 2, the
--- count of digits after the point in byte 3, the value in bytes 4 to 7. Assumes nothing.
+-- Readings as numbers of eight bytes, which are this interface's own: the refusal in byte 0, the digit of a refusal in byte 1, 1 for dark in byte 2,
+-- the count of digits after the point in byte 3, the value in bytes 4 to 7. Assumes nothing.
 use Prim.Native.Nat.{ℕ, suc, _+_, _*_, _-_, _^_}
 use mathlib.Core.Path.{_≡_}
 use mathlib.Core.List.{List}

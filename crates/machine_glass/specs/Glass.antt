@@ -1,5 +1,5 @@
--- What an operator sees of a machine. Document 02, wish 7: "The bench should log what an operator sees". A picture is display nibbles 0 to 7 as a report
--- shows them (document 01: "with 3 commons bit 3 shows 0; halted shows all 0"). Assumes nothing.
+-- What an operator sees of a machine. Document 02, wish 7: "The bench should log what an operator sees". A picture is display nibbles 0 to 7 as a
+-- report shows them (document 01: "with 3 commons bit 3 shows 0; halted shows all 0"). Assumes nothing.
 use Prim.Native.Nat.{ℕ, _*_}
 use mathlib.Core.Path.{_≡_}
 use mathlib.Core.Bool.{true, false}

@@ -428,7 +428,10 @@ pub struct GlassRefusal {
 
 impl fmt::Display for GlassRefusal {
     fn fmt(&self, f: &mut fmt::Formatter<'_>) -> fmt::Result {
-        write!(f, "{} at digit {}", self.refusal, self.digit)
+        match self.refusal {
+            Refusal::Glass => write!(f, "{} at digit {}", self.refusal, self.digit),
+            other => other.fmt(f),
+        }
     }
 }
 
