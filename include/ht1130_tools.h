@@ -199,9 +199,10 @@ uint64_t ht1130_assemble(const uint8_t *text, size_t text_len, uint8_t *out, siz
  *
  * The answer has HT1130_DARK 1 for dark, and then value and places 0; else the
  * digits as a signed whole number, minus zero as 0, and the count of them after
- * the point: -0.50 is the value -50 with 2 places. Refuses with 2, 3, or 16 and
- * the leftmost digit k such that no valid picture has the digits 0 to k of this
- * one: after a digit or a minus a blank is refused, at the right end a minus.
+ * the point: -0.50 is the value -50 with 2 places (examples/readings.c prints it
+ * as a person writes it). Refuses with 2, 3, or 16 and the leftmost digit k such
+ * that no valid picture has the digits 0 to k of this one: after a digit or a
+ * minus a blank is refused, at the right end a minus.
  */
 uint64_t ht1130_glass_read(const uint8_t *picture, size_t len);
 #define HT1130_DIGIT(answer) ((uint8_t)((answer) >> 8))        /* 0 to 3 where a picture is refused with 16, else 0 */
@@ -222,7 +223,9 @@ uint64_t ht1130_glass_draw(uint8_t dark, int32_t value, uint8_t places, uint8_t 
 /*
  * What an operator reads of a machine: display nibbles 0 to 7 (E0h-E7h) as a
  * report shows them, so that a halted machine is dark, and on three commons d and
- * the point are never lit. Answers as ht1130_glass_read. Refuses with 5 or 16.
+ * the point are never lit: of the digits only 1, 4 and 7 can be read there.
+ * Answers as ht1130_glass_read. Refuses with 5 or 16. Of a report that a host has,
+ * ht1130_glass_read(report + 16, HT1130_PICTURE) answers the same.
  */
 uint64_t ht1130_reading(const ht1130_machine *machine);
 

@@ -86,7 +86,7 @@ GUARDS = {
     'every-event': 'each kind of record has its line, and RES keeps the picture',
     'step-by-step': 'a picture while it is drawn: each nibble has its place',
     'faulted': 'a machine that is faulted still shows its picture',
-    'unreadable-shape': 'what is no shape, at each digit: 6 without a, 7 with f, 9 without d, and others a segment away',
+    'unreadable-shape': 'what is no shape, at each digit: 6 without a, 7 with f, 9 without d, and 0 without d',
     'unreadable-points': 'two points, at each pair of digits; a point on a blank and on a minus, at each digit',
     'unreadable-minus': 'a minus two places before a digit, two in a row, behind a digit, and at the last place, where no digit can follow',
     'unreadable-blank': 'a blank behind a digit, at each place',

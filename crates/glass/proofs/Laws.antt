@@ -48,7 +48,7 @@ one-leftmost p j k a b = go (ltb j k) (ltb k j) refl refl
     go false true e f = absurd (a .first k (ltb-true k j f) (b .wrong))
     go false false e f = let h = ltb-false j k e in let i = ltb-false k j f in omega (arith, h, i)
 
-true-false : (b : Bool) → b ≡ true → b ≡ false → ⊥
+pub true-false : (b : Bool) → b ≡ true → b ≡ false → ⊥
 true-false true e f = let y : _≡_ {A = ℕ} 0 1 = cc in omega arith
 true-false false e f = let y : _≡_ {A = ℕ} 0 1 = cc in omega arith
 

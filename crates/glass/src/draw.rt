@@ -3,7 +3,7 @@ ghost use mathlib.Core.Path.{_≡_};
 ghost use Prim.Native.Nat.{_^_, _≤_};
 ghost use lib.ListN.{length};
 ghost use Rattle.glass.specs.Shapes.{nibbles};
-ghost use Rattle.glass.specs.Drawing.{drawing, drawnOver, enough, fewest, fits};
+ghost use Rattle.glass.specs.Drawing.{drawing, drawnOver, enough, fewest, fits, pointAt};
 ghost use Rattle.glass.specs.Walk.{byteOf, placed, row};
 use crate::Reading;
 use crate::shapes::shape;
@@ -58,6 +58,16 @@ pub(crate) fn fits(minus: bool, n: u8) -> bool
     n < 5
 }
 
+// Whether the point is lit on the digit that has `after` places to its right.
+pub(crate) fn point_at(after: u8, places: u8) -> bool
+    ensures { λ r. ⌜ r ≡ pointAt after places ⌝ }
+{
+    if after == places {
+        return places != 0;
+    }
+    false
+}
+
 // The digit that has `after` places to its right, its point in bit 7.
 fn place(minus: bool, size: u32, places: u8, n: u8, after: u8) -> u8
     requires { ⌜ after ≤ 3 ⌝ }
@@ -65,13 +75,10 @@ fn place(minus: bool, size: u32, places: u8, n: u8, after: u8) -> u8
 {
     if after < n {
         let code = shape((size / power(after) % 10) as u8);
-        if after != places {
-            return code;
+        if point_at(after, places) {
+            return code + 128;
         }
-        if places == 0 {
-            return code;
-        }
-        return code + 128;
+        return code;
     }
     if after == n {
         if minus {

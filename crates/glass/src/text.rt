@@ -7,6 +7,7 @@ ghost use Rattle.glass.specs.Text.{packed, spelt, textOf};
 use crate::Reading;
 use crate::draw::fewest;
 use crate::draw::fits;
+use crate::draw::point_at;
 use crate::draw::power;
 use crate::signed::negative;
 use crate::signed::size;
@@ -16,13 +17,10 @@ fn pointed(text: u64, places: u8, after: u8) -> u64
     requires { ⌜ text < 65536 ^ 3 ⌝ }
     ensures { λ r. ⌜ r ≡ cond (pointAt after places) (46 + 256 * text) text ⌝ }
 {
-    if after != places {
-        return text;
+    if point_at(after, places) {
+        return text * 256 + 46;
     }
-    if places == 0 {
-        return text;
-    }
-    text * 256 + 46
+    text
 }
 
 // The characters of the last `n` digits, the point among them.

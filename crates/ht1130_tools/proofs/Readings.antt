@@ -10,8 +10,10 @@ use Rattle.glass.specs.declared.Reading.the-variants.{Dark, Number}
 use Rattle.glass.specs.declared.Seen.{Seen}
 use Rattle.glass.specs.declared.Seen.the-variants.{Shown, BadLength, BadNibble, Unreadable}
 use Rattle.glass.proofs.Laws.{seen-determined, shown-under, unreadable-under}
+use Rattle.machine_glass.specs.Glass.{onGlass}
+use Rattle.machine_glass.specs.declared.Sight.the-variants.{OnGlass, BadMachine}
 use Rattle.machine_glass.proofs.Laws.{sight-determined}
-use Rattle.ht1130_tools.specs.Readings.{complement, seenNumber, sightNumber, GlassReadDetermined, SightToldDetermined, NumberTells}
+use Rattle.ht1130_tools.specs.Readings.{complement, seenNumber, sightNumber, GlassReadDetermined, SightToldDetermined, NumberTells, SightTells}
 
 pub glass-read-determined : GlassReadDetermined
 glass-read-determined picture r q x y =
@@ -67,3 +69,17 @@ number-tells p q (Unreadable j) (Shown (Number w d)) a b e = absurd (let h = unr
 number-tells p q (Unreadable j) BadLength a b e = absurd (omega (arith, e))
 number-tells p q (Unreadable j) BadNibble a b e = absurd (omega (arith, e))
 number-tells p q (Unreadable j) (Unreadable k) a b e = ap Unreadable (omega (arith, e))
+
+-- 5 is no picture's number
+not-5 : (x : Seen) → seenNumber x ≡ 5 → ⊥
+not-5 (Shown Dark) e = omega (arith, e)
+not-5 (Shown (Number v c)) e = omega (arith, e)
+not-5 BadLength e = omega (arith, e)
+not-5 BadNibble e = omega (arith, e)
+not-5 (Unreadable k) e = omega (arith, e)
+
+pub sight-tells : SightTells
+sight-tells m n (OnGlass x) (OnGlass y) a b e = ap OnGlass (number-tells (onGlass m) (onGlass n) x y (a .1) (b .1) e)
+sight-tells m n (OnGlass x) BadMachine a b e = absurd (not-5 x e)
+sight-tells m n BadMachine (OnGlass y) a b e = absurd (not-5 y (sym e))
+sight-tells m n BadMachine BadMachine a b e = refl

@@ -68,3 +68,7 @@ SightToldDetermined = (m : Machine) (r q : ℕ) → SightTold m r → SightTold 
 -- the number of a reading is no other's: a host can tell what is seen from it
 abbrev pub NumberTells : Type 0
 NumberTells = (p q : List ℕ) (x y : Seen) → SeenAnswers p x → SeenAnswers q y → seenNumber x ≡ seenNumber y → x ≡ y
+
+-- nor is that of what is seen of a machine: 5 is no picture's number
+abbrev pub SightTells : Type 0
+SightTells = (m n : Machine) (x y : Sight) → Sees m x → Sees n y → sightNumber x ≡ sightNumber y → x ≡ y

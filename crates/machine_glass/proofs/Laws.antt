@@ -17,18 +17,14 @@ use Rattle.machine.specs.Report.{places, shown}
 use Rattle.glass.specs.Reading.{allNibbles, SeenAnswers}
 use Rattle.glass.specs.declared.Reading.the-variants.{Dark}
 use Rattle.glass.specs.declared.Seen.the-variants.{Shown}
-use Rattle.glass.proofs.Laws.{seen-determined}
+use Rattle.glass.proofs.Laws.{true-false, seen-determined}
 use Rattle.machine_glass.specs.Glass.{onGlass, SightDetermined, ShowsPicture, AsleepIsDark}
 use Rattle.machine_glass.specs.declared.Sight.the-variants.{OnGlass, BadMachine}
 
-apart : (b : Bool) → b ≡ true → b ≡ false → ⊥
-apart true e f = let y : _≡_ {A = ℕ} 0 1 = cc in omega arith
-apart false e f = let y : _≡_ {A = ℕ} 0 1 = cc in omega arith
-
 pub sight-determined : SightDetermined
 sight-determined m (OnGlass s) (OnGlass t) a b = ap OnGlass (seen-determined (onGlass m) s t (a .1) (b .1))
-sight-determined m (OnGlass s) BadMachine a b = absurd (apart (valid (stateOf m)) (a .0) (b .0))
-sight-determined m BadMachine (OnGlass t) a b = absurd (apart (valid (stateOf m)) (b .0) (a .0))
+sight-determined m (OnGlass s) BadMachine a b = absurd (true-false (valid (stateOf m)) (a .0) (b .0))
+sight-determined m BadMachine (OnGlass t) a b = absurd (true-false (valid (stateOf m)) (b .0) (a .0))
 sight-determined m BadMachine BadMachine a b = refl
 
 and-right : (a b : Bool) → a && b ≡ true → b ≡ true

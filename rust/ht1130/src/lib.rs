@@ -429,7 +429,11 @@ pub struct GlassRefusal {
 impl fmt::Display for GlassRefusal {
     fn fmt(&self, f: &mut fmt::Formatter<'_>) -> fmt::Result {
         match self.refusal {
-            Refusal::Glass => write!(f, "{} at digit {}", self.refusal, self.digit),
+            Refusal::Glass => write!(
+                f,
+                "picture unreadable at digit {}, or reading that does not fit",
+                self.digit
+            ),
             other => other.fmt(f),
         }
     }
@@ -1118,7 +1122,8 @@ pub fn glass_drawn(reading: Reading) -> Result<[u8; PICTURE], GlassRefusal> {
 
 /// What an operator reads of a machine, by [`glass_read`]: display nibbles 0 to 7
 /// (E0h-E7h) as a report shows them. A halted machine is dark; on three commons
-/// segment d and the point are never lit.
+/// segment d and the point are never lit, so that of the digits only 1, 4 and 7
+/// can be read.
 ///
 /// Refused: `Machine`, then `Glass` with the digit.
 ///

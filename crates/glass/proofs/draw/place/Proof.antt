@@ -1,6 +1,6 @@
 -- `glass::draw::place` meets its contract: each way is the definition at its case. Assumes nothing.
 use Prim.Native.Nat.{ℕ, _+_, _/_, _%_, _^_, _<_}
-use mathlib.Core.Path.{_≡_, refl, ap, _∙_}
+use mathlib.Core.Path.{_≡_, refl, sym, ap, _∙_}
 use mathlib.Core.Bool.{Bool, true, false}
 use native.Mathlib.Nat.{one-le-pow}
 use native.Mathlib.Omega.{arith}
@@ -27,16 +27,6 @@ light : (minus : Bool) (size count n after p code : ℕ) → after < n → p ≡
 light minus size count n after p code h e k u =
     ap (λ (x : ℕ). x + 128) (k ∙ ap (λ (q : ℕ). codeOf (shape (size / q % 10))) e) ∙ pointed (size / 10 ^ after % 10) ∙ among minus size count n after true h u
 
--- the point is lit where so many digits are after it, but for none
-elsewhere : (after count : ℕ) → (after ≡ count → ⊥) → pointAt after count ≡ false
-elsewhere after count h = rw (ne-eqb after count h) refl
-
-none : (after count : ℕ) → after ≡ count → count ≡ 0 → pointAt after count ≡ false
-none after count h z = rw (eq-eqb after count h, eq-eqb count 0 z) refl
-
-there : (after count : ℕ) → after ≡ count → (count ≡ 0 → ⊥) → pointAt after count ≡ true
-there after count h z = rw (eq-eqb after count h, ne-eqb count 0 z) refl
-
 pub place-spec : {M : Type 1} → statement M
 place-spec =
     tie.close
@@ -45,18 +35,7 @@ place-spec =
     (λ c. rw (c .power .ensures) (one-le-pow (c .before .before .args .after) 10 (lit< tt)))
     (λ c. search needs)
     (λ c κs. search needs)
-    (λ c.
-    let s = c .before in
-    let t = s .before .before in
-    let a = t .before .args in
-    dark (a .minus) (a .size) (a .places) (a .n) (a .after) (s .before .power .result) (s .shape .result) (t .if1 .taken) (s .before .power .ensures)
-    (s .shape .ensures) (elsewhere (a .after) (a .places) (c .if2 .taken)))
-    (λ c.
-    let s = c .before .before in
-    let t = s .before .before in
-    let a = t .before .args in
-    dark (a .minus) (a .size) (a .places) (a .n) (a .after) (s .before .power .result) (s .shape .result) (t .if1 .taken) (s .before .power .ensures)
-    (s .shape .ensures) (none (a .after) (a .places) (c .before .if2 .left) (c .if3 .taken)))
+    (λ c κs. search needs)
     (λ c.
     let s = c .before .before in
     let a = s .before .before .before .args in
@@ -67,13 +46,19 @@ place-spec =
     let t = s .before .before in
     let a = t .before .args in
     light (a .minus) (a .size) (a .places) (a .n) (a .after) (s .before .power .result) (s .shape .result) (t .if1 .taken) (s .before .power .ensures)
-    (s .shape .ensures) (there (a .after) (a .places) (c .before .if2 .left) (c .if3 .left)))
+    (s .shape .ensures) (sym (c .before .point-at .ensures) ∙ c .if2 .taken))
+    (λ c.
+    let s = c .before .before in
+    let t = s .before .before in
+    let a = t .before .args in
+    dark (a .minus) (a .size) (a .places) (a .n) (a .after) (s .before .power .result) (s .shape .result) (t .if1 .taken) (s .before .power .ensures)
+    (s .shape .ensures) (sym (c .before .point-at .ensures) ∙ c .if2 .left))
     (λ c.
     let a = c .before .before .before .args in
-    rw (le-ltb (a .after) (a .n) (c .before .before .if1 .left), eq-eqb (a .after) (a .n) (c .before .if4 .taken), c .if5 .taken) refl)
+    rw (le-ltb (a .after) (a .n) (c .before .before .if1 .left), eq-eqb (a .after) (a .n) (c .before .if3 .taken), c .if4 .taken) refl)
     (λ c.
     let a = c .before .before .before .args in
-    rw (le-ltb (a .after) (a .n) (c .before .before .if1 .left), eq-eqb (a .after) (a .n) (c .before .if4 .taken), c .if5 .left) refl)
+    rw (le-ltb (a .after) (a .n) (c .before .before .if1 .left), eq-eqb (a .after) (a .n) (c .before .if3 .taken), c .if4 .left) refl)
     (λ c.
     let a = c .before .before .args in
-    rw (le-ltb (a .after) (a .n) (c .before .if1 .left), ne-eqb (a .after) (a .n) (c .if4 .left)) refl))
+    rw (le-ltb (a .after) (a .n) (c .before .if1 .left), ne-eqb (a .after) (a .n) (c .if3 .left)) refl))
