@@ -17,7 +17,7 @@ pub from-0 : (v : ℤ) (size : ℕ) → size ≡ natAbs v → isNegative v ≡ f
 from-0 (pos n) size e k = e
 from-0 (negsuc n) size e k = absurd (let y : _≡_ {A = ℕ} 0 1 = cc in omega arith)
 
-pub size-under : (v : ℤ) (size : ℕ) → SFits w32 v → size ≡ natAbs v → size ≤ 4294967296
+pub size-under : (v : ℤ) (size : ℕ) → SFits w32 v → size ≡ natAbs v → size ≤ 2147483648
 size-under (pos n) size f e = let h : n < 2147483648 = f .sfits in omega (arith, h, e)
 size-under (negsuc n) size f e = let h : n < 2147483648 = f .sfits in omega (arith, h, e)
 

@@ -1,5 +1,6 @@
 -- `ht1130_tools::pictures::complement` meets its contract. Assumes nothing.
 use mathlib.Core.Path.{sym, ap, _∙_}
+use native.Mathlib.Omega.{arith}
 use lib.IntN.{natAbs}
 use mir.Syntax.{w32}
 use mir.ValLaws.{toZ-ofZ}
@@ -17,7 +18,8 @@ complement-spec =
     (λ c.
     let s = c .before .before in
     let a = s .before in
-    size-under (a .args .value) (s .size .result) (a .fits .value) (s .size .ensures ∙ ap natAbs (toZ-ofZ w32 (a .args .value) (a .fits .value))))
+    let h = size-under (a .args .value) (s .size .result) (a .fits .value) (s .size .ensures ∙ ap natAbs (toZ-ofZ w32 (a .args .value) (a .fits .value))) in
+    omega (arith, h))
     (λ c.
     let s = c .before .before in
     let a = s .before in
