@@ -45,7 +45,7 @@ unfolding withRegister
 register-same n v c =
     same-pick (eqb n 0) c _ _ refl (same-pick (eqb n 1) c _ _ refl (same-pick (eqb n 2) c _ _ refl (same-pick (eqb n 3) c _ _ refl refl)))
 
-tested-same : (k : Condition) (c : Cpu) → standing (tested k c) ≡ standing c
+pub tested-same : (k : Condition) (c : Cpu) → standing (tested k c) ≡ standing c
 tested-same (Ja n) c = refl
 tested-same JnzR0 c = refl
 tested-same JnzR1 c = refl

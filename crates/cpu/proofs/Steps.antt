@@ -1,7 +1,7 @@
 -- What the proofs of one step share, on definitions alone: a faulting instruction sets the fault alone, and what the bytes at the
 -- PC, read and timed, make of a step. Assumes nothing.
 use Prim.Native.Nat.{ℕ, _+_, _%_, _<_, _^_}
-use mathlib.Core.Path.{_≡_, refl, sym, ap, ap₂, _∙_}
+use mathlib.Core.Path.{_≡_, refl, sym, ap, ap₂, subst, _∙_}
 use mathlib.Core.Bool.{Bool, true, false}
 use mathlib.Core.List.{List}
 use mathlib.Core.Logic.{inl, inr}
@@ -12,11 +12,11 @@ use borrow.Author.Tests.{eq-eqb, ne-eqb}
 use Rattle.isa.specs.Choice.{pick}
 use Rattle.rom.specs.Fetching.{byteAt, readAt}
 use Rattle.isa.specs.Reading.{Reading, decoded}
-use Rattle.isa.specs.Timing.{lengthOf, cyclesOf}
+use Rattle.isa.specs.Timing.{columnsOf, columnsAt, lengthOf, cyclesOf}
 use Rattle.isa.specs.Views.{View, on, jmp, branch, call, ret, reti, ei, view}
 use Rattle.isa.specs.declared.decoder.Decoded.{Decoded}
 use Rattle.isa.specs.declared.decoder.Decoded.the-variants.{Read}
-use Rattle.isa.proofs.Exact.{reading}
+use Rattle.isa.proofs.Exact.{reading, timed as timed-at}
 use Rattle.isa.specs.declared.ProgramAddress.{ProgramAddress}
 use Rattle.isa.specs.declared.Instruction.{Instruction}
 use Rattle.datapath.specs.Timer.{clocks, counted}
@@ -99,6 +99,10 @@ module _ (mask : List ℕ) (s : State) (x y : ℕ) (d : Decoded) (p : x ≡ byte
 
   pub read : d ≡ readAt mask (s .cpu .control .pc .0)
   read = reading x y d h r ∙ ap₂ decoded first (q ∙ ap (λ (n : ℕ). getD mask n 0) (next (s .cpu .control .pc .0)))
+
+  -- length and cycles by what was read are those of the first byte
+  pub columns-read : (i : Instruction) → d ≡ Read i → columnsOf i ≡ columnsAt x
+  columns-read i e = sym (timed-at x .read y i h (subst (Reading x y) e r))
 
   pub fetched : instructed mask d (lengthOf x) (cyclesOf x) s ≡ executed mask s
   unfolding executed

@@ -5,11 +5,16 @@ ghost use Rattle.cpu.specs.Effect.{effect};
 ghost use Rattle.cpu.specs.Gap.{accesses};
 ghost use Rattle.cpu.specs.State.{state};
 use crate::Cpu;
+use crate::flow::branch_to;
+use crate::flow::page;
+use crate::flow::table;
 use datapath::alu::add;
 use datapath::alu::and;
+use datapath::alu::bit_set;
 use datapath::alu::decimal_adjust;
 use datapath::alu::decrement;
 use datapath::alu::increment;
+use datapath::alu::not_zero;
 use datapath::alu::or;
 use datapath::alu::rotate_left;
 use datapath::alu::rotate_left_through;
@@ -17,8 +22,10 @@ use datapath::alu::rotate_right;
 use datapath::alu::rotate_right_through;
 use datapath::alu::subtract;
 use datapath::alu::xor;
+use isa::Condition;
 use isa::Instruction;
 use isa::Pointer;
+use isa::Port;
 
 impl Cpu {
     // The processor after an instruction, the PC having moved on. A fault is set in the status. `gap` counts the accesses that stray.
@@ -175,10 +182,23 @@ impl Cpu {
                 let x = rotate_right_through(self.registers.acc, self.control.cf);
                 self.take(x)
             }
-            Instruction::InA(p) => {
-                let v = self.port(p);
-                self.set_acc(v)
-            }
+            Instruction::InA(p) => match p {
+                Port::Pm => {
+                    let v = self.pins.pm;
+                    self.registers.acc = v;
+                    self
+                }
+                Port::Ps => {
+                    let v = self.pins.ps;
+                    self.registers.acc = v;
+                    self
+                }
+                Port::Pp => {
+                    let v = self.pins.pp;
+                    self.registers.acc = v;
+                    self
+                }
+            },
             Instruction::OutPaA => {
                 let x = self.registers.acc;
                 self.outputs.pa = x;
@@ -189,7 +209,54 @@ impl Cpu {
                 self.control.pc.0 = x;
                 self
             }
-            Instruction::Branch(t, k) => self.branch(k, t),
+            Instruction::Branch(t, k) => match k {
+                Condition::Ja(n) => {
+                    let pc = branch_to(bit_set(self.registers.acc, n), self.control.pc.0, t.0);
+                    self.control.pc.0 = pc;
+                    self
+                }
+                Condition::JnzR0 => {
+                    let pc = branch_to(not_zero(self.registers.r0), self.control.pc.0, t.0);
+                    self.control.pc.0 = pc;
+                    self
+                }
+                Condition::JnzR1 => {
+                    let pc = branch_to(not_zero(self.registers.r1), self.control.pc.0, t.0);
+                    self.control.pc.0 = pc;
+                    self
+                }
+                Condition::JnzR4 => {
+                    let pc = branch_to(not_zero(self.registers.r4), self.control.pc.0, t.0);
+                    self.control.pc.0 = pc;
+                    self
+                }
+                Condition::Jz => {
+                    let pc = branch_to(self.registers.acc == 0, self.control.pc.0, t.0);
+                    self.control.pc.0 = pc;
+                    self
+                }
+                Condition::JnzA => {
+                    let pc = branch_to(not_zero(self.registers.acc), self.control.pc.0, t.0);
+                    self.control.pc.0 = pc;
+                    self
+                }
+                Condition::Jc => {
+                    let pc = branch_to(self.control.cf == 1, self.control.pc.0, t.0);
+                    self.control.pc.0 = pc;
+                    self
+                }
+                Condition::Jnc => {
+                    let pc = branch_to(self.control.cf == 0, self.control.pc.0, t.0);
+                    self.control.pc.0 = pc;
+                    self
+                }
+                Condition::Jtmr => {
+                    let pc = branch_to(self.control.tf == 1, self.control.pc.0, t.0);
+                    self.control.tf = 0;
+                    self.control.pc.0 = pc;
+                    self
+                }
+            },
             Instruction::Call(t) => self.call(t),
             Instruction::Ret => self.ret(),
             Instruction::Reti => self.reti(),
@@ -235,15 +302,18 @@ impl Cpu {
                 self
             }
             Instruction::ReadR4A(p) => {
-                let x = self.table_r4(p, mask, memory, gap);
+                let low = self.operand(Pointer::R1R0, memory, gap);
+                let page = page(p, self.control.pc.0);
+                let x = table(mask, page, self.registers.acc, low);
                 let high = x / 16;
-                let low = x % 16;
+                let rest = x % 16;
                 self.registers.r4 = high;
-                self.registers.acc = low;
+                self.registers.acc = rest;
                 self
             }
             Instruction::ReadMr0A(p) => {
-                let x = self.table_mr0(p, mask, memory);
+                let page = page(p, self.control.pc.0);
+                let x = table(mask, page, self.registers.acc, self.registers.r4);
                 self.put(Pointer::R1R0, memory, x / 16, gap);
                 self.set_acc(x % 16)
             }

@@ -2,7 +2,7 @@
 ghost use mathlib.Core.Path.{_≡_};
 ghost use mathlib.Core.List.{[], _∷_};
 ghost use Rattle.datapath.specs.Memory.{strays, tallied};
-ghost use Rattle.cpu.specs.Effect.{nibbleAt, placeOf, portOf, registerOf, taking, withNibble, withPair, withRegister};
+ghost use Rattle.cpu.specs.Effect.{nibbleAt, placeOf, registerOf, taking, withNibble, withPair, withRegister};
 ghost use Rattle.cpu.specs.State.{state, withAcc};
 use crate::Cpu;
 use datapath::alu::Sum;
@@ -12,7 +12,6 @@ use datapath::memory::store;
 use datapath::memory::tally;
 use isa::DataAddress;
 use isa::Pointer;
-use isa::Port;
 
 impl Cpu {
     // The address in a register pair.
@@ -121,17 +120,6 @@ impl Cpu {
                 self.registers.r3 = high;
                 self
             }
-        }
-    }
-
-    // IN A,Pi reads this.
-    pub(crate) fn port(self, p: Port) -> u8
-        ensures { λ r. ⌜ r ≡ portOf p self ⌝ }
-    {
-        match p {
-            Port::Pm => self.pins.pm,
-            Port::Ps => self.pins.ps,
-            Port::Pp => self.pins.pp,
         }
     }
 }

@@ -12,16 +12,22 @@ impl Cpu {
         ensures { λ r. ⌜ state r (now (memory .exit)) ≡ ran (now (mask .entry)) steps (state self (now (memory .entry))) ⌝ }
         ensures { λ _. ⌜ now (gap .exit) ≡ tallied (now (gap .entry)) (straysIn (now (mask .entry)) steps (state self (now (memory .entry)))) ⌝ }
     {
+        if self.status.halted != 0 {
+            return self;
+        }
+        if self.status.fault != 0 {
+            return self;
+        }
         let mut current = self;
         let mut left = steps;
         while 0 < left {
+            current = current.go_on(mask, memory, gap);
             if current.status.halted != 0 {
                 return current;
             }
             if current.status.fault != 0 {
                 return current;
             }
-            current = current.go_on(mask, memory, gap);
             left -= 1;
         }
         current

@@ -1,9 +1,11 @@
 // One step: an interrupt taken, or one instruction, and the cycles that it spends.
 ghost use mathlib.Core.Path.{_≡_};
+ghost use lib.Dec.{eqb};
+ghost use Rattle.isa.specs.Choice.{pick};
 ghost use Rattle.rom.specs.Fetching.{movedBy};
 ghost use Rattle.datapath.specs.Memory.{tallied};
 ghost use Rattle.cpu.specs.Gap.{straysAt, straysBy};
-ghost use Rattle.cpu.specs.State.{state};
+ghost use Rattle.cpu.specs.State.{state, withHeld, withTf};
 ghost use Rattle.cpu.specs.Step.{entered, executed, step, ticked, timed, vectorOf};
 use crate::Cpu;
 use datapath::timer::Count;
@@ -12,8 +14,8 @@ use datapath::timer::clock;
 use isa::decoder::Decoded;
 use isa::decoder::decode;
 use rom::reader::byte_at;
-use rom::timing::cycles;
-use rom::timing::length;
+use rom::timing::cycles_of;
+use rom::timing::length_of;
 use std::num::wrapping_add_u32;
 
 // The address `length` bytes on, modulo 4,096.
@@ -21,6 +23,16 @@ fn address_after(pc: u16, length: u8) -> u16
     ensures { λ r. ⌜ r ≡ movedBy length pc ⌝ }
 {
     (pc % 4096 + length as u16) % 4096
+}
+
+// One of two numbers.
+fn chosen(first: bool, a: u8, b: u8) -> u8
+    ensures { λ r. ⌜ r ≡ pick first a b ⌝ }
+{
+    if first {
+        return a;
+    }
+    b
 }
 
 impl Cpu {
@@ -53,9 +65,9 @@ impl Cpu {
         self
     }
 
-    // An interrupt is taken: PC and CF go to the stack.
+    // An interrupt is taken: PC and CF go to the stack, and what called for it is cleared, the held edge for 8 and TF for 4.
     pub(crate) fn enter(mut self, vector: u16) -> Cpu
-        ensures { λ r. ⌜ r ≡ entered vector self ⌝ }
+        ensures { λ r. ⌜ r ≡ entered vector (pick (eqb vector 8) (withHeld 0 self) (withTf 0 self)) ⌝ }
     {
         let pc = self.control.pc.0;
         let cf = self.control.cf;
@@ -63,6 +75,11 @@ impl Cpu {
         self.stack.carry = cf;
         self.interrupts.level = 2;
         self.control.pc.0 = vector;
+        let edge = vector == 8;
+        let held = chosen(edge, 0, self.interrupts.held);
+        let tf = chosen(edge, self.control.tf, 0);
+        self.interrupts.held = held;
+        self.control.tf = tf;
         self.tick(2)
     }
 
@@ -70,10 +87,10 @@ impl Cpu {
     pub(crate) fn pending(self) -> u16
         ensures { λ r. ⌜ r ≡ vectorOf self ⌝ }
     {
-        if self.interrupts.level != 0 {
+        if self.interrupts.enabled != 1 {
             return 0;
         }
-        if self.interrupts.enabled != 1 {
+        if self.interrupts.level != 0 {
             return 0;
         }
         if self.interrupts.held == 1 {
@@ -86,7 +103,7 @@ impl Cpu {
     }
 
     // One instruction, on a processor without a fault. One that faults sets the fault alone, so the PC goes back and no copy is kept.
-    // Cycles are found beside the length, so that the compiler computes the rule once.
+    // Length and cycles are asked for by the instruction, the length first: behind the decoder's jump both are constants.
     fn execute(mut self, mask: &[u8], memory: &mut [u8; 160], gap: &mut u16) -> Cpu
         requires { ⌜ self .status .fault ≡ 0 ⌝ }
         ensures { λ r. ⌜ state r (now (memory .exit)) ≡ executed (now (mask .entry)) (state self (now (memory .entry))) ⌝ }
@@ -99,8 +116,8 @@ impl Cpu {
             return self;
         };
         let before = self.control.pc.0;
-        let spent = cycles(first);
-        let size = length(first);
+        let size = length_of(instruction);
+        let spent = cycles_of(instruction);
         let next = address_after(pc, size);
         self.control.pc.0 = next;
         let mut after = self.effect(instruction, mask, memory, gap);
@@ -112,19 +129,14 @@ impl Cpu {
     }
 
     // A step of a processor that is neither halted nor faulted.
-    pub(crate) fn go_on(mut self, mask: &[u8], memory: &mut [u8; 160], gap: &mut u16) -> Cpu
+    pub(crate) fn go_on(self, mask: &[u8], memory: &mut [u8; 160], gap: &mut u16) -> Cpu
         requires { ⌜ (self .status .halted ≡ 0) × (self .status .fault ≡ 0) ⌝ }
         ensures { λ r. ⌜ state r (now (memory .exit)) ≡ step (now (mask .entry)) (state self (now (memory .entry))) ⌝ }
         ensures { λ _. ⌜ now (gap .exit) ≡ tallied (now (gap .entry)) (straysBy (now (mask .entry)) (state self (now (memory .entry)))) ⌝ }
     {
         let vector = self.pending();
-        if vector == 8 {
-            self.interrupts.held = 0;
-            return self.enter(8);
-        }
-        if vector == 4 {
-            self.control.tf = 0;
-            return self.enter(4);
+        if vector != 0 {
+            return self.enter(vector);
         }
         self.execute(mask, memory, gap)
     }

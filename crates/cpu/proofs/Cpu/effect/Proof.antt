@@ -1,10 +1,17 @@
 -- `cpu::Cpu::effect` meets its contract: an arm knows the instruction, at which the definition computes, and hands over what its
 -- calls ensure. Assumes nothing.
-use Prim.Native.Nat.{ℕ, _/_, _%_}
-use mathlib.Core.Path.{_≡_, refl, sym, ap, _∙_}
+use Prim.Native.Nat.{ℕ, _+_, _*_, _/_, _%_}
+use mathlib.Core.Path.{_≡_, refl, sym, ap, ap₂, _∙_}
+use mathlib.Core.Bool.{Bool, true, false}
 use mathlib.Core.List.{List, [], _∷_}
 use lib.Bits.{bitAnd, bitOr, bitXor}
+use Rattle.isa.specs.Choice.{pick}
+use Rattle.rom.specs.Fetching.{branchTo, byteAt}
+use Rattle.isa.specs.declared.ProgramAddress.{ProgramAddress}
+use Rattle.isa.specs.declared.Condition.{Condition}
+use Rattle.isa.specs.declared.Condition.the-variants.{Ja, JnzR0, JnzR1, JnzR4, Jz, JnzA, Jc, Jnc, Jtmr}
 use Rattle.isa.specs.declared.Instruction.{Instruction}
+use Rattle.isa.specs.declared.Instruction.the-variants as I
 use Rattle.isa.specs.declared.Pointer.{Pointer}
 use Rattle.isa.specs.declared.Pointer.the-variants.{R1R0}
 use Rattle.datapath.specs.Alu.{summed, subtracted, incremented, decremented}
@@ -12,8 +19,9 @@ use Rattle.datapath.specs.Memory.{strays, tallied}
 use Rattle.datapath.specs.declared.alu.Sum.{Sum}
 use Rattle.datapath.proofs.Tally.{tallied-append}
 use Rattle.cpu.specs.declared.Cpu.{Cpu}
-use Rattle.cpu.specs.State.{State, state, onCpu, withAcc, withR4}
-use Rattle.cpu.specs.Effect.{effect, placeOf, taking, withNibble, withRegister}
+use Rattle.cpu.specs.State.{State, state, onCpu, address, withAcc, withR4, withPc}
+use Rattle.cpu.specs.Effect.{effect, branched, holds, placeOf, taking, tested, withNibble, withRegister}
+use Rattle.cpu.proofs.Leaves.{Standing, tested-same}
 use Rattle.cpu.specs.Gap.{pointers, accesses}
 use borrow.Author.Needs.{needs}
 use Rattle.cpu.proofs.Cpu.effect.Statement.{statement}
@@ -57,6 +65,26 @@ to-register s n e p = e ∙ ap (λ (x : ℕ). withRegister n x (s .args .self)) 
 to-memory : (s : tie.Start) (q : Pointer) {r : State} {x y : ℕ} → r ≡ withNibble q x (start s) → x ≡ y → r ≡ withNibble q y (start s)
 to-memory s q e p = e ∙ ap (λ (x : ℕ). withNibble q x (start s)) p
 
+-- a branch, by its condition: the PC goes to the target or stays, and the test has been made
+went : (k : Condition) (t : ProgramAddress) (c : Cpu) (b : Bool) {pc : ℕ} → pc ≡ pick b (branchTo (c .control .pc .0) t) (c .control .pc .0) → b ≡ holds k c → withPc (address pc) (tested k c) ≡ branched k t c
+unfolding branched
+went k t c b p q =
+    ap (λ (n : ℕ). withPc (address n) (tested k c)) p ∙ go b
+    ∙ ap (λ (b : Bool). pick b (withPc (address (branchTo (c .control .pc .0) t)) (tested k c)) (tested k c)) q
+  where
+    stays : c .control .pc .0 ≡ tested k c .control .pc .0
+    stays = sym (ap (λ (s : Standing). s .pc) (tested-same k c))
+
+    go : (b : Bool) → withPc (address (pick b (branchTo (c .control .pc .0) t) (c .control .pc .0))) (tested k c) ≡ pick b (withPc (address (branchTo (c .control .pc .0) t)) (tested k c)) (tested k c)
+    go true = refl
+    go false = ap (λ (n : ℕ). withPc (address n) (tested k c)) stays
+
+branches : (s : tie.Start) (k : Condition) {i : Instruction} {t : ProgramAddress} {l : Condition} {pc : ℕ} {b : Bool} → let c = s .args .self in
+    i ≡ I.Branch t l → l ≡ k → pc ≡ pick b (branchTo (c .control .pc .0) t) (c .control .pc .0) → b ≡ holds k c
+    → (state (withPc (address pc) (tested k c)) (s .args .memory .now) ≡ by s i) × (s .args .gap .now ≡ counted s i)
+unfolding effect pointers strays tallied
+branches s k {t = t} {b = b} e f p q = arm s (e ∙ ap (I.Branch t) f) (on-cpu s (went k t (s .args .self) b p q)) refl
+
 -- the needs in the order of the code: first what is known of each arm and each call, then the arms' answers
 pub effect-spec : {M : Type 1} → statement M
 unfolding effect pointers strays tallied
@@ -81,13 +109,17 @@ effect-spec =
     (λ c. search needs) (λ c κs. search needs) (λ c. search needs) (λ c κs. search needs) (λ c. search needs) (λ c. search needs)
     (λ c κs. search needs) (λ c κs. search needs) (λ c. search needs) (λ c κs. search needs) (λ c κs. search needs) (λ c. search needs)
     (λ c κs. search needs) (λ c κs. search needs) (λ c. search needs) (λ c κs. search needs) (λ c κs. search needs) (λ c. search needs)
-    (λ c κs. search needs) (λ c κs. search needs) (λ c. search needs) (λ c. search needs) (λ c. search needs) (λ c κs. search needs)
-    (λ c. search needs) (λ c κs. search needs) (λ c. search needs) (λ c κs. search needs) (λ c. search needs) (λ c κs. search needs)
     (λ c. search needs) (λ c. search needs) (λ c. search needs) (λ c. search needs) (λ c. search needs) (λ c. search needs) (λ c. search needs)
-    (λ c. search needs) (λ c. search needs) (λ c κs. search needs) (λ c. search needs) (λ c κs. search needs) (λ c. search needs) (λ c. search needs)
-    (λ c. search needs) (λ c. search needs) (λ c. search needs) (λ c. search needs) (λ c. search needs) (λ c κs. search needs) (λ c. search needs)
-    (λ c κs. search needs) (λ c κs. search needs) (λ c κs. search needs) (λ c. search needs) (λ c. search needs) (λ c. search needs)
-    (λ c. search needs) (λ c. search needs) (λ c. search needs)
+    (λ c κs. search needs) (λ c κs. search needs) (λ c. search needs) (λ c κs. search needs) (λ c κs. search needs) (λ c. search needs)
+    (λ c κs. search needs) (λ c κs. search needs) (λ c. search needs) (λ c κs. search needs) (λ c κs. search needs) (λ c. search needs)
+    (λ c κs. search needs) (λ c. search needs) (λ c κs. search needs) (λ c κs. search needs) (λ c. search needs) (λ c κs. search needs)
+    (λ c. search needs) (λ c κs. search needs) (λ c. search needs) (λ c κs. search needs) (λ c. search needs) (λ c κs. search needs)
+    (λ c. search needs) (λ c κs. search needs) (λ c. search needs) (λ c κs. search needs) (λ c. search needs) (λ c. search needs)
+    (λ c. search needs) (λ c. search needs) (λ c. search needs) (λ c. search needs) (λ c. search needs) (λ c. search needs) (λ c. search needs)
+    (λ c κs. search needs) (λ c. search needs) (λ c κs. search needs) (λ c. search needs) (λ c. search needs) (λ c. search needs)
+    (λ c. search needs) (λ c. search needs) (λ c. search needs) (λ c. search needs) (λ c κs. search needs) (λ c κs. search needs)
+    (λ c κs. search needs) (λ c. search needs) (λ c κs. search needs) (λ c κs. search needs) (λ c κs. search needs) (λ c κs. search needs)
+    (λ c. search needs) (λ c. search needs) (λ c. search needs) (λ c. search needs) (λ c. search needs) (λ c. search needs)
     -- ADD A,[R1R0]
     (λ c.
     let s = c .before .before .before .before .before .before .before .before in
@@ -240,67 +272,90 @@ effect-spec =
     (λ c.
     let s = c .before .before .before .before .before in
     arm s (c .before .before .enum-told17 .given .1) (on-cpu s (took s (c .take11 .ensures) (c .before .rotate-right-through .ensures))) refl)
-    -- IN A,Pi
-    (λ c.
-    let s = c .before .before .before .before .before .before in
-    arm s (c .before .before .before .instruction17 .given .1) (on-cpu s (to-acc s (c .set-acc12 .ensures) (c .before .port .ensures))) refl)
+    -- IN A,PM
+    (λ c. arm (c .before .before .before .before .before .before .before) (c .before .before .before .before .instruction17 .given .1 ∙ ap I.InA (c .before .enum-told18 .given .1)) refl refl)
+    -- IN A,PS
+    (λ c. arm (c .before .before .before .before .before .before .before) (c .before .before .before .before .instruction17 .given .1 ∙ ap I.InA (c .before .enum-told19 .given .1)) refl refl)
+    -- IN A,PP
+    (λ c. arm (c .before .before .before .before .before .before .before) (c .before .before .before .before .instruction17 .given .1 ∙ ap I.InA (c .before .enum-told20 .given .1)) refl refl)
     -- OUT PA,A
-    (λ c. arm (c .before .before .before .before) (c .before .enum-told18 .given .1) refl refl)
+    (λ c. arm (c .before .before .before .before) (c .before .enum-told21 .given .1) refl refl)
     -- JMP
     (λ c. arm (c .before .before .before .before .before) (c .before .before .instruction18 .given .1) refl refl)
-    -- a branch
-    (λ c. arm (c .before .before .before .before .before) (c .before .before .instruction19 .given .1) (on-cpu (c .before .before .before .before .before) (c .branch .ensures)) refl)
+    -- JAn
+    (λ c. branches (c .before .before .before .before .before .before .before .before .before .before) (Ja (c .before .before .before .before .k .given .0 .0)) (c .before .before .before .before .before .before .before .instruction19 .given .1) (c .before .before .before .before .k .given .1) (c .before .branch-to .ensures) (c .before .before .bit-set .ensures))
+    -- JNZ R0
+    (λ c. branches (c .before .before .before .before .before .before .before .before .before) JnzR0 (c .before .before .before .before .before .before .instruction19 .given .1) (c .before .before .before .enum-told22 .given .1) (c .before .branch-to2 .ensures) (c .before .before .not-zero .ensures))
+    -- JNZ R1
+    (λ c. branches (c .before .before .before .before .before .before .before .before .before) JnzR1 (c .before .before .before .before .before .before .instruction19 .given .1) (c .before .before .before .enum-told23 .given .1) (c .before .branch-to3 .ensures) (c .before .before .not-zero2 .ensures))
+    -- JNZ R4
+    (λ c. branches (c .before .before .before .before .before .before .before .before .before) JnzR4 (c .before .before .before .before .before .before .instruction19 .given .1) (c .before .before .before .enum-told24 .given .1) (c .before .branch-to4 .ensures) (c .before .before .not-zero3 .ensures))
+    -- JZ A
+    (λ c. branches (c .before .before .before .before .before .before .before .before .before) Jz (c .before .before .before .before .before .before .instruction19 .given .1) (c .before .before .before .enum-told25 .given .1) (c .before .branch-to5 .ensures) refl)
+    -- JNZ A
+    (λ c. branches (c .before .before .before .before .before .before .before .before .before) JnzA (c .before .before .before .before .before .before .instruction19 .given .1) (c .before .before .before .enum-told26 .given .1) (c .before .branch-to6 .ensures) (c .before .before .not-zero4 .ensures))
+    -- JC
+    (λ c. branches (c .before .before .before .before .before .before .before .before .before) Jc (c .before .before .before .before .before .before .instruction19 .given .1) (c .before .before .before .enum-told27 .given .1) (c .before .branch-to7 .ensures) refl)
+    -- JNC
+    (λ c. branches (c .before .before .before .before .before .before .before .before .before) Jnc (c .before .before .before .before .before .before .instruction19 .given .1) (c .before .before .before .enum-told28 .given .1) (c .before .branch-to8 .ensures) refl)
+    -- JTMR
+    (λ c. branches (c .before .before .before .before .before .before .before .before .before .before) Jtmr (c .before .before .before .before .before .before .before .instruction19 .given .1) (c .before .before .before .before .enum-told29 .given .1) (c .before .before .branch-to9 .ensures) refl)
     -- CALL
     (λ c. arm (c .before .before .before .before .before) (c .before .before .instruction20 .given .1) (on-cpu (c .before .before .before .before .before) (c .call .ensures)) refl)
     -- RET
-    (λ c. arm (c .before .before .before .before) (c .before .enum-told19 .given .1) (on-cpu (c .before .before .before .before) (c .ret .ensures)) refl)
+    (λ c. arm (c .before .before .before .before) (c .before .enum-told30 .given .1) (on-cpu (c .before .before .before .before) (c .ret .ensures)) refl)
     -- RETI
-    (λ c. arm (c .before .before .before .before) (c .before .enum-told20 .given .1) (on-cpu (c .before .before .before .before) (c .reti .ensures)) refl)
+    (λ c. arm (c .before .before .before .before) (c .before .enum-told31 .given .1) (on-cpu (c .before .before .before .before) (c .reti .ensures)) refl)
     -- CLC
-    (λ c. arm (c .before .before .before .before) (c .before .enum-told21 .given .1) refl refl)
+    (λ c. arm (c .before .before .before .before) (c .before .enum-told32 .given .1) refl refl)
     -- STC
-    (λ c. arm (c .before .before .before .before) (c .before .enum-told22 .given .1) refl refl)
+    (λ c. arm (c .before .before .before .before) (c .before .enum-told33 .given .1) refl refl)
     -- EI
-    (λ c. arm (c .before .before .before .before) (c .before .enum-told23 .given .1) refl refl)
+    (λ c. arm (c .before .before .before .before) (c .before .enum-told34 .given .1) refl refl)
     -- DI
-    (λ c. arm (c .before .before .before .before) (c .before .enum-told24 .given .1) refl refl)
+    (λ c. arm (c .before .before .before .before) (c .before .enum-told35 .given .1) refl refl)
     -- NOP
-    (λ c. arm (c .before .before .before) (c .enum-told25 .given .1) refl refl)
+    (λ c. arm (c .before .before .before) (c .enum-told36 .given .1) refl refl)
     -- TIMER XXH
     (λ c. arm (c .before .before .before .before .before) (c .before .before .instruction21 .given .1) refl refl)
     -- TIMER ON
-    (λ c. arm (c .before .before .before .before) (c .before .enum-told26 .given .1) refl refl)
+    (λ c. arm (c .before .before .before .before) (c .before .enum-told37 .given .1) refl refl)
     -- TIMER OFF
-    (λ c. arm (c .before .before .before .before) (c .before .enum-told27 .given .1) refl refl)
+    (λ c. arm (c .before .before .before .before) (c .before .enum-told38 .given .1) refl refl)
     -- MOV A,TMRL
-    (λ c. arm (c .before .before .before .before .before) (c .before .before .enum-told28 .given .1) (on-cpu (c .before .before .before .before .before) (c .set-acc13 .ensures)) refl)
+    (λ c. arm (c .before .before .before .before .before) (c .before .before .enum-told39 .given .1) (on-cpu (c .before .before .before .before .before) (c .set-acc12 .ensures)) refl)
     -- MOV A,TMRH
-    (λ c. arm (c .before .before .before .before .before) (c .before .before .enum-told29 .given .1) (on-cpu (c .before .before .before .before .before) (c .set-acc14 .ensures)) refl)
+    (λ c. arm (c .before .before .before .before .before) (c .before .before .enum-told40 .given .1) (on-cpu (c .before .before .before .before .before) (c .set-acc13 .ensures)) refl)
     -- MOV TMRL,A
-    (λ c. arm (c .before .before .before .before .before .before) (c .before .before .before .enum-told30 .given .1) refl refl)
+    (λ c. arm (c .before .before .before .before .before .before) (c .before .before .before .enum-told41 .given .1) refl refl)
     -- MOV TMRH,A
-    (λ c. arm (c .before .before .before .before .before .before) (c .before .before .before .enum-told31 .given .1) refl refl)
+    (λ c. arm (c .before .before .before .before .before .before) (c .before .before .before .enum-told42 .given .1) refl refl)
     -- READ R4A
     (λ c.
-    let s = c .before .before .before .before .before .before .before .before .before in
+    let s = c .before .before .before .before .before .before .before .before .before .before .before in
     let k = s .args .self in
-    arm s (c .before .before .before .before .before .before .instruction22 .given .1)
-    (on-cpu s (ap (λ (x : ℕ). withR4 (x / 16) (withAcc (x % 16) k)) (c .before .before .table-r4 .ensures .0))) (c .before .before .table-r4 .ensures .1))
+    let low = c .before .before .before .before .operand14 .ensures in
+    let read = c .before .before .table .ensures ∙ ap₂ (λ (n m : ℕ). byteAt (s .args .mask .now) (n * 256 + 16 * k .registers .acc + m)) (c .before .before .before .page .ensures .0 k refl) (low .0) in
+    arm s (c .before .before .before .before .before .before .before .before .instruction22 .given .1)
+    (on-cpu s (ap (λ (x : ℕ). withR4 (x / 16) (withAcc (x % 16) k)) read)) (low .1))
     -- READ MR0A
     (λ c.
     let s = c .before .before .before .before .before .before .before .before .before .before in
     let a = s .args in
+    let k = a .self in
+    let table = c .before .before .before .before .table2 in
+    let read = table .ensures ∙ ap (λ (n : ℕ). byteAt (a .mask .now) (n * 256 + 16 * k .registers .acc + k .registers .r4)) (c .before .before .before .before .before .page2 .ensures .0 k refl) in
     arm s (c .before .before .before .before .before .before .before .instruction23 .given .1)
-    (ap (λ (k : Cpu). state k (c .before .put7 .last .1 .1 .0)) (c .set-acc15 .ensures) ∙ ap (onCpu (withAcc (c .before .before .before .before .table-mr0 .result % 16))) (c .before .put7 .ensures .0) ∙ ap (λ (x : ℕ). onCpu (withAcc (x % 16)) (withNibble R1R0 (x / 16) (state (a .self) (a .memory .now)))) (c .before .before .before .before .table-mr0 .ensures)) (c .before .put7 .ensures .1))
+    (ap (λ (k : Cpu). state k (c .before .put7 .last .1 .1 .0)) (c .set-acc14 .ensures) ∙ ap (onCpu (withAcc (table .result % 16))) (c .before .put7 .ensures .0) ∙ ap (λ (x : ℕ). onCpu (withAcc (x % 16)) (withNibble R1R0 (x / 16) (state k (a .memory .now)))) read) (c .before .put7 .ensures .1))
     -- SOUND n
     (λ c. arm (c .before .before .before .before .before) (c .before .before .instruction24 .given .1) refl refl)
     -- SOUND A
-    (λ c. arm (c .before .before .before .before) (c .before .enum-told32 .given .1) refl refl)
+    (λ c. arm (c .before .before .before .before) (c .before .enum-told43 .given .1) refl refl)
     -- SOUND ONE
-    (λ c. arm (c .before .before .before .before) (c .before .enum-told33 .given .1) refl refl)
+    (λ c. arm (c .before .before .before .before) (c .before .enum-told44 .given .1) refl refl)
     -- SOUND LOOP
-    (λ c. arm (c .before .before .before .before) (c .before .enum-told34 .given .1) refl refl)
+    (λ c. arm (c .before .before .before .before) (c .before .enum-told45 .given .1) refl refl)
     -- SOUND OFF
-    (λ c. arm (c .before .before .before .before) (c .before .enum-told35 .given .1) refl refl)
+    (λ c. arm (c .before .before .before .before) (c .before .enum-told46 .given .1) refl refl)
     -- HALT
-    (λ c. arm (c .before .before .before .before) (c .before .enum-told36 .given .1) refl refl))
+    (λ c. arm (c .before .before .before .before) (c .before .enum-told47 .given .1) refl refl))

@@ -4,7 +4,7 @@ use Prim.Native.Nat.{ℕ}
 use mathlib.Core.Path.{_≡_, sym, ap, _∙_}
 use mathlib.Core.List.{List}
 use native.Mathlib.Omega.{arith}
-use Rattle.isa.specs.Timing.{lengthOf, cyclesOf}
+use Rattle.isa.specs.Timing.{Columns, columnsOf, columnsAt, lengthOf, cyclesOf}
 use Rattle.isa.specs.declared.DataAddress.{DataAddress}
 use Rattle.isa.specs.declared.decoder.Decoded.{Decoded}
 use Rattle.datapath.specs.Memory.{strays, tallied}
@@ -12,7 +12,7 @@ use Rattle.cpu.specs.State.{State, state, address, withPc}
 use Rattle.cpu.specs.Step.{instructed}
 use Rattle.cpu.specs.declared.Cpu.{Cpu}
 use Rattle.cpu.proofs.Leaves.{Standing, ticked-same}
-use Rattle.cpu.proofs.Steps.{fetched, read as read-there, moved-on, Ended, whole}
+use Rattle.cpu.proofs.Steps.{columns-read, fetched, read as read-there, moved-on, Ended, whole}
 use Rattle.cpu.proofs.Strays.{accesses-moved, faulting, uncounted, counted}
 use borrow.Author.Needs.{needs}
 use Rattle.cpu.proofs.Cpu.execute.Statement.{statement}
@@ -48,11 +48,11 @@ returns c =
     ∙ fetched (a .mask .now) s (first .result) (second .result) (read .result) (first .ensures) (second .ensures) (omega (arith, second)) (read .ensures) in
     (done, uncounted (a .mask .now) s (a .gap .now) done (λ e. absurd (omega (arith, e))))
 
-cycles-requires : tie.Need-cycles-requires
-cycles-requires c κs = search needs
+length-of-requires : tie.Need-length-of-requires
+length-of-requires c κs = search needs
 
-length-requires : tie.Need-length-requires
-length-requires c κs = search needs
+cycles-of-requires : tie.Need-cycles-of-requires
+cycles-of-requires c κs = search needs
 
 address-after-requires : tie.Need-address-after-requires
 address-after-requires c κs = search needs
@@ -83,13 +83,16 @@ module _ (done : tie.After-effect) where
   abbrev second : tie.After-byte-at2
   second = read .before
 
+  columns : columnsOf (known .instruction .given .0 .0) ≡ columnsAt first
+  columns = columns-read (start .args .mask .now) from first (second .byte-at2 .result) (read .decode .result) (second .before .byte-at .ensures) (second .byte-at2 .ensures) (omega (arith, second)) (read .decode .ensures) (known .instruction .given .0 .0) (known .instruction .given .1)
+
   ended : Ended (start .args .mask .now) from (state (done .effect .result) (done .effect .last .1 .1 .1 .0)) first
   ended =
-      let size = next .before in
+      let size = next .before .before .length-of in
       let i = known .instruction .given in
       whole (start .args .mask .now) from (state (done .effect .result) (done .effect .last .1 .1 .1 .0)) first (i .0 .0) (read .decode .result) (withPc (address (next .address-after .result)) (start .args .self)) (i .1)
       (fetched (start .args .mask .now) from first (second .byte-at2 .result) (read .decode .result) (second .before .byte-at .ensures) (second .byte-at2 .ensures) (omega (arith, second)) (read .decode .ensures))
-      (moved-on (start .args .self) first (next .address-after .result) (size .length .result) (size .length .ensures) (next .address-after .ensures))
+      (moved-on (start .args .self) first (next .address-after .result) (size .result) (size .ensures ∙ ap (λ (k : Columns). k .bytes) columns) (next .address-after .ensures))
       (done .effect .ensures .0)
 
 returns-2 : tie.Need-returns-2
@@ -112,8 +115,8 @@ returns-3 c =
     let done = c .before .before .before in
     let a = start done .args in
     let i = known done .instruction .given in
-    let spent = next done .before .before .cycles in
-    let e = ended done .in-time (spent .result) (c .before .if1 .left) (spent .ensures) (c .tick .ensures) in
+    let spent = next done .before .cycles-of in
+    let e = ended done .in-time (spent .result) (c .before .if1 .left) (spent .ensures ∙ ap (λ (k : Columns). k .cycles) (columns done)) (c .tick .ensures) in
     let none : c .tick .result .status .fault ≡ 0 = ap (λ (x : Cpu). x .status .fault) (c .tick .ensures) ∙ ap (λ (x : Standing). x .fault) (ticked-same (spent .result) (done .effect .result)) ∙ c .before .if1 .left in (
       e,
       done .effect .ensures .1
@@ -133,8 +136,8 @@ execute-spec =
     enum-known-instruction
     enum-told
     returns
-    cycles-requires
-    length-requires
+    length-of-requires
+    cycles-of-requires
     address-after-requires
     effect-requires
     returns-2

@@ -1,8 +1,14 @@
--- `cpu::Cpu::go_on` meets its contract: each return rewrites with the tests that led there. Assumes nothing.
-use mathlib.Core.Path.{_≡_, sym, ap, _∙_}
+-- `cpu::Cpu::go_on` meets its contract: a vector other than 0 is 8 or 4, and each is one of the definition's interrupts. Assumes nothing.
+use Prim.Native.Nat.{ℕ}
+use mathlib.Core.Path.{_≡_, refl, sym, ap, _∙_}
+use mathlib.Core.Bool.{Bool, true, false}
+use mathlib.Core.List.{List}
 use native.Mathlib.Omega.{arith}
-use Rattle.cpu.specs.State.{state}
-use Rattle.cpu.specs.Step.{vectorOf}
+use lib.Dec.{eqb}
+use borrow.Author.Tests.{eqb-true, eqb-false, ne-eqb}
+use Rattle.isa.specs.Choice.{pick}
+use Rattle.cpu.specs.State.{State, state, onCpu, withHeld, withTf}
+use Rattle.cpu.specs.Step.{entered, step, vectorOf}
 use Rattle.cpu.specs.declared.Cpu.{Cpu}
 use Rattle.cpu.proofs.Steps.{takes-edge, takes-timer, runs}
 use Rattle.cpu.proofs.Strays.{interrupt-counts-none, instruction-counts, no-vector}
@@ -10,49 +16,38 @@ use borrow.Author.Needs.{needs}
 use Rattle.cpu.proofs.Cpu.go_on.Statement.{statement}
 use Rattle.cpu.proofs.Cpu.go_on.Tie as tie
 
-pending-requires : tie.Need-pending-requires
-pending-requires c κs = search needs
+-- the interrupt of a vector, as the code takes it
+abbrev taking : ℕ → Cpu → Cpu
+taking n c = entered n (pick (eqb n 8) (withHeld 0 c) (withTf 0 c))
 
-enter-requires : tie.Need-enter-requires
-enter-requires c κs = search needs
+taken : (mask : List ℕ) (s : State) (n : ℕ) → s .cpu .status .halted ≡ 0 → s .cpu .status .fault ≡ 0 → n ≡ vectorOf (s .cpu) → (n ≡ 0 → ⊥) → onCpu (taking n) s ≡ step mask s
+taken mask s n h f v z = go (eqb n 8) (eqb n 4) refl refl
+  where
+    go : (a b : Bool) → eqb n 8 ≡ a → eqb n 4 ≡ b → onCpu (taking n) s ≡ step mask s
+    go true b e g = let w = eqb-true n 8 e in ap (λ (k : ℕ). onCpu (taking k) s) w ∙ takes-edge mask s h f (sym v ∙ w)
+    go false true e g = let w = eqb-true n 4 g in ap (λ (k : ℕ). onCpu (taking k) s) w ∙ takes-timer mask s h f (sym v ∙ w)
+    go false false e g = absurd (z (v ∙ no-vector (s .cpu) (λ w. eqb-false n 8 e (v ∙ w)) (λ w. eqb-false n 4 g (v ∙ w))))
 
 returns : tie.Need-returns
 returns c =
-    let start = c .before .before .before .before .before in
+    let start = c .before .before .before .before in
     let a = start .args in
     let s = state (a .self) (a .memory .now) in
-    let vector = sym (c .before .before .before .pending .ensures) ∙ c .before .before .if1 .taken in (
-      ap (λ (k : Cpu). state k (a .memory .now)) (c .enter .ensures) ∙ takes-edge (a .mask .now) s (start .pre .0) (start .pre .1) vector,
-      interrupt-counts-none (a .mask .now) s (a .gap .now) (start .pre .0) (start .pre .1) (λ z. absurd (omega (arith, vector, z))),
+    let vector = c .before .before .pending in
+    let some = c .before .if1 .taken in (
+      ap (λ (k : Cpu). state k (a .memory .now)) (c .enter .ensures) ∙ taken (a .mask .now) s (vector .result) (start .pre .0) (start .pre .1) (vector .ensures) some,
+      interrupt-counts-none (a .mask .now) s (a .gap .now) (start .pre .0) (start .pre .1) (λ z. some (vector .ensures ∙ z)),
     )
-
-enter-requires-2 : tie.Need-enter-requires-2
-enter-requires-2 c κs = search needs
 
 returns-2 : tie.Need-returns-2
 returns-2 c =
     let start = c .before .before .before .before .before .before in
     let a = start .args in
     let s = state (a .self) (a .memory .now) in
-    let vector = sym (c .before .before .before .before .pending .ensures) ∙ c .before .before .if2 .taken in (
-      ap (λ (k : Cpu). state k (a .memory .now)) (c .enter2 .ensures) ∙ takes-timer (a .mask .now) s (start .pre .0) (start .pre .1) vector,
-      interrupt-counts-none (a .mask .now) s (a .gap .now) (start .pre .0) (start .pre .1) (λ z. absurd (omega (arith, vector, z))),
-    )
-
-execute-requires : tie.Need-execute-requires
-execute-requires c κs = search needs
-
-returns-3 : tie.Need-returns-3
-returns-3 c =
-    let start = c .before .before .before .before .before .before .before in
-    let a = start .args in
-    let s = state (a .self) (a .memory .now) in
-    let vector = c .before .before .before .before .before .pending .ensures in
-    let not-8 : vectorOf (a .self) ≡ 8 → ⊥ = λ v. c .before .before .before .before .if1 .left (vector ∙ v) in
-    let not-4 : vectorOf (a .self) ≡ 4 → ⊥ = λ v. c .before .before .before .if2 .left (vector ∙ v) in (
-      c .execute .ensures .0 ∙ runs (a .mask .now) s (start .pre .0) (start .pre .1) not-8 not-4,
-      c .execute .ensures .1 ∙ instruction-counts (a .mask .now) s (a .gap .now) (start .pre .0) (start .pre .1) (no-vector (a .self) not-8 not-4),
+    let none : vectorOf (a .self) ≡ 0 = sym (c .before .before .before .before .pending .ensures) ∙ c .before .before .before .if1 .left in (
+      c .execute .ensures .0 ∙ runs (a .mask .now) s (start .pre .0) (start .pre .1) (λ z. absurd (omega (arith, none, z))) (λ z. absurd (omega (arith, none, z))),
+      c .execute .ensures .1 ∙ instruction-counts (a .mask .now) s (a .gap .now) (start .pre .0) (start .pre .1) none,
     )
 
 pub go-on-spec : {M : Type 1} → statement M
-go-on-spec = tie.close (tie.spec pending-requires enter-requires returns enter-requires-2 returns-2 execute-requires returns-3)
+go-on-spec = tie.close (tie.spec (λ c κs. search needs) (λ c κs. search needs) returns (λ c κs. search needs) returns-2)
