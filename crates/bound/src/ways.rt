@@ -62,14 +62,17 @@ pub(crate) fn ways_by(address: u16, first: u8, second: u8, timing: u8) -> Ways
     if first < 0x40 {
         return Ways::One(moved(address, timing));
     }
-    if first < 0x47 {
+    if first < 0x48 {
+        if first == 0x47 {
+            return Ways::One(moved(address, timing)); // TIMER's byte follows
+        }
         if second < 16 {
             return Ways::One(moved(address, timing)); // a nibble follows
         }
         return Ways::Out;
     }
     if first < 0x50 {
-        return Ways::One(moved(address, timing)); // TIMER's byte follows, SOUND, READ
+        return Ways::One(moved(address, timing)); // SOUND, READ
     }
     if first < 0x70 {
         if second < 16 {

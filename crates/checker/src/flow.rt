@@ -68,14 +68,17 @@ pub(crate) fn flow_by(first: u8, second: u8) -> Flow
     if first < 0x40 {
         return Flow::On;
     }
-    if first < 0x47 {
+    if first < 0x48 {
+        if first == 0x47 {
+            return Flow::On; // TIMER's byte follows
+        }
         if second < 16 {
             return Flow::On; // a nibble follows
         }
         return Flow::Unread;
     }
     if first < 0x50 {
-        return Flow::On; // TIMER's byte follows, SOUND, READ
+        return Flow::On; // SOUND, READ
     }
     if first < 0x70 {
         if second < 16 {

@@ -95,16 +95,19 @@ ways-by-spec =
     -- 38h to 3Fh
     (λ c. goes-on _ _ _ _ (omega arith) (λ h. omega arith) (c .moved5 .ensures) (in-run 0x38 8 (all On) _ _ refl (omega arith) (omega arith)))
     (λ c κs. search needs)
+    -- TIMER's byte
+    (λ c. goes-on _ _ _ _ (omega arith) (λ h. omega arith) (c .moved6 .ensures) (in-run 0x47 1 (all On) _ _ refl (omega arith) (omega arith)))
+    (λ c κs. search needs)
     -- 40h to 46h
-    (λ c. goes-on _ _ _ _ (omega arith) (λ h. omega arith) (c .moved6 .ensures) (nibble-run 0x40 7 _ _ refl (omega arith) (omega arith) (omega arith)))
+    (λ c. goes-on _ _ _ _ (omega arith) (λ h. omega arith) (c .moved7 .ensures) (nibble-run 0x40 7 _ _ refl (omega arith) (omega arith) (omega arith)))
     (λ c. goes-out _ _ _ Unread (omega arith) (λ h. omega arith) refl (over-run 0x40 7 _ _ refl (omega arith) (omega arith) (omega arith)))
     (λ c κs. search needs)
-    -- TIMER's byte, SOUND, READ
-    (λ c. goes-on _ _ _ _ (omega arith) (λ h. omega arith) (c .moved7 .ensures) (in-run 0x47 9 (all On) _ _ refl (omega arith) (omega arith)))
+    -- SOUND, READ
+    (λ c. goes-on _ _ _ _ (omega arith) (λ h. omega arith) (c .moved8 .ensures) (in-run 0x48 8 (all On) _ _ refl (omega arith) (omega arith)))
     (λ c κs. search needs)
     -- MOV R1R0 and MOV R3R2
-    (λ c. goes-on _ _ _ _ (omega arith) (λ h. omega arith) (c .moved8 .ensures) (nibble-run 0x50 0x20 _ _ refl (omega arith) (omega arith) (omega arith)))
+    (λ c. goes-on _ _ _ _ (omega arith) (λ h. omega arith) (c .moved9 .ensures) (nibble-run 0x50 0x20 _ _ refl (omega arith) (omega arith) (omega arith)))
     (λ c. goes-out _ _ _ Unread (omega arith) (λ h. omega arith) refl (over-run 0x50 0x20 _ _ refl (omega arith) (omega arith) (omega arith)))
     (λ c κs. search needs)
     -- MOV A,XH
-    (λ c. goes-on _ _ _ _ (omega arith) (λ h. omega arith) (c .moved9 .ensures) (in-run 0x70 0x10 (all On) _ _ refl (omega arith) (omega arith))))
+    (λ c. goes-on _ _ _ _ (omega arith) (λ h. omega arith) (c .moved10 .ensures) (in-run 0x70 0x10 (all On) _ _ refl (omega arith) (omega arith))))

@@ -69,11 +69,13 @@ flow-by-spec =
     (λ c. other-halt _ _ (omega arith) (λ e. omega arith))
     -- 38h to 3Fh
     (λ c. in-run 0x38 8 (all On) _ _ refl (omega arith) (omega arith))
+    -- TIMER's byte
+    (λ c. in-run 0x47 1 (all On) _ _ refl (omega arith) (omega arith))
     -- 40h to 46h
     (λ c. nibble-run 0x40 7 _ _ refl (omega arith) (omega arith) (omega arith))
     (λ c. over-run 0x40 7 _ _ refl (omega arith) (omega arith) (omega arith))
-    -- TIMER's byte, SOUND, READ
-    (λ c. in-run 0x47 9 (all On) _ _ refl (omega arith) (omega arith))
+    -- SOUND, READ
+    (λ c. in-run 0x48 8 (all On) _ _ refl (omega arith) (omega arith))
     -- MOV R1R0 and MOV R3R2
     (λ c. nibble-run 0x50 0x20 _ _ refl (omega arith) (omega arith) (omega arith))
     (λ c. over-run 0x50 0x20 _ _ refl (omega arith) (omega arith) (omega arith))
