@@ -9,8 +9,8 @@
  * says of pointers and refusals holds here too.
  *
  * Stack. ht1130_check and ht1130_way take about 62 KB each, ht1130_assemble about
- * 140 KB, ht1130_bound 74 KB and 96 bytes for each pair of the longest chain that
- * it follows, at most 467 KB; the other calls under 4 KB. Of the C library only
+ * 140 KB, ht1130_bound 74 KB and 64 bytes for each pair of the longest chain that
+ * it follows, at most 337 KB; the other calls under 4 KB. Of the C library only
  * memcpy and memset are used.
  *
  * Refusals. The lowest number that holds is answered; of a script 1, then 6 or 7

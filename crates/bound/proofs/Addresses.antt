@@ -11,10 +11,9 @@ use borrow.Author.Tests.{ltb-true}
 use Rattle.isa.specs.Timing.{Columns, entries, columnsOf}
 use Rattle.isa.specs.Views.{View, on, jmp, branch, call, ret, reti, ei, view}
 use Rattle.isa.proofs.Exact.{sound, timed}
-use Rattle.isa.specs.Reading.{map}
+use Rattle.isa.specs.Reading.{map, decoded}
 use Rattle.isa.proofs.List.{cycles-at}
 use Rattle.isa.specs.declared.Instruction.{Instruction}
-use Rattle.isa.specs.declared.Instruction.the-variants as I
 use Rattle.isa.specs.declared.decoder.Decoded.{Decoded}
 use Rattle.isa.specs.declared.decoder.Decoded.the-variants.{Read, Unreadable}
 use Rattle.rom.specs.Fetching.{Bytes, byteAt, readAt, cyclesAt, movedFrom}
@@ -24,7 +23,7 @@ use Rattle.checker.specs.declared.flow.Flow.{Flow}
 use Rattle.checker.specs.declared.flow.Flow.the-variants.{Unread, On, Enable, Jump, To, Sub, Back}
 use Rattle.checker.proofs.Reach.{Targets, flow-targets}
 use Rattle.bound.specs.Bounds.{within}
-use Rattle.bound.specs.Walk.{handedTo, nextAddresses, HaltsAt, HandedOn, Follows, StandsAt}
+use Rattle.bound.specs.Walk.{handedTo, nextAddresses, HandedOn, Follows, StandsAt}
 use Rattle.bound.specs.declared.ways.Ways.{Ways}
 use Rattle.bound.specs.declared.ways.Ways.the-variants.{Stop, Out, One, Two}
 
@@ -93,34 +92,19 @@ module _ (mask : List ℕ) (a : ℕ) where
       go (Sub b) t = tt
       go Back t = tt
 
-  -- what cannot be read, and an instruction and its ways
-  pub stands-out : readAt mask a ≡ Unreadable → StandsAt mask a Out
+  -- the ways of the two bytes there
+  pub stands : (x y moved : ℕ) (w : Ways) → x ≡ byteAt mask a → y ≡ byteAt mask (a + 1) → moved ≡ movedFrom mask a → HandedOn (decoded x y) moved w → StandsAt mask a w
   unfolding flowAt
-  stands-out e = ((λ h. unread (sym e ∙ h)), sym (next-flow ∙ ap (λ (d : Decoded). handedTo (flowRead d) (movedFrom mask a)) e))
+  stands x y moved w p q m = go w
     where
-      Told : Decoded → Type 0
-      Told (Read i) = ⊥
-      Told Unreadable = Unit {0}
+      read : decoded x y ≡ readAt mask a
+      read = ap₂ decoded p q
 
-      unread : Unreadable ≡ Read I.Halt → ⊥
-      unread e = subst Told e tt
+      next : handedTo (flowRead (decoded x y)) moved ≡ nextAddresses mask a
+      next = ap₂ (λ (d : Decoded) (n : ℕ). handedTo (flowRead d) n) read m ∙ sym next-flow
 
-  pub stands-on : (i : Instruction) (moved : ℕ) (w : Ways) → readAt mask a ≡ Read i → moved ≡ movedFrom mask a → HandedOn i moved w → StandsAt mask a w
-  unfolding flowAt
-  stands-on i moved w e m = go w
-    where
-      next : nextAddresses mask a ≡ handedTo (flowOf i) moved
-      next = next-flow ∙ ap₂ (λ (d : Decoded) (n : ℕ). handedTo (flowRead d) n) e (sym m)
-
-      instruction : Decoded → Instruction
-      instruction (Read i) = i
-      instruction Unreadable = i
-
-      never : (i ≡ I.Halt → ⊥) → HaltsAt mask a → ⊥
-      never n h = n (ap instruction (sym e ∙ h))
-
-      go : (w : Ways) → HandedOn i moved w → StandsAt mask a w
-      go Stop h = e ∙ ap Read h
-      go Out h = (never (h .0), subst (Follows Out) (sym next) (h .1))
-      go (One q) h = (never (h .0), subst (Follows (One q)) (sym next) (h .1))
-      go (Two q r) h = (never (h .0), subst (Follows (Two q r)) (sym next) (h .1))
+      go : (w : Ways) → HandedOn (decoded x y) moved w → StandsAt mask a w
+      go Stop h = sym read ∙ h
+      go Out h = (λ e. h .0 (read ∙ e), subst (Follows Out) next (h .1))
+      go (One q) h = (λ e. h .0 (read ∙ e), subst (Follows (One q)) next (h .1))
+      go (Two q r) h = (λ e. h .0 (read ∙ e), subst (Follows (Two q r)) next (h .1))

@@ -1,4 +1,5 @@
 pub mod Addresses
+pub mod Runs
 pub mod Answers
 pub mod Filling
 pub mod Levels

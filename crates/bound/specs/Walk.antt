@@ -7,11 +7,11 @@ use mathlib.Core.Logic.{_⊎_}
 use lib.Dec.{eqb}
 use lib.ListN.{length, getD}
 use Rattle.isa.specs.Choice.{pick}
-use Rattle.isa.specs.declared.Instruction.{Instruction}
 use Rattle.isa.specs.declared.Instruction.the-variants as I
+use Rattle.isa.specs.declared.decoder.Decoded.{Decoded}
 use Rattle.isa.specs.declared.decoder.Decoded.the-variants.{Read}
 use Rattle.rom.specs.Fetching.{readAt, cyclesAt}
-use Rattle.checker.specs.Marks.{Pair, pair, flowOf, faultIn, onward}
+use Rattle.checker.specs.Marks.{Pair, pair, flowRead, faultIn, onward}
 use Rattle.checker.specs.declared.flow.Flow.{Flow}
 use Rattle.checker.specs.declared.flow.Flow.the-variants.{Unread, On, Enable, Jump, To, Sub, Back}
 use Rattle.bound.specs.Paths.{Endless, Longest}
@@ -73,12 +73,12 @@ Follows Out rest = [] ≡ rest
 Follows (One a) rest = a ∷ [] ≡ rest
 Follows (Two a b) rest = a ∷ b ∷ [] ≡ rest
 
--- an instruction's ways: HALT's, or those of its flow
-abbrev pub HandedOn : Instruction → ℕ → Ways → Type 0
-HandedOn i moved Stop = i ≡ I.Halt
-HandedOn i moved Out = (i ≡ I.Halt → ⊥) × Follows Out (handedTo (flowOf i) moved)
-HandedOn i moved (One q) = (i ≡ I.Halt → ⊥) × Follows (One q) (handedTo (flowOf i) moved)
-HandedOn i moved (Two q r) = (i ≡ I.Halt → ⊥) × Follows (Two q r) (handedTo (flowOf i) moved)
+-- the ways of what two bytes read as: HALT's, or those of its flow
+abbrev pub HandedOn : Decoded → ℕ → Ways → Type 0
+HandedOn d moved Stop = d ≡ Read I.Halt
+HandedOn d moved Out = (d ≡ Read I.Halt → ⊥) × Follows Out (handedTo (flowRead d) moved)
+HandedOn d moved (One q) = (d ≡ Read I.Halt → ⊥) × Follows (One q) (handedTo (flowRead d) moved)
+HandedOn d moved (Two q r) = (d ≡ Read I.Halt → ⊥) × Follows (Two q r) (handedTo (flowRead d) moved)
 
 -- what stands at an address: HALT, or what follows
 abbrev pub StandsAt : List ℕ → ℕ → Ways → Type 0

@@ -9,7 +9,7 @@ ghost use Rattle.bound.specs.Paths.{Leads};
 ghost use Rattle.bound.specs.Lists.{endless};
 ghost use Rattle.bound.specs.Walk.{RemembersOf, ToldOf, nextAddresses, settled};
 use crate::ways::Ways;
-use crate::ways::ways_at;
+use crate::ways::ways_by;
 use rom::reader::byte_at;
 use rom::timing::entry;
 
@@ -57,13 +57,9 @@ pub(crate) fn longest(mask: &[u8], found: &mut [u16; 4096], address: u16, left: 
     }
     found[at] = ENDLESS; // while its chains are walked
     let first = byte_at(mask, address);
+    let second = byte_at(mask, address + 1);
     let timing = entry(first);
-    match ways_at(
-        mask,
-        address,
-        first,
-        (address + (timing / 16) as u16) % 4096,
-    ) {
+    match ways_by(address, first, second, timing) {
         Ways::Stop => settle(found, address, ENDLESS, timing),
         Ways::Out => settle(found, address, 0, timing),
         Ways::One(a) => {

@@ -1,12 +1,10 @@
-// Where what stands at an address hands the program on above main. It goes by the instruction and not by the checker's flow: a second caller of
-// that in a library makes it a call in the checker's walk.
+// Where what stands at an address hands the program on above main: by runs of first bytes, as the checker's flow. It is not that flow, which hides
+// HALT, and of which a second caller in a library makes it a call in the checker's walk.
+ghost use Prim.Native.Nat.{_/_};
 ghost use mathlib.Core.Path.{_≡_};
-ghost use Rattle.rom.specs.Fetching.{byteAt, movedFrom};
-ghost use Rattle.bound.specs.Walk.{HandedOn, StandsAt};
-use isa::Instruction;
-use isa::decoder::Decoded;
-use isa::decoder::decode;
-use rom::reader::byte_at;
+ghost use Rattle.isa.specs.Reading.{decoded};
+ghost use Rattle.rom.specs.Fetching.{movedBy};
+ghost use Rattle.bound.specs.Walk.{HandedOn};
 
 pub enum Ways {
     // HALT.
@@ -17,28 +15,70 @@ pub enum Ways {
     Two(u16, u16),
 }
 
-// The addresses that an instruction hands the program on to, from the moved address.
-fn handed(instruction: Instruction, moved: u16) -> Ways
-    ensures { λ r. ⌜ HandedOn instruction moved r ⌝ }
+// The moved address, by an entry of the list of lengths and cycles.
+fn moved(address: u16, timing: u8) -> u16
+    ensures { λ r. ⌜ r ≡ movedBy (timing / 16) address ⌝ }
 {
-    match instruction {
-        Instruction::Jmp(t) => Ways::One(t.0),
-        Instruction::Branch(t, _) => Ways::Two(moved, moved / 2048 * 2048 + t.0 % 2048),
-        Instruction::Call(_) => Ways::Out,
-        Instruction::Ret => Ways::Out,
-        Instruction::Reti => Ways::Out,
-        Instruction::Halt => Ways::Stop,
-        _ => Ways::One(moved),
-    }
+    (address % 4096 + (timing / 16) as u16) % 4096
 }
 
-// What stands at an address, of which the first byte and the moved address are known.
-pub(crate) fn ways_at(mask: &[u8], address: u16, first: u8, moved: u16) -> Ways
-    requires { ⌜ (first ≡ byteAt (now mask) address) × (moved ≡ movedFrom (now mask) address) ⌝ }
-    ensures { λ r. ⌜ StandsAt (now (mask .entry)) address r ⌝ }
+// The addresses that two bytes at an address hand the program on to. The tests go as those of the entry do, so that the compiler can make one chain
+// of both.
+pub(crate) fn ways_by(address: u16, first: u8, second: u8, timing: u8) -> Ways
+    ensures { λ r. ⌜ HandedOn (decoded first second) (movedBy (timing / 16) address) r ⌝ }
 {
-    let Decoded::Read(instruction) = decode(first, byte_at(mask, address % 4096 + 1)) else {
+    if 0x7f < first {
+        if first < 0xe0 {
+            let next = moved(address, timing);
+            let target = (first % 8) as u16 * 256 + second as u16;
+            return Ways::Two(next, next / 2048 * 2048 + target);
+        }
+        if first < 0xf0 {
+            return Ways::One((first % 16) as u16 * 256 + second as u16); // JMP
+        }
+        return Ways::Out; // CALL
+    }
+    if first < 0x35 {
+        if first < 0x2e {
+            return Ways::One(moved(address, timing)); // EI too
+        }
+        if first < 0x30 {
+            return Ways::Out; // RET, RETI
+        }
+        return Ways::One(moved(address, timing));
+    }
+    if first < 0x38 {
+        if first == 0x35 {
+            return Ways::Out;
+        }
+        if first == 0x36 {
+            return Ways::One(moved(address, timing)); // DAA
+        }
+        if second == 0x3e {
+            return Ways::Stop;
+        }
         return Ways::Out;
-    };
-    handed(instruction, moved)
+    }
+    if first < 0x40 {
+        return Ways::One(moved(address, timing));
+    }
+    if first < 0x48 {
+        if first == 0x47 {
+            return Ways::One(moved(address, timing)); // TIMER's byte follows
+        }
+        if second < 16 {
+            return Ways::One(moved(address, timing)); // a nibble follows
+        }
+        return Ways::Out;
+    }
+    if first < 0x50 {
+        return Ways::One(moved(address, timing)); // SOUND, READ
+    }
+    if first < 0x70 {
+        if second < 16 {
+            return Ways::One(moved(address, timing)); // MOV R1R0 and MOV R3R2
+        }
+        return Ways::Out;
+    }
+    Ways::One(moved(address, timing)) // MOV A,XH
 }

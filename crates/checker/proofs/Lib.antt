@@ -1,4 +1,4 @@
-pub mod Fetched
+pub mod Flows
 pub mod Chains
 pub mod Reach
 pub mod Successors

@@ -1,12 +1,10 @@
-// Where what stands at an address hands the program on. No function hands the decoder's answer on: a copy of it, right after it was written
-// byte by byte, stalls the processor.
+// Where what stands at an address hands the program on: by runs of first bytes, with no decoder. Its answer, written byte by byte and read back at
+// once, stalls the processor.
 ghost use mathlib.Core.Path.{_≡_};
 ghost use Prim.Native.Nat.{_/_};
-ghost use Rattle.checker.specs.Marks.{flowAt, flowOf, levels};
-use isa::Instruction;
+ghost use Rattle.isa.specs.Reading.{decoded};
+ghost use Rattle.checker.specs.Marks.{flowAt, flowRead, levels};
 use isa::ProgramAddress;
-use isa::decoder::Decoded;
-use isa::decoder::decode;
 use rom::reader::byte_at;
 
 pub enum Flow {
@@ -26,19 +24,69 @@ pub enum Flow {
     Back,
 }
 
-// The flow of an instruction.
-pub fn flow_of(instruction: Instruction) -> Flow
-    ensures { λ r. ⌜ r ≡ flowOf instruction ⌝ }
+// The flow of two bytes. No helper that returns an enum: its copy would go through memory. The tests go as those of the length do, so that the
+// compiler can make one chain of both.
+pub(crate) fn flow_by(first: u8, second: u8) -> Flow
+    ensures { λ r. ⌜ r ≡ flowRead (decoded first second) ⌝ }
 {
-    match instruction {
-        Instruction::Jmp(t) => Flow::Jump(t),
-        Instruction::Branch(t, _) => Flow::To(t),
-        Instruction::Call(t) => Flow::Sub(t),
-        Instruction::Ret => Flow::Back,
-        Instruction::Reti => Flow::Back,
-        Instruction::Ei => Flow::Enable,
-        _ => Flow::On,
+    if 0x7f < first {
+        if first < 0xe0 {
+            return Flow::To(ProgramAddress((first % 8) as u16 * 256 + second as u16));
+        }
+        if first < 0xf0 {
+            return Flow::Jump(ProgramAddress((first % 16) as u16 * 256 + second as u16));
+        }
+        return Flow::Sub(ProgramAddress((first % 16) as u16 * 256 + second as u16));
     }
+    if first < 0x35 {
+        if first < 0x2c {
+            return Flow::On;
+        }
+        if first == 0x2c {
+            return Flow::Enable; // EI
+        }
+        if first == 0x2d {
+            return Flow::On; // DI
+        }
+        if first < 0x30 {
+            return Flow::Back; // RET, RETI
+        }
+        return Flow::On;
+    }
+    if first < 0x38 {
+        if first == 0x35 {
+            return Flow::Unread;
+        }
+        if first == 0x36 {
+            return Flow::On; // DAA
+        }
+        if second == 0x3e {
+            return Flow::On; // HALT
+        }
+        return Flow::Unread;
+    }
+    if first < 0x40 {
+        return Flow::On;
+    }
+    if first < 0x48 {
+        if first == 0x47 {
+            return Flow::On; // TIMER's byte follows
+        }
+        if second < 16 {
+            return Flow::On; // a nibble follows
+        }
+        return Flow::Unread;
+    }
+    if first < 0x50 {
+        return Flow::On; // SOUND, READ
+    }
+    if first < 0x70 {
+        if second < 16 {
+            return Flow::On; // MOV R1R0 and MOV R3R2
+        }
+        return Flow::Unread;
+    }
+    Flow::On // MOV A,XH
 }
 
 // The flow of what stands at the address of a pair's code.
@@ -46,9 +94,5 @@ pub fn flow_at(mask: &[u8], code: u16) -> Flow
     ensures { λ r. ⌜ r ≡ flowAt (now (mask .entry)) (code / levels) ⌝ }
 {
     let address = code / 3;
-    let Decoded::Read(instruction) = decode(byte_at(mask, address), byte_at(mask, address + 1))
-    else {
-        return Flow::Unread;
-    };
-    flow_of(instruction)
+    flow_by(byte_at(mask, address), byte_at(mask, address + 1))
 }

@@ -3,7 +3,7 @@ ghost use mathlib.Core.Path.{_≡_};
 ghost use Rattle.checker.specs.Walk.{Faults, codesOf, faultAt, nextCodes};
 ghost use Rattle.rom.specs.Fetching.{movedBy};
 use crate::flow::Flow;
-use crate::flow::flow_at;
+use crate::flow::flow_by;
 use rom::reader::byte_at;
 use rom::timing::length;
 
@@ -30,7 +30,7 @@ fn moved_by(address: u16, length: u8) -> u16
     (address % 4096 + length as u16) % 4096
 }
 
-// The successors of a pair, or its fault.
+// The successors of a pair, or its fault. Nothing stands between the tests of the length and those of the flow, which are the same.
 pub(crate) fn next_codes(mask: &[u8], code: u16) -> Codes
     ensures { λ r. ⌜ codesOf r ≡ nextCodes (now (mask .entry)) code ⌝ }
     ensures { λ r. ⌜ Faults r (faultAt (now (mask .entry)) code) ⌝ }
@@ -38,20 +38,24 @@ pub(crate) fn next_codes(mask: &[u8], code: u16) -> Codes
     let address = code / 3;
     let level = code % 3;
     let first = byte_at(mask, address);
-    let moved = moved_by(address, length(first));
-    let flow = flow_at(mask, code);
+    let second = byte_at(mask, address + 1);
+    let size = length(first);
+    let flow = flow_by(first, second);
     match flow {
         Flow::Unread => Codes::Forbidden(1),
-        Flow::On => Codes::One(moved * 3 + level),
-        Flow::Enable => Codes::Three(moved * 3 + level, TIMER, EDGE),
+        Flow::On => Codes::One(moved_by(address, size) * 3 + level),
+        Flow::Enable => Codes::Three(moved_by(address, size) * 3 + level, TIMER, EDGE),
         Flow::Jump(t) => Codes::One(t.0 * 3 + level),
-        Flow::To(t) => Codes::Two(
-            moved * 3 + level,
-            (moved / 2048 * 2048 + t.0 % 2048) * 3 + level,
-        ),
+        Flow::To(t) => {
+            let moved = moved_by(address, size);
+            Codes::Two(
+                moved * 3 + level,
+                (moved / 2048 * 2048 + t.0 % 2048) * 3 + level,
+            )
+        }
         Flow::Sub(t) => {
             if level == 0 {
-                Codes::Two(t.0 * 3 + 1, moved * 3)
+                Codes::Two(t.0 * 3 + 1, moved_by(address, size) * 3)
             } else {
                 Codes::Forbidden(2)
             }

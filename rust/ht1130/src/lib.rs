@@ -879,7 +879,7 @@ pub fn pairs(list: &[u8]) -> impl Iterator<Item = Pair> + '_ {
 /// power-on. An edge that is held then, with interrupts enabled, is taken by the
 /// next step.
 ///
-/// The call takes up to 467 KB of stack, more than a thread started with a small
+/// The call takes up to 337 KB of stack, more than a thread started with a small
 /// one may have.
 ///
 /// Refused: `MaskLength`, then `Machine` for an address over 4,095 or a level over

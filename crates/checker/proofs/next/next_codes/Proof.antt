@@ -1,19 +1,20 @@
 -- `checker::next::next_codes` meets its contract: an arm knows the flow, at which the definition computes, and a target that was read is an
 -- address, so that its code fits. Assumes nothing.
 use Prim.Native.Nat.{ℕ, suc, _+_, _*_, _/_, _%_}
-use mathlib.Core.Path.{_≡_, refl, sym, ap, _∙_}
+use mathlib.Core.Path.{_≡_, refl, sym, ap, ap₂, _∙_}
 use mathlib.Core.Bool.{Bool, true, false}
-use mathlib.Core.List.{[], _∷_, map}
+use mathlib.Core.List.{List, [], _∷_, map}
 use native.Mathlib.Omega.{arith}
 use lib.Dec.{eqb}
 use borrow.Author.Tests.{eq-eqb, ne-eqb}
 use Rattle.isa.specs.Choice.{pick}
 use Rattle.isa.specs.declared.ProgramAddress.{ProgramAddress}
+use Rattle.isa.specs.Reading.{decoded}
 use Rattle.isa.specs.Timing.{lengthOf}
-use Rattle.rom.specs.Fetching.{movedBy}
+use Rattle.rom.specs.Fetching.{movedBy, movedFrom}
 use Rattle.checker.specs.declared.flow.Flow.{Flow}
 use Rattle.checker.specs.declared.flow.Flow.the-variants.{Unread, On, Enable, Jump, To, Sub, Back}
-use Rattle.checker.specs.Marks.{levels, faultIn}
+use Rattle.checker.specs.Marks.{levels, flowRead, flowAt, faultIn}
 use Rattle.checker.specs.Verdicts.{rank}
 use Rattle.checker.specs.Walk.{nextCodes, faultAt}
 use Rattle.checker.proofs.Reach.{Targets}
@@ -22,31 +23,41 @@ use borrow.Author.Needs.{needs}
 use Rattle.checker.proofs.next.next_codes.Statement.{statement}
 use Rattle.checker.proofs.next.next_codes.Tie as tie
 
-at-flow : (c : tie.After-flow-at) (g : Flow) → c .flow-at .result ≡ g
-    → handed-on g (c .before .moved-by .result) (c .before .before .before .before .before .args .code % levels)
-    ≡ nextCodes (c .before .before .before .before .before .args .mask .now) (c .before .before .before .before .before .args .code)
-at-flow c g e =
-    let s = c .before .before .before .before .before in
-    let first = c .before .before .before .byte-at in
-    next-flow (s .args .mask .now) (s .args .code) (c .flow-at .result) g (c .flow-at .ensures) e (c .before .moved-by .result)
-    (c .before .moved-by .ensures
-    ∙ ap (λ (n : ℕ). movedBy n (s .args .code / levels)) (c .before .before .length .ensures ∙ ap lengthOf (first .ensures)))
+-- the mask and the code
+abbrev mask-of : tie.After-flow-by → List ℕ
+mask-of c = c .before .before .before .before .before .args .mask .now
 
-fault-at : (c : tie.After-flow-at) (g : Flow) → c .flow-at .result ≡ g
-    → faultAt (c .before .before .before .before .before .args .mask .now) (c .before .before .before .before .before .args .code)
-    ≡ faultIn g (c .before .before .before .before .before .args .code % levels)
-fault-at c g e =
-    let s = c .before .before .before .before .before in
-    sym (fault-flow (s .args .mask .now) (s .args .code) (c .flow-at .result) g (c .flow-at .ensures) e)
+abbrev code-of : tie.After-flow-by → ℕ
+code-of c = c .before .before .before .before .before .args .code
+
+flow-is : (c : tie.After-flow-by) → c .flow-by .result ≡ flowAt (mask-of c) (code-of c / levels)
+unfolding flowAt
+flow-is c =
+    c .flow-by .ensures ∙ ap₂ (λ (x y : ℕ). flowRead (decoded x y)) (c .before .before .before .byte-at .ensures) (c .before .before .byte-at2 .ensures)
+
+-- an arm that goes on finds the moved address itself
+at-flow : (c : tie.After-flow-by) (g : Flow) → c .flow-by .result ≡ g → (m : ℕ) → m ≡ movedBy (c .before .length .result) (code-of c / levels)
+    → handed-on g m (code-of c % levels) ≡ nextCodes (mask-of c) (code-of c)
+at-flow c g e m p =
+    let first = c .before .before .before .byte-at in
+    next-flow (mask-of c) (code-of c) (c .flow-by .result) g (flow-is c) e m
+    (p ∙ ap (λ (n : ℕ). movedBy n (code-of c / levels)) (c .before .length .ensures ∙ ap lengthOf (first .ensures)))
+
+-- and one that does not needs none
+at-end : (c : tie.After-flow-by) (g : Flow) → c .flow-by .result ≡ g
+    → handed-on g (movedFrom (mask-of c) (code-of c / levels)) (code-of c % levels) ≡ nextCodes (mask-of c) (code-of c)
+at-end c g e = next-flow (mask-of c) (code-of c) (c .flow-by .result) g (flow-is c) e (movedFrom (mask-of c) (code-of c / levels)) refl
+
+fault-at : (c : tie.After-flow-by) (g : Flow) → c .flow-by .result ≡ g → faultAt (mask-of c) (code-of c) ≡ faultIn g (code-of c % levels)
+fault-at c g e = sym (fault-flow (mask-of c) (code-of c) (c .flow-by .result) g (flow-is c) e)
 
 -- a fault that is a number from 1 on
 forbids : (f : ℕ) {g : ℕ} → g ≡ suc f → (g ≡ suc f) × (g ≡ 0 → ⊥)
 forbids f e = (e, λ z. omega arith)
 
-target : (c : tie.After-flow-at) (g : Flow) → c .flow-at .result ≡ g → Targets g
+target : (c : tie.After-flow-by) (g : Flow) → c .flow-by .result ≡ g → Targets g
 target c g e =
-    let s = c .before .before .before .before .before in
-    next-targets (s .args .mask .now) (s .args .code) (c .flow-at .result) g (c .flow-at .ensures) e
+    next-targets (mask-of c) (code-of c) (c .flow-by .result) g (flow-is c) e
     (λ k. omega (arith, c .before .before .before .before .shared-slice-known .given k))
 
 sub-main : (t : ProgramAddress) (moved l : ℕ) → l ≡ 0 → (t .0 * 3 + 1) ∷ (moved * 3) ∷ [] ≡ handed-on (Sub t) moved l
@@ -72,51 +83,59 @@ in-main x y l e = rw (eq-eqb l 0 e) refl
 above : {A : Type 0} (x y : A) (l : ℕ) → (l ≡ 0 → ⊥) → pick (eqb l 0) x y ≡ y
 above x y l n = rw (ne-eqb l 0 n) refl
 
-mul-t17 : tie.Need-mul-t17
-mul-t17 c = let t = c .before .before .flow .given in let h = target (c .before .before .before .before) (Jump (t .0 .0)) (t .1) in omega arith
+mul-t21 : tie.Need-mul-t21
+mul-t21 c = let t = c .before .before .flow .given in let h = target (c .before .before .before .before) (Jump (t .0 .0)) (t .1) in omega arith
 
-add-t18 : tie.Need-add-t18
-add-t18 c = let t = c .before .before .flow .given in let h = target (c .before .before .before .before) (Jump (t .0 .0)) (t .1) in omega arith
+add-t22 : tie.Need-add-t22
+add-t22 c = let t = c .before .before .flow .given in let h = target (c .before .before .before .before) (Jump (t .0 .0)) (t .1) in omega arith
 
-mul-t29 : tie.Need-mul-t29
-mul-t29 c = let t = c .before .before .before .flow3 .given in let h = target (c .before .before .before .before .before) (Sub (t .0 .0)) (t .1) in omega arith
+mul-t33 : tie.Need-mul-t33
+mul-t33 c = let t = c .before .before .before .flow3 .given in let h = target (c .before .before .before .before .before) (Sub (t .0 .0)) (t .1) in omega arith
 
-add-t30 : tie.Need-add-t30
-add-t30 c = let t = c .before .before .before .flow3 .given in let h = target (c .before .before .before .before .before) (Sub (t .0 .0)) (t .1) in omega arith
+add-t34 : tie.Need-add-t34
+add-t34 c = let t = c .before .before .before .flow3 .given in let h = target (c .before .before .before .before .before) (Sub (t .0 .0)) (t .1) in omega arith
 
 -- no instruction
 returns : tie.Need-returns
-returns c = let f = c .before .before in let e = c .enum-told .given .1 in (at-flow f Unread e, forbids 0 (fault-at f Unread e))
+returns c = let f = c .before .before in let e = c .enum-told .given .1 in (at-end f Unread e, forbids 0 (fault-at f Unread e))
 
 -- goes on
 returns-2 : tie.Need-returns-2
-returns-2 c = let f = c .before .before in let e = c .enum-told2 .given .1 in (at-flow f On e, fault-at f On e)
+returns-2 c =
+    let f = c .before .before .before in
+    let e = c .before .enum-told2 .given .1 in
+    (at-flow f On e (c .moved-by .result) (c .moved-by .ensures), fault-at f On e)
 
 -- EI
 returns-3 : tie.Need-returns-3
-returns-3 c = let f = c .before .before in let e = c .enum-told3 .given .1 in (at-flow f Enable e, fault-at f Enable e)
+returns-3 c =
+    let f = c .before .before .before in
+    let e = c .before .enum-told3 .given .1 in
+    (at-flow f Enable e (c .moved-by2 .result) (c .moved-by2 .ensures), fault-at f Enable e)
 
 -- JMP
 returns-4 : tie.Need-returns-4
 returns-4 c =
     let f = c .before .before .before .before in
     let t = c .before .before .flow .given in
-    (at-flow f (Jump (t .0 .0)) (t .1), fault-at f (Jump (t .0 .0)) (t .1))
+    (at-end f (Jump (t .0 .0)) (t .1), fault-at f (Jump (t .0 .0)) (t .1))
 
 -- a branch
 returns-5 : tie.Need-returns-5
 returns-5 c =
-    let f = c .before .before .before .before in
-    let t = c .before .before .flow2 .given in
-    (at-flow f (To (t .0 .0)) (t .1), fault-at f (To (t .0 .0)) (t .1))
+    let f = c .before .before .before .before .before in
+    let t = c .before .before .before .flow2 .given in
+    let m = c .before .moved-by3 in
+    (at-flow f (To (t .0 .0)) (t .1) (m .result) (m .ensures), fault-at f (To (t .0 .0)) (t .1))
 
 -- CALL in level 0
 returns-6 : tie.Need-returns-6
 returns-6 c =
-    let f = c .before .before .before .before .before in
-    let t = c .before .before .before .flow3 .given in
-    let h = c .before .if1 .taken in
-    (sub-main (t .0 .0) _ _ h ∙ at-flow f (Sub (t .0 .0)) (t .1), fault-at f (Sub (t .0 .0)) (t .1) ∙ in-main 0 2 _ h)
+    let f = c .before .before .before .before .before .before in
+    let t = c .before .before .before .before .flow3 .given in
+    let h = c .before .before .if1 .taken in
+    let m = c .moved-by4 in
+    (sub-main (t .0 .0) _ _ h ∙ at-flow f (Sub (t .0 .0)) (t .1) (m .result) (m .ensures), fault-at f (Sub (t .0 .0)) (t .1) ∙ in-main 0 2 _ h)
 
 -- CALL above it
 returns-7 : tie.Need-returns-7
@@ -124,28 +143,29 @@ returns-7 c =
     let f = c .before .before .before .before in
     let t = c .before .before .flow3 .given in
     let h = c .if1 .left in
-    (sub-other (t .0 .0) _ _ h ∙ at-flow f (Sub (t .0 .0)) (t .1), forbids 1 (fault-at f (Sub (t .0 .0)) (t .1) ∙ above 0 2 _ h))
+    (sub-other (t .0 .0) _ _ h ∙ at-end f (Sub (t .0 .0)) (t .1), forbids 1 (fault-at f (Sub (t .0 .0)) (t .1) ∙ above 0 2 _ h))
 
 -- RET and RETI in level 0
 returns-8 : tie.Need-returns-8
 returns-8 c =
     let f = c .before .before .before in
     let e = c .before .enum-told4 .given .1 in
-    (back (c .before .before .before .before .before .before .before .before .args .code % levels) ∙ at-flow f Back e, forbids 2 (fault-at f Back e ∙ in-main 3 0 _ (c .if2 .taken)))
+    (back (code-of f % levels) ∙ at-end f Back e, forbids 2 (fault-at f Back e ∙ in-main 3 0 _ (c .if2 .taken)))
 
 -- RET and RETI above it
 returns-9 : tie.Need-returns-9
 returns-9 c =
     let f = c .before .before .before in
     let e = c .before .enum-told4 .given .1 in
-    (back (c .before .before .before .before .before .before .before .before .args .code % levels) ∙ at-flow f Back e, fault-at f Back e ∙ above 3 0 _ (c .if2 .left))
+    (back (code-of f % levels) ∙ at-end f Back e, fault-at f Back e ∙ above 3 0 _ (c .if2 .left))
 
 pub next-codes-spec : {M : Type 1} → statement M
 next-codes-spec =
     tie.close
     (tie.spec
-    (λ c κs. search needs) (λ c κs. search needs) (λ c κs. search needs) (λ c κs. search needs) (λ c. search needs) (λ c. search needs)
+    (λ c κs. search needs) (λ c. search needs) (λ c κs. search needs) (λ c κs. search needs) (λ c κs. search needs) (λ c. search needs)
+    (λ c. search needs) (λ c κs. search needs) (λ c. search needs) (λ c. search needs) (λ c. search needs) (λ c κs. search needs)
+    (λ c. search needs) (λ c. search needs) (λ c. search needs) mul-t21 add-t22 (λ c. search needs) (λ c κs. search needs)
     (λ c. search needs) (λ c. search needs) (λ c. search needs) (λ c. search needs) (λ c. search needs) (λ c. search needs)
-    mul-t17 add-t18 (λ c. search needs) (λ c. search needs) (λ c. search needs) (λ c. search needs) (λ c. search needs) (λ c. search needs)
-    (λ c. search needs) (λ c. search needs) mul-t29 add-t30 (λ c. search needs) (λ c. search needs)
+    (λ c. search needs) mul-t33 add-t34 (λ c κs. search needs) (λ c. search needs) (λ c. search needs)
     returns returns-2 returns-3 returns-4 returns-5 returns-6 returns-7 returns-8 returns-9)
