@@ -16,7 +16,8 @@ mod texts;
 
 use std::process::ExitCode;
 
-const USAGE: &str = "usage: bench diff [--seed N] [--cases N] | speed | all [--seed N] [--cases N]";
+const USAGE: &str = "usage: bench diff [--seed N] [--cases N] | speed | all [--seed N] [--cases N]
+       bench count plain|library MASK RUNS    (Runs of 10,000 steps and nothing else)";
 
 struct Arguments {
     diff: bool,
@@ -50,7 +51,20 @@ fn arguments() -> Option<Arguments> {
     Some(arguments)
 }
 
+/// `count` and its words; None where there is another first word.
+fn count() -> Option<bool> {
+    let words: Vec<String> = std::env::args().skip(1).collect();
+    let [first, engine, mask, runs] = words.as_slice() else {
+        return None;
+    };
+    let runs = runs.parse().ok().filter(|_| first == "count")?;
+    Some(speed::count(engine, mask, runs))
+}
+
 fn main() -> ExitCode {
+    if count() == Some(true) {
+        return ExitCode::SUCCESS;
+    }
     let Some(arguments) = arguments() else {
         eprintln!("{USAGE}");
         return ExitCode::from(2);

@@ -114,6 +114,46 @@ pub fn tables() -> Mask {
     mask
 }
 
+/// A loop of 1,000 random instructions, which no processor foresees. A branch goes
+/// to the next one, taken or not; what leaves the loop is left out.
+pub fn scattered() -> Mask {
+    let mut mask = with(&[
+        (0x00, &[0xE0, 0x10]), // JMP 010h
+        (0x04, &[0x2F]),       // RETI
+        (0x08, &[0x2F]),       // RETI
+    ]);
+    let mut prng = Prng::new(1130);
+    let mut at = 0x10;
+    for _ in 0..1000 {
+        let (length, first, second) = loop {
+            let instruction = instruction(&mut prng, true);
+            if !matches!(instruction.1, 0xE0..=0xEF) {
+                break instruction;
+            }
+        };
+        let next = at + length;
+        let code = match first {
+            0x80.. => [first & 0xF8 | (next >> 8) as u8, next as u8],
+            _ => [first, second],
+        };
+        mask[at..next].copy_from_slice(&code[..length]);
+        at = next;
+    }
+    mask[at..at + 2].copy_from_slice(&[0xE0, 0x10]); // JMP 010h
+    mask
+}
+
+/// The masks that Run is measured on.
+pub fn measured() -> [(&'static str, Mask); 5] {
+    [
+        ("arithmetic", arithmetic()),
+        ("memory copy", copy()),
+        ("timer interrupts", timer()),
+        ("table reads", tables()),
+        ("random loop", scattered()),
+    ]
+}
+
 /// A mask of random bytes.
 pub fn random_bytes(prng: &mut Prng) -> Mask {
     std::array::from_fn(|_| prng.byte())

@@ -26,13 +26,7 @@ const OPTIONS: plain::Options = plain::Options {
 pub fn run() {
     println!("speed: least of {TURNS} turns; machines powered on and buffers cleared before each run, untimed");
     heading("plain ns", "library ns");
-    let runs = [
-        ("arithmetic", masks::arithmetic()),
-        ("memory copy", masks::copy()),
-        ("timer interrupts", masks::timer()),
-        ("table reads", masks::tables()),
-    ];
-    for (name, mask) in &runs {
+    for (name, mask) in &masks::measured() {
         run_row(&format!("Run, {name}, a step"), mask);
     }
     let mut prng = Prng::new(1130);
@@ -53,7 +47,9 @@ pub fn run() {
         (plain::PINS, [n as u8 & 15, (n >> 4) as u8 & 15, 15])
     });
     event_row("apply Run of 0 steps, a call", |_| (plain::RUN, [0; 3]));
-    println!("aims: Run at most 3 times plain, the checker at most 2");
+    println!(
+        "aims: Run and the check of random bytes at most 1.5 times plain, a record and an event 4"
+    );
     heading("check ns", "way ns");
     for (name, mask) in &checked {
         way_row(name, mask);
@@ -98,6 +94,35 @@ pub fn run() {
         text_row(name, FEW_TURNS, 1_000_000, &text);
     }
     println!("aim: at most 2,000 ms each; the least of {FEW_TURNS} turns");
+}
+
+/// Runs of 10,000 steps of one engine on one mask, for a counter of instructions. False for
+/// names that there are not.
+pub fn count(engine: &str, name: &str, runs: u32) -> bool {
+    const STEPS: u16 = 10_000;
+    let masks = masks::measured();
+    let Some((_, mask)) = masks.iter().find(|(known, _)| *known == name) else {
+        return false;
+    };
+    let (mut ours, mut theirs) = powered();
+    for _ in 0..runs {
+        match engine {
+            "plain" => ours
+                .apply(plain::RUN, STEPS, 0, 0, 0, black_box(mask))
+                .expect("a valid machine"),
+            "library" => {
+                ht1130::apply_kind(&mut theirs, plain::RUN, STEPS, 0, 0, 0, black_box(mask))
+                    .expect("a valid machine")
+            }
+            _ => return false,
+        }
+    }
+    let ended = match engine {
+        "plain" => ours.recorded(),
+        _ => to_plain(&theirs),
+    };
+    println!("{} cycles", ended.cycles);
+    true
 }
 
 fn heading(one: &str, other: &str) {

@@ -1,0 +1,61 @@
+#!/usr/bin/env python3
+"""Counts the instructions of a step of Run, and fails where one takes more than docs/PERFORMANCE.md says, and three tenths on top.
+
+usage: tools/step_instructions.py BENCH        BENCH: the bench's program, linked to the proved library
+
+The compiler lays the engine's loop out well or badly for reasons far from what was changed: only counting shows it. Counts are valgrind's, the
+same on every run whatever else the machine does. Where valgrind is not installed nothing is counted, and that is said."""
+import os
+import re
+import shutil
+import subprocess
+import sys
+
+DOCUMENT = os.path.join(os.path.dirname(os.path.abspath(__file__)), "..", "docs", "PERFORMANCE.md")
+STEPS = 10000
+SLACK = 1.3
+
+
+def figures():
+    """The rows `| Run, MASK, a step | .. | FIGURE |` of the table of what is held: the library's figure is the last."""
+    text = open(DOCUMENT, encoding="utf-8").read()
+    part = text.split("## Instructions of a step", 1)[1].split("\n## ", 1)[0]
+    rows = re.findall(r"^\| Run, ([a-z ]+), a step \|.*\| ([0-9.]+) \|$", part, re.M)
+    return {name: float(figure) for name, figure in rows}
+
+
+def collected(bench, engine, mask, runs):
+    command = ["valgrind", "--tool=callgrind", "--callgrind-out-file=/dev/null", bench, "count", engine, mask, str(runs)]
+    said = subprocess.run(command, capture_output=True, text=True)
+    count = re.search(r"Collected : (\d+)", said.stderr)
+    if said.returncode != 0 or not count:
+        sys.exit(f"step_instructions: {' '.join(command)} failed:\n{said.stdout}{said.stderr}")
+    return int(count[1])
+
+
+def a_step(bench, engine, mask):
+    """Without what a call and the program cost: the difference of eleven Runs and one."""
+    return (collected(bench, engine, mask, 11) - collected(bench, engine, mask, 1)) / (10 * STEPS)
+
+
+def main():
+    if len(sys.argv) != 2:
+        sys.exit(__doc__)
+    if not shutil.which("valgrind"):
+        print("step_instructions: valgrind is not installed: the instructions of a step were NOT counted")
+        return
+    held = figures()
+    if len(held) != 5:
+        sys.exit(f"step_instructions: {len(held)} figures in docs/PERFORMANCE.md, not 5")
+    slow = []
+    for mask, figure in held.items():
+        library, plain = (a_step(sys.argv[1], engine, mask) for engine in ("library", "plain"))
+        most = SLACK * figure
+        print(f"{mask:<18}{library:8.1f} instructions a step, held to {most:.1f}; plain {plain:.1f}, ratio {library / plain:.2f}")
+        if library > most:
+            slow.append(mask)
+    if slow:
+        sys.exit(f"step_instructions: more than {SLACK} times the figure of docs/PERFORMANCE.md: {', '.join(slow)}")
+
+
+main()
