@@ -186,7 +186,7 @@ fn refusal(cpu: Cpu, memory: &[u8; 160], event: Event) -> u8
 }
 
 // What an event makes of the processor, and of the data memory and the count of strays where they are lent.
-fn happened(cpu: Cpu, event: Event, mask: &[u8], memory: &mut [u8; 160], gap: &mut u16) -> Cpu
+pub fn happened(cpu: Cpu, event: Event, mask: &[u8], memory: &mut [u8; 160], gap: &mut u16) -> Cpu
     ensures { λ r. ⌜ machineOf (state r (now (memory .exit))) (now (gap .exit)) ≡ happened (now (mask .entry)) event (machineOf (state cpu (now (memory .entry))) (now (gap .entry))) ⌝ }
 {
     match event {
