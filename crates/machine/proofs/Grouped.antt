@@ -117,13 +117,30 @@ module _ (c : Cpu) where
         let o = both rated _ (v .options) in
         let w = both common _ (o .1) in
         and-both small _
-        (rw (lt-ltb (c .registers .acc) 16 (r .acc), lt-ltb (c .registers .r0) 16 (r .r0), lt-ltb (c .registers .r1) 16 (r .r1), lt-ltb (c .registers .r2) 16 (r .r2),
-        lt-ltb (c .registers .r3) 16 (r .r3), lt-ltb (c .registers .r4) 16 (r .r4), lt-ltb (c .outputs .pa) 16 (v .outputs .pa), lt-ltb (c .pins .pm) 16 (q .pm),
-        lt-ltb (c .pins .ps) 16 (q .ps), lt-ltb (c .pins .pp) 16 (q .pp)) (w .1))
+        (rw (
+          lt-ltb (c .registers .acc) 16 (r .acc),
+          lt-ltb (c .registers .r0) 16 (r .r0),
+          lt-ltb (c .registers .r1) 16 (r .r1),
+          lt-ltb (c .registers .r2) 16 (r .r2),
+          lt-ltb (c .registers .r3) 16 (r .r3),
+          lt-ltb (c .registers .r4) 16 (r .r4),
+          lt-ltb (c .outputs .pa) 16 (v .outputs .pa),
+          lt-ltb (c .pins .pm) 16 (q .pm),
+          lt-ltb (c .pins .ps) 16 (q .ps),
+          lt-ltb (c .pins .pp) 16 (q .pp),
+        ) (w .1))
         (and-both flags _
-        (rw (lt-ltb (c .control .cf) 2 (v .control .cf), lt-ltb (c .control .tf) 2 (v .control .tf), lt-ltb (c .stack .carry) 2 (v .stack .carry), lt-ltb (c .status .halted) 2 (v .status .halted),
-        lt-ltb (c .interrupts .enabled) 2 (v .interrupts .enabled), lt-ltb (c .interrupts .held) 2 (v .interrupts .held), lt-ltb (c .timer .running) 2 (v .timer .running),
-        lt-ltb (c .outputs .mode) 2 (v .outputs .mode), lt-ltb (c .pins .int) 2 (q .int)) refl)
+        (rw (
+          lt-ltb (c .control .cf) 2 (v .control .cf),
+          lt-ltb (c .control .tf) 2 (v .control .tf),
+          lt-ltb (c .stack .carry) 2 (v .stack .carry),
+          lt-ltb (c .status .halted) 2 (v .status .halted),
+          lt-ltb (c .interrupts .enabled) 2 (v .interrupts .enabled),
+          lt-ltb (c .interrupts .held) 2 (v .interrupts .held),
+          lt-ltb (c .timer .running) 2 (v .timer .running),
+          lt-ltb (c .outputs .mode) 2 (v .outputs .mode),
+          lt-ltb (c .pins .int) 2 (q .int),
+        ) refl)
         (and-both addresses _ (rw (lt-ltb (c .control .pc .0) 4096 (v .control .pc), lt-ltb (c .stack .address .0) 4096 (v .stack .address)) refl)
         (rw (lt-ltb (c .interrupts .level) 3 (v .interrupts .level), lt-ltb (c .status .fault) 4 (v .status .fault), v .status .either, lt-ltb (c .outputs .channel) 17 (v .outputs .channel), o .0) (w .0))))
 

@@ -87,10 +87,7 @@ fn nibbles_ok(c: Cpu) -> bool
             c.registers.r0,
             joined(
                 c.registers.r1,
-                joined(
-                    c.registers.r2,
-                    joined(c.registers.r3, c.registers.r4),
-                ),
+                joined(c.registers.r2, joined(c.registers.r3, c.registers.r4)),
             ),
         ),
     );

@@ -114,8 +114,8 @@ fn put_reports(mask: &[u8], script: &[u8], out: &mut [u8])
     while at < script.len() {
         let input = record_at(script, at);
         cpu = pass(input, cpu, mask, &mut memory, &mut gap);
-        put_report(cpu, &memory, out, done);
         at = at + 4 + size_at(script, at);
+        put_report(cpu, &memory, out, done);
         done += 48;
     }
 }

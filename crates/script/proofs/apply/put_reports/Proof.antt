@@ -38,29 +38,29 @@ pass-requires c κs =
 
 put-report-requires : tie.Need-put-report-requires Inv-loop μ-loop
 put-report-requires c κs =
-    let l = c .before .before .before .before .before .before .before in
+    let l = c .before .before .before .before .before .before .before .before in
     let x = l .loop in
     let start = l .before .before .before .before .before .before .before in
     let a = start .args in
-    let h = c .before .before .before .before .before .before .loop-test .taken in
+    let h = c .before .before .before .before .before .before .before .loop-test .taken in
     fits (a .mask .now) (a .script .now) (a .out .now) (x .out) (x .at) (x .done) (machineOf (state (x .cpu) (x .memory)) (x .gap)) (x .inv) h
 
 add-at : tie.Need-add-at Inv-loop μ-loop
 add-at c =
-    let l = c .before .before .before .before .before .before .before .before .before .before in
+    let l = c .before .before .before .before .before in
     let x = l .loop in
     let start = l .before .before .before .before .before .before .before in
     let a = start .args in
-    let h = c .before .before .before .before .before .before .before .before .before .loop-test .taken in
+    let h = c .before .before .before .before .loop-test .taken in
     omega (arith, h, start .good)
 
 add-at-2 : tie.Need-add-at-2 Inv-loop μ-loop
 add-at-2 c =
-    let l = c .before .before .before .before .before .before .before .before .before .before .before in
+    let l = c .before .before .before .before .before .before in
     let x = l .loop in
     let start = l .before .before .before .before .before .before .before in
     let a = start .args in
-    let h = c .before .before .before .before .before .before .before .before .before .before .loop-test .taken in
+    let h = c .before .before .before .before .before .loop-test .taken in
     omega (arith, h, start .good, c .size-at .ensures .1)
 
 add-done : tie.Need-add-done Inv-loop μ-loop
@@ -80,7 +80,7 @@ loop-less c =
     let start = l .before .before .before .before .before .before .before in
     let a = start .args in
     let h = c .before .before .before .before .before .before .before .before .before .before .loop-test .taken in
-    omega arith
+    omega (arith, h)
 
 loop-again : tie.Need-loop-again Inv-loop μ-loop
 loop-again c =
@@ -92,9 +92,9 @@ loop-again c =
     let m = machineOf (state (x .cpu) (x .memory)) (x .gap) in
     let p = c .before .before .before .before .before .before .pass in
     let after = machineOf (state (p .result) (p .last .1 .1 .1 .0)) (p .last .1 .1 .1 .1 .0) in
-    let out = c .before .before .before .put-report .last .1 .1 .0 in
-    subst (λ (n : ℕ). Held (a .mask .now) (a .script .now) (a .out .now) out (x .at + 4 + n) (x .done + 48) after) (sym (c .size-at .ensures .0))
-    (turns (a .mask .now) (a .script .now) (a .out .now) (x .out) (x .at) (x .done) (machineOf (state (x .cpu) (x .memory)) (x .gap)) (x .inv) h after out (p .ensures ∙ ap (λ (i : Input). next (a .mask .now) i m) (c .before .before .before .before .before .before .before .before .before .record-at .ensures)) (c .before .before .before .put-report .ensures (p .last .1 .1 .1 .1 .0)))
+    let out = c .before .before .put-report .last .1 .1 .0 in
+    subst (λ (n : ℕ). Held (a .mask .now) (a .script .now) (a .out .now) out (x .at + 4 + n) (x .done + 48) after) (sym (c .before .before .before .before .before .size-at .ensures .0))
+    (turns (a .mask .now) (a .script .now) (a .out .now) (x .out) (x .at) (x .done) (machineOf (state (x .cpu) (x .memory)) (x .gap)) (x .inv) h after out (p .ensures ∙ ap (λ (i : Input). next (a .mask .now) i m) (c .before .before .before .before .before .before .before .before .before .record-at .ensures)) (c .before .before .put-report .ensures (p .last .1 .1 .1 .1 .0)))
 
 same-length : tie.Need-same-length Inv-loop μ-loop
 same-length c = c .before .loop .inv .size
@@ -110,5 +110,5 @@ pub put-reports-spec : {M : Type 1} → statement M
 put-reports-spec =
     tie.close
     (tie.spec
-    Inv-loop μ-loop (λ c κs. search needs) loop-holds (λ c κs. search needs) pass-requires put-report-requires add-at (λ c κs. search needs) add-at-2 add-done loop-less loop-again
+    Inv-loop μ-loop (λ c κs. search needs) loop-holds (λ c κs. search needs) pass-requires add-at (λ c κs. search needs) add-at-2 put-report-requires add-done loop-less loop-again
     same-length returns)
