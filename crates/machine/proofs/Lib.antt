@@ -1,6 +1,8 @@
 pub mod Answers
 pub mod Counts
 pub mod Fill
+pub mod Grouped
+pub mod Joined
 pub mod Lists
 pub mod Pulses
 pub mod Reports

@@ -2,7 +2,8 @@
 ghost use mathlib.Core.Path.{_≡_};
 ghost use Prim.Native.Nat.{ℕ};
 ghost use lib.ListN.{length};
-ghost use mathlib.Core.List.{[]};
+ghost use mathlib.Core.Bool.{true};
+ghost use mathlib.Core.List.{[], List};
 ghost use Rattle.cpu.specs.State.{state};
 ghost use Rattle.machine.specs.Machine.{machineOf};
 ghost use Rattle.machine.specs.Events.{applied, clocked, counting, eventOf, fallen, happened, interrupted, maskOk, namedAnswer, pinned, refusalOf, stepping, valuesOk, wakes, withInt, withPorts, woken};
@@ -26,6 +27,12 @@ pub enum Event {
     Tmclk(u16),
     // RES.
     Res,
+}
+
+// What an event other than Run leaves: the processor, all that it can change, and document 01's refusal number, 0 for none.
+pub struct Outcome {
+    pub cpu: Cpu,
+    pub refusal: u8,
 }
 
 // What a kind and its numbers name: an event, or refusal 7.
@@ -137,19 +144,6 @@ fn counting(c: Cpu, n: u16) -> Cpu
     c
 }
 
-// Whether the mask has the length that an event wants of it: Run alone has a mask.
-fn mask_ok(event: Event, mask: &[u8]) -> bool
-    ensures { λ r. ⌜ r ≡ maskOk (now (mask .entry)) event ⌝ }
-{
-    match event {
-        Event::Run(_) => mask.len() == 4096,
-        Event::Pins(_, _, _) => true,
-        Event::Int(_) => true,
-        Event::Tmclk(_) => true,
-        Event::Res => true,
-    }
-}
-
 // Refusal 3 is the answer to an event where this is false.
 pub fn values_ok(event: Event) -> bool
     ensures { λ r. ⌜ r ≡ valuesOk event ⌝ }
@@ -163,25 +157,36 @@ pub fn values_ok(event: Event) -> bool
     }
 }
 
-// The refusal of an event, 0 for none: the lowest number wins. It does not look at the count of strays.
-fn refusal(cpu: Cpu, memory: &[u8; 160], event: Event, mask: &[u8]) -> u8
+// The refusal of a Run, 0 for none: the lowest number wins. It does not look at the count of strays.
+fn run_refusal(cpu: Cpu, memory: &[u8; 160], mask: &[u8]) -> u8
     requires { ⌜ length (now memory) ≡ 160 ⌝ }
-    ensures { λ r. ⌜ ((count : ℕ) → r ≡ refusalOf (now (mask .entry)) event (machineOf (state cpu (now (memory .entry))) count)) ⌝ }
+    ensures { λ r. ⌜ ((n count : ℕ) → r ≡ refusalOf (now (mask .entry)) (Event.Run n) (machineOf (state cpu (now (memory .entry))) count)) ⌝ }
 {
-    if mask_ok(event, mask) {
-        if values_ok(event) {
-            if sound(cpu, memory) {
-                return 0;
-            }
-            return 5;
+    if mask.len() == 4096 {
+        if sound(cpu, memory) {
+            return 0;
         }
-        return 3;
+        return 5;
     }
     1
 }
 
+// The refusal of an event whose mask is as it should be: Run alone has one.
+fn refusal(cpu: Cpu, memory: &[u8; 160], event: Event) -> u8
+    requires { ⌜ length (now memory) ≡ 160 ⌝ }
+    ensures { λ r. ⌜ ((mask : List ℕ) (count : ℕ) → maskOk mask event ≡ true → r ≡ refusalOf mask event (machineOf (state cpu (now (memory .entry))) count)) ⌝ }
+{
+    if values_ok(event) {
+        if sound(cpu, memory) {
+            return 0;
+        }
+        return 5;
+    }
+    3
+}
+
 // What an event makes of the processor, and of the data memory and the count of strays where they are lent.
-fn happened(cpu: Cpu, event: Event, mask: &[u8], memory: &mut [u8; 160], gap: &mut u16) -> Cpu
+pub fn happened(cpu: Cpu, event: Event, mask: &[u8], memory: &mut [u8; 160], gap: &mut u16) -> Cpu
     ensures { λ r. ⌜ machineOf (state r (now (memory .exit))) (now (gap .exit)) ≡ happened (now (mask .entry)) event (machineOf (state cpu (now (memory .entry))) (now (gap .entry))) ⌝ }
 {
     match event {
@@ -193,26 +198,70 @@ fn happened(cpu: Cpu, event: Event, mask: &[u8], memory: &mut [u8; 160], gap: &m
     }
 }
 
+// What an event other than Run makes of the processor, all that it changes.
+fn changed(cpu: Cpu, event: Event) -> Cpu
+    ensures { λ r. ⌜ ((mask memory : List ℕ) (gap : ℕ) → ((n : ℕ) → event ≡ Event.Run n → ⊥) → machineOf (state r memory) gap ≡ happened mask event (machineOf (state cpu memory) gap)) ⌝ }
+{
+    match event {
+        Event::Run(_) => cpu,
+        Event::Pins(pm, ps, pp) => pinned(cpu, pm, ps, pp),
+        Event::Int(level) => interrupted(cpu, level),
+        Event::Tmclk(n) => counting(cpu, n),
+        Event::Res => reset_cpu(cpu),
+    }
+}
+
+// An event other than Run, on a machine's parts. A refused one leaves the processor as it was.
+pub fn change(cpu: Cpu, memory: &[u8; 160], event: Event) -> Outcome
+    requires { ⌜ length (now memory) ≡ 160 ⌝ }
+    ensures { λ r. ⌜ ((mask : List ℕ) (gap : ℕ) → ((n : ℕ) → event ≡ Event.Run n → ⊥) → applied mask event (machineOf (state cpu (now (memory .entry))) gap) ≡ record { machine = machineOf (state (r .cpu) (now (memory .entry))) gap; refusal = r .refusal }) ⌝ }
+{
+    let refusal = refusal(cpu, memory, event);
+    if refusal != 0 {
+        return Outcome { cpu, refusal };
+    }
+    let next = changed(cpu, event);
+    Outcome {
+        cpu: next,
+        refusal: 0,
+    }
+}
+
 impl Machine {
-    // An event other than RES, which has its own method. A refused one leaves the machine as it was.
-    fn happen(mut self, event: Event, mask: &[u8]) -> Answer
-        ensures { λ r. ⌜ r ≡ applied (now (mask .entry)) event self ⌝ }
+    // Run. Data memory and count stand apart from the processor, which then goes through the steps in registers.
+    pub fn running(self, n: u16, mask: &[u8]) -> Answer
+        ensures { λ r. ⌜ r ≡ applied (now (mask .entry)) (Event.Run n) self ⌝ }
     {
-        let refusal = refusal(self.cpu, &self.memory, event, mask);
+        let mut memory = self.memory;
+        let refusal = run_refusal(self.cpu, &memory, mask);
         if refusal != 0 {
             return Answer {
                 refusal,
                 machine: self,
             };
         }
-        // Two fields of one record are not lent to one call: the count goes by a copy.
         let mut gap = self.gap;
-        let cpu = happened(self.cpu, event, mask, &mut self.memory, &mut gap);
-        self.cpu = cpu;
-        self.gap = gap;
+        let cpu = self.cpu.run(mask, &mut memory, n, &mut gap);
         Answer {
             refusal: 0,
-            machine: self,
+            machine: Machine { cpu, memory, gap },
+        }
+    }
+
+    // Any other event.
+    fn changing(self, event: Event) -> Answer
+        ensures { λ r. ⌜ ((mask : List ℕ) → ((n : ℕ) → event ≡ Event.Run n → ⊥) → r ≡ applied mask event self) ⌝ }
+    {
+        let memory = self.memory;
+        let done = change(self.cpu, &memory, event);
+        let cpu = done.cpu;
+        Answer {
+            refusal: done.refusal,
+            machine: Machine {
+                cpu,
+                memory,
+                gap: self.gap,
+            },
         }
     }
 
@@ -221,8 +270,8 @@ impl Machine {
         ensures { λ r. ⌜ r ≡ applied (now (mask .entry)) event self ⌝ }
     {
         match event {
-            Event::Res => self.reset(),
-            _ => self.happen(event, mask),
+            Event::Run(n) => self.running(n, mask),
+            _ => self.changing(event),
         }
     }
 
@@ -256,7 +305,7 @@ impl Machine {
     pub fn step(mut self, mask: &[u8]) -> Answer
         ensures { λ r. ⌜ r ≡ stepping (now (mask .entry)) self ⌝ }
     {
-        let refusal = refusal(self.cpu, &self.memory, Event::Run(1), mask);
+        let refusal = run_refusal(self.cpu, &self.memory, mask);
         if refusal != 0 {
             return Answer {
                 refusal,

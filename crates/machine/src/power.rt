@@ -1,7 +1,9 @@
 // Power-on and RES.
 ghost use mathlib.Core.Path.{_≡_};
-ghost use lib.ListN.{drop, length};
+ghost use lib.ListN.{drop, length, replicate};
 ghost use Prim.Native.Nat.{_≤_};
+ghost use Rattle.cpu.specs.State.{state};
+ghost use Rattle.machine.specs.Machine.{machineOf};
 ghost use Rattle.machine.specs.Power.{afterRes, blank, powerOn, powerRefusal, powered};
 ghost use Rattle.machine.specs.Events.{resetting};
 use crate::Answer;
@@ -123,6 +125,30 @@ fn powered(options: Options, image: &[u8]) -> Machine
         memory,
         gap: 0,
     }
+}
+
+// The machine that a power-on makes of options and one nibble that fills the image, where data memory and count are lent.
+pub fn filled(options: Options, x: u8, memory: &mut [u8; 160], gap: &mut u16) -> Cpu
+    ensures { λ r. ⌜ machineOf (state r (now (memory .exit))) (now (gap .exit)) ≡ powered options (replicate 166 x) ⌝ }
+{
+    let all = [x; 160];
+    *memory = all;
+    *gap = 0;
+    let registers = Registers {
+        acc: x,
+        r0: x,
+        r1: x,
+        r2: x,
+        r3: x,
+        r4: x,
+    };
+    let pins = Pins {
+        pm: 15,
+        ps: 15,
+        pp: 15,
+        int: 1,
+    };
+    after_res(registers, pins, options, 0)
 }
 
 impl Machine {

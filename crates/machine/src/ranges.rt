@@ -3,18 +3,10 @@ ghost use mathlib.Core.Path.{_≡_};
 ghost use mathlib.Core.Bool.{not, _&&_, _||_};
 ghost use lib.Dec.{eqb, ltb};
 ghost use lib.ListN.{length};
-ghost use Rattle.cpu.specs.Range.{controlOk, cpuOk, interruptsOk, nibbles, optionsOk, outputsOk, pinsOk, registersOk, stackOk, statusOk, timerOk, valid};
+ghost use Rattle.cpu.specs.Range.{bit, cpuOk, nibble, nibbles, optionsOk, registersOk, valid};
 ghost use Rattle.cpu.specs.State.{state};
-use cpu::Control;
 use cpu::Cpu;
-use cpu::Interrupts;
 use cpu::Options;
-use cpu::Outputs;
-use cpu::Pins;
-use cpu::Registers;
-use cpu::Stack;
-use cpu::Status;
-use cpu::Timer;
 
 // The larger of two numbers: a nibble where both are.
 fn larger(a: u8, b: u8) -> u8
@@ -57,63 +49,11 @@ fn either(a: bool, b: bool) -> bool
     b
 }
 
-fn registers_ok(r: Registers) -> bool
-    ensures { λ b. ⌜ b ≡ registersOk r ⌝ }
+// The bits of two numbers together: in a range of whole bits where both are.
+fn joined(a: u8, b: u8) -> u8
+    ensures { λ r. ⌜ (ltb r 16 ≡ ltb a 16 && ltb b 16) × (ltb r 2 ≡ ltb a 2 && ltb b 2) ⌝ }
 {
-    both(
-        r.acc < 16,
-        both(
-            r.r0 < 16,
-            both(r.r1 < 16, both(r.r2 < 16, both(r.r3 < 16, r.r4 < 16))),
-        ),
-    )
-}
-
-fn control_ok(k: Control) -> bool
-    ensures { λ b. ⌜ b ≡ controlOk k ⌝ }
-{
-    both(k.pc.0 < 4096, both(k.cf < 2, k.tf < 2))
-}
-
-fn interrupts_ok(i: Interrupts) -> bool
-    ensures { λ b. ⌜ b ≡ interruptsOk i ⌝ }
-{
-    both(i.enabled < 2, both(i.held < 2, i.level < 3))
-}
-
-fn stack_ok(k: Stack) -> bool
-    ensures { λ b. ⌜ b ≡ stackOk k ⌝ }
-{
-    both(k.address.0 < 4096, k.carry < 2)
-}
-
-// A halted machine has no fault.
-fn status_ok(s: Status) -> bool
-    ensures { λ b. ⌜ b ≡ statusOk s ⌝ }
-{
-    both(
-        s.halted < 2,
-        both(s.fault < 4, either(s.halted == 0, s.fault == 0)),
-    )
-}
-
-fn outputs_ok(o: Outputs) -> bool
-    ensures { λ b. ⌜ b ≡ outputsOk o ⌝ }
-{
-    both(o.pa < 16, both(o.channel < 17, o.mode < 2))
-}
-
-fn pins_ok(p: Pins) -> bool
-    ensures { λ b. ⌜ b ≡ pinsOk p ⌝ }
-{
-    both(p.pm < 16, both(p.ps < 16, both(p.pp < 16, p.int < 2)))
-}
-
-// The count has any value of its type.
-fn timer_ok(t: Timer) -> bool
-    ensures { λ b. ⌜ b ≡ timerOk t ⌝ }
-{
-    t.running < 2
+    a | b
 }
 
 fn rate_ok(rate: u8) -> bool
@@ -135,20 +75,101 @@ pub fn options_ok(o: Options) -> bool
     )
 }
 
+// Registers, PA, port levels and wake nibbles: one test for all.
+fn nibbles_ok(c: Cpu) -> bool
+    ensures { λ b. ⌜ b ≡ registersOk (c .registers)
+        && ((nibble (c .outputs .pa) && (nibble (c .pins .pm) && (nibble (c .pins .ps) && nibble (c .pins .pp))))
+        && (nibble (c .options .pm) && (nibble (c .options .ps) && nibble (c .options .pp)))) ⌝ }
+{
+    let registers = joined(
+        c.registers.acc,
+        joined(
+            c.registers.r0,
+            joined(
+                c.registers.r1,
+                joined(c.registers.r2, joined(c.registers.r3, c.registers.r4)),
+            ),
+        ),
+    );
+    let ports = joined(
+        c.outputs.pa,
+        joined(c.pins.pm, joined(c.pins.ps, c.pins.pp)),
+    );
+    let wakes = joined(c.options.pm, joined(c.options.ps, c.options.pp));
+    joined(registers, joined(ports, wakes)) < 16
+}
+
+// The nine flags: one test for all.
+fn flags_ok(c: Cpu) -> bool
+    ensures { λ b. ⌜ b ≡ (bit (c .control .cf) && (bit (c .control .tf) && (bit (c .stack .carry) && bit (c .status .halted))))
+        && (bit (c .interrupts .enabled) && (bit (c .interrupts .held) && (bit (c .timer .running) && (bit (c .outputs .mode) && bit (c .pins .int))))) ⌝ }
+{
+    let program = joined(
+        c.control.cf,
+        joined(c.control.tf, joined(c.stack.carry, c.status.halted)),
+    );
+    let rest = joined(
+        c.interrupts.enabled,
+        joined(
+            c.interrupts.held,
+            joined(c.timer.running, joined(c.outputs.mode, c.pins.int)),
+        ),
+    );
+    joined(program, rest) < 2
+}
+
+// PC and the stack address: one test for both.
+fn addresses_ok(pc: u16, address: u16) -> bool
+    ensures { λ b. ⌜ b ≡ ltb pc 4096 && ltb address 4096 ⌝ }
+{
+    let all = pc | address;
+    all < 4096
+}
+
+// The rate and the commons, each of a list of its own.
+fn listed(rate: u8, commons: u8) -> bool
+    ensures { λ b. ⌜ b ≡ (ltb rate 14 && not (eqb rate 6) || eqb rate 255) && (eqb commons 3 || eqb commons 4) ⌝ }
+{
+    both(rate_ok(rate), either(commons == 3, commons == 4))
+}
+
+// What is tested alone. A halted machine has no fault; the counts of timer and cycles have any value of their types.
+fn others_ok(c: Cpu) -> bool
+    ensures { λ b. ⌜ b ≡ ltb (c .interrupts .level) 3
+        && (ltb (c .status .fault) 4
+        && ((eqb (c .status .halted) 0 || eqb (c .status .fault) 0)
+        && (ltb (c .outputs .channel) 17
+        && ((ltb (c .options .rate) 14 && not (eqb (c .options .rate) 6) || eqb (c .options .rate) 255)
+        && (eqb (c .options .commons) 3 || eqb (c .options .commons) 4))))) ⌝ }
+{
+    both(
+        c.interrupts.level < 3,
+        both(
+            c.status.fault < 4,
+            both(
+                either(c.status.halted == 0, c.status.fault == 0),
+                both(
+                    c.outputs.channel < 17,
+                    listed(c.options.rate, c.options.commons),
+                ),
+            ),
+        ),
+    )
+}
+
+// Tests of many fields at once are few: so the compiler puts them in place of each call, and no processor is copied for one.
 fn cpu_ok(c: Cpu) -> bool
     ensures { λ b. ⌜ b ≡ cpuOk c ⌝ }
 {
-    let sound = both(
-        outputs_ok(c.outputs),
-        both(pins_ok(c.pins), options_ok(c.options)),
-    );
-    let state = both(
-        interrupts_ok(c.interrupts),
-        both(stack_ok(c.stack), both(status_ok(c.status), sound)),
-    );
     both(
-        registers_ok(c.registers),
-        both(control_ok(c.control), both(timer_ok(c.timer), state)),
+        nibbles_ok(c),
+        both(
+            flags_ok(c),
+            both(
+                addresses_ok(c.control.pc.0, c.stack.address.0),
+                others_ok(c),
+            ),
+        ),
     )
 }
 

@@ -1,29 +1,31 @@
 // The display and the report of a machine.
 ghost use mathlib.Core.Path.{_≡_};
-ghost use Prim.Native.Nat.{ℕ, _<_};
-ghost use lib.ListN.{getD, length};
+ghost use mathlib.Core.List.{_++_};
+ghost use Prim.Native.Nat.{ℕ, _<_, _%_};
+ghost use lib.Bits.{bitAnd};
+ghost use lib.Dec.{eqb};
+ghost use lib.ListN.{length, take};
+ghost use Rattle.isa.specs.Choice.{pick};
 ghost use Rattle.cpu.specs.State.{state};
 ghost use Rattle.machine.specs.Machine.{machineOf};
-ghost use Rattle.machine.specs.Report.{heading, report, reported, reporting, shown};
+ghost use Rattle.machine.specs.Report.{heading, places, report, reported, reporting, shown};
 use crate::Machine;
 use crate::ranges::sound;
 use cpu::Cpu;
 use datapath::memory::load;
 use isa::DataAddress;
 
-// Display nibble `s`: with 3 commons bit 3 shows 0, and a halted machine shows nothing.
-fn shown(cpu: Cpu, memory: &[u8; 160], s: u8) -> u8
-    requires { ⌜ s < 32 ⌝ }
-    ensures { λ r. ⌜ r ≡ shown cpu (now (memory .entry)) s ⌝ }
+// The bits of a display nibble that show: with 3 commons bit 3 shows 0, and a halted machine shows nothing.
+fn lit(cpu: Cpu) -> u8
+    ensures { λ r. ⌜ ((x : ℕ) → x < 256 → bitAnd x r ≡ pick (eqb (cpu .status .halted) 1) 0 (pick (eqb (cpu .options .commons) 3) (x % 8) x)) ⌝ }
 {
     if cpu.status.halted == 1 {
         return 0;
     }
-    let x = load(memory, DataAddress(0xe0 + s));
     if cpu.options.commons == 3 {
-        return x.nibble % 8;
+        return 7;
     }
-    x.nibble
+    255
 }
 
 // The first 16 bytes.
@@ -52,28 +54,40 @@ fn heading(cpu: Cpu) -> [u8; 16]
     ]
 }
 
-// Byte `k` of a report whose first bytes are lent. No byte tells the count of strays.
-fn report_byte(first: &[u8; 16], cpu: Cpu, memory: &[u8; 160], k: u8) -> u8
-    requires { ⌜ (now first ≡ heading cpu) × (k < 48) ⌝ }
-    ensures { λ r. ⌜ ((count : ℕ) → r ≡ getD (reported (machineOf (state cpu (now (memory .entry))) count)) k 0) ⌝ }
-{
-    if k < 16 {
-        return first[k as usize];
-    }
-    shown(cpu, memory, k - 16)
-}
-
-// Writes the 48 bytes of a report.
-fn write_report(cpu: Cpu, memory: &[u8; 160], out: &mut [u8])
+// Writes them. No byte of a report tells the count of strays.
+fn put_heading(cpu: Cpu, out: &mut [u8])
     requires { ⌜ length (now out) ≡ 48 ⌝ }
-    ensures { λ _. ⌜ ((count : ℕ) → now (out .exit) ≡ reported (machineOf (state cpu (now (memory .entry))) count)) ⌝ }
+    ensures { λ _. ⌜ take 16 (now (out .exit)) ≡ heading cpu ⌝ }
 {
     let first = heading(cpu);
     let mut k = 0;
-    while k < 48u8 {
-        out[k as usize] = report_byte(&first, cpu, memory, k);
+    while k < 16 {
+        out[k] = first[k];
         k += 1;
     }
+}
+
+// Writes the 32 display nibbles after them: nibble `s` is the one at E0h + s. What shows is the same bits of each, so the loop takes many at once.
+fn put_display(cpu: Cpu, memory: &[u8; 160], out: &mut [u8])
+    requires { ⌜ length (now out) ≡ 48 ⌝ }
+    ensures { λ _. ⌜ now (out .exit) ≡ take 16 (now (out .entry)) ++ places 32 (shown cpu (now (memory .entry))) 0 ⌝ }
+{
+    let lit = lit(cpu);
+    let mut k = 16;
+    while k < 48u8 {
+        let x = load(memory, DataAddress(0xd0 + k));
+        out[k as usize] = x.nibble & lit;
+        k += 1;
+    }
+}
+
+// Writes the 48 bytes of a report.
+pub fn write_report(cpu: Cpu, memory: &[u8; 160], out: &mut [u8])
+    requires { ⌜ length (now out) ≡ 48 ⌝ }
+    ensures { λ _. ⌜ ((count : ℕ) → now (out .exit) ≡ reported (machineOf (state cpu (now (memory .entry))) count)) ⌝ }
+{
+    put_heading(cpu, out);
+    put_display(cpu, memory, out);
 }
 
 impl Machine {

@@ -1,16 +1,15 @@
 // Applying a script's records to a machine, each with its report.
 ghost use mathlib.Core.Path.{_≡_};
-ghost use mathlib.Core.Bool.{true};
 ghost use mathlib.Core.List.{_++_};
-ghost use Prim.Native.Nat.{_+_, _≤_};
+ghost use Prim.Native.Nat.{ℕ, _+_, _≤_};
 ghost use lib.ListN.{drop, length, take};
-ghost use Rattle.cpu.specs.Range.{valid};
-ghost use Rattle.machine.specs.Machine.{stateOf};
-ghost use Rattle.machine.specs.Events.{answerTo};
+ghost use Rattle.cpu.specs.State.{state};
+ghost use Rattle.machine.specs.Machine.{machineOf};
+ghost use Rattle.machine.specs.Events.{answerTo, namedAnswer};
 ghost use Rattle.machine.specs.Report.{reported};
 ghost use Rattle.script.specs.Check.{checked};
 ghost use Rattle.script.specs.Format.{inputOf};
-ghost use Rattle.script.specs.Reports.{applied, fronted, leaving, reportsOf, stepped};
+ghost use Rattle.script.specs.Reports.{applied, fronted, leaving, next, reportsOf, stepped};
 use crate::Checked;
 use crate::Progress;
 use crate::Record;
@@ -18,8 +17,13 @@ use crate::check::check_script;
 use crate::check::format_at;
 use crate::format::record_at;
 use crate::format::size_at;
+use cpu::Cpu;
 use machine::Answer;
 use machine::Machine;
+use machine::events::Named;
+use machine::events::happened;
+use machine::power::filled;
+use machine::report::write_report;
 
 // What a machine answers to a record.
 fn answer_to(input: Record, mask: &[u8], machine: Machine) -> Answer
@@ -65,28 +69,53 @@ pub fn step_record(mask: &[u8], script: &[u8], at: usize, machine: Machine) -> P
     }
 }
 
-// The report of a machine, written at a place of the buffer.
-fn put_report(machine: Machine, out: &mut [u8], at: usize)
-    requires { ⌜ (valid (stateOf machine) ≡ true) × (at + 48 ≤ length (now out)) ⌝ }
-    ensures { λ _. ⌜ now (out .exit) ≡ take at (now (out .entry)) ++ (reported machine ++ drop (at + 48) (now (out .entry))) ⌝ }
+// What a kind's name makes of a machine whose parts are lent, where nothing is refused.
+fn pass_named(named: Named, cpu: Cpu, mask: &[u8], memory: &mut [u8; 160], gap: &mut u16) -> Cpu
+    requires { ⌜ namedAnswer (now mask) named (machineOf (state cpu (now memory)) (now gap)) .refusal ≡ 0 ⌝ }
+    ensures { λ r. ⌜ machineOf (state r (now (memory .exit))) (now (gap .exit)) ≡ namedAnswer (now (mask .entry)) named (machineOf (state cpu (now (memory .entry))) (now (gap .entry))) .machine ⌝ }
 {
-    let end = at + 48;
-    machine.report(&mut out[at..end]);
+    match named {
+        Named::Known(event) => happened(cpu, event, mask, memory, gap),
+        Named::Unknown => cpu,
+    }
 }
 
-// The reports of an accepted script.
+// What a record makes of it. No test is made again: an accepted script has none that a machine refuses.
+fn pass(input: Record, cpu: Cpu, mask: &[u8], memory: &mut [u8; 160], gap: &mut u16) -> Cpu
+    requires { ⌜ answerTo (now mask) (inputOf input) (machineOf (state cpu (now memory)) (now gap)) .refusal ≡ 0 ⌝ }
+    ensures { λ r. ⌜ machineOf (state r (now (memory .exit))) (now (gap .exit)) ≡ next (now (mask .entry)) (inputOf input) (machineOf (state cpu (now (memory .entry))) (now (gap .entry))) ⌝ }
+{
+    match input {
+        Record::Power(options, fill) => filled(options, fill, memory, gap),
+        Record::Other(named) => pass_named(named, cpu, mask, memory, gap),
+    }
+}
+
+// The report of a machine, written at a place of the buffer.
+fn put_report(cpu: Cpu, memory: &[u8; 160], out: &mut [u8], at: usize)
+    requires { ⌜ at + 48 ≤ length (now out) ⌝ }
+    ensures { λ _. ⌜ ((count : ℕ) → now (out .exit) ≡ take at (now (out .entry)) ++ (reported (machineOf (state cpu (now (memory .entry))) count) ++ drop (at + 48) (now (out .entry)))) ⌝ }
+{
+    let end = at + 48;
+    write_report(cpu, memory, &mut out[at..end]);
+}
+
+// The reports of an accepted script. The machine goes through it in parts: so no record copies it.
 fn put_reports(mask: &[u8], script: &[u8], out: &mut [u8])
     requires { ⌜ checked (now mask) (now script) (length (now out)) .number ≡ 0 ⌝ }
     ensures { λ _. ⌜ now (out .exit) ≡ fronted (reportsOf (now (mask .entry)) (now (script .entry))) (now (out .entry)) ⌝ }
 {
     let mut at = 0;
     let mut done = 0;
-    let mut machine = Machine::blank();
+    let blank = Machine::blank();
+    let mut cpu = blank.cpu;
+    let mut memory = blank.memory;
+    let mut gap = blank.gap;
     while at < script.len() {
-        let step = step_record(mask, script, at, machine);
-        machine = step.machine;
-        at = step.at;
-        put_report(machine, out, done);
+        let input = record_at(script, at);
+        cpu = pass(input, cpu, mask, &mut memory, &mut gap);
+        at = at + 4 + size_at(script, at);
+        put_report(cpu, &memory, out, done);
         done += 48;
     }
 }

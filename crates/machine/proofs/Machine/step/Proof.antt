@@ -24,14 +24,14 @@ returns : tie.Need-returns
 unfolding applied happened ran
 returns c =
     let a = c .before .before .before .before .before .before .args in
-    refused (c .before .refusal .result) {k = refusalOf (a .mask .now) (Run 1) (a .t1)} (happened (a .mask .now) (Run 1) (a .t1)) (a .t1) (c .if1 .taken) (c .before .refusal .ensures (a .t1 .gap))
+    refused (c .before .run-refusal .result) {k = refusalOf (a .mask .now) (Run 1) (a .t1)} (happened (a .mask .now) (Run 1) (a .t1)) (a .t1) (c .if1 .taken) (c .before .run-refusal .ensures 1 (a .t1 .gap))
 
 returns-2 : tie.Need-returns-2
 unfolding applied happened ran
 returns-2 c =
     let r = c .before .before .before .before .before in
     let a = r .before .before .before .before .before .args in
-    done (r .refusal .result) {k = refusalOf (a .mask .now) (Run 1) (a .t1)} (happened (a .mask .now) (Run 1) (a .t1)) (a .t1) (c .before .before .before .before .if1 .left) (r .refusal .ensures (a .t1 .gap)) (ap₂ machineOf (c .step .ensures .0) (c .step .ensures .1 ∙ ap (tallied (a .t1 .gap)) (once (a .mask .now) (stateOf (a .t1)))))
+    done (r .run-refusal .result) {k = refusalOf (a .mask .now) (Run 1) (a .t1)} (happened (a .mask .now) (Run 1) (a .t1)) (a .t1) (c .before .before .before .before .if1 .left) (r .run-refusal .ensures 1 (a .t1 .gap)) (ap₂ machineOf (c .step .ensures .0) (c .step .ensures .1 ∙ ap (tallied (a .t1 .gap)) (once (a .mask .now) (stateOf (a .t1)))))
 
 pub step-spec : {M : Type 1} → statement M
 step-spec = tie.close (tie.spec (λ c κs. search needs) returns (λ c κs. search needs) returns-2)
