@@ -29,12 +29,6 @@ pub enum Event {
     Res,
 }
 
-// What an event other than Run leaves: the processor, all that it can change, and document 01's refusal number, 0 for none.
-pub struct Outcome {
-    pub cpu: Cpu,
-    pub refusal: u8,
-}
-
 // What a kind and its numbers name: an event, or refusal 7.
 pub enum Named {
     Known(Event),
@@ -211,22 +205,6 @@ fn changed(cpu: Cpu, event: Event) -> Cpu
     }
 }
 
-// An event other than Run, on a machine's parts. A refused one leaves the processor as it was.
-pub fn change(cpu: Cpu, memory: &[u8; 160], event: Event) -> Outcome
-    requires { ⌜ length (now memory) ≡ 160 ⌝ }
-    ensures { λ r. ⌜ ((mask : List ℕ) (gap : ℕ) → ((n : ℕ) → event ≡ Event.Run n → ⊥) → applied mask event (machineOf (state cpu (now (memory .entry))) gap) ≡ record { machine = machineOf (state (r .cpu) (now (memory .entry))) gap; refusal = r .refusal }) ⌝ }
-{
-    let refusal = refusal(cpu, memory, event);
-    if refusal != 0 {
-        return Outcome { cpu, refusal };
-    }
-    let next = changed(cpu, event);
-    Outcome {
-        cpu: next,
-        refusal: 0,
-    }
-}
-
 impl Machine {
     // Run. Data memory and count stand apart from the processor, which then goes through the steps in registers.
     pub fn running(self, n: u16, mask: &[u8]) -> Answer
@@ -253,12 +231,18 @@ impl Machine {
         ensures { λ r. ⌜ ((mask : List ℕ) → ((n : ℕ) → event ≡ Event.Run n → ⊥) → r ≡ applied mask event self) ⌝ }
     {
         let memory = self.memory;
-        let done = change(self.cpu, &memory, event);
-        let cpu = done.cpu;
+        let refusal = refusal(self.cpu, &memory, event);
+        if refusal != 0 {
+            return Answer {
+                refusal,
+                machine: self,
+            };
+        }
+        let next = changed(self.cpu, event);
         Answer {
-            refusal: done.refusal,
+            refusal: 0,
             machine: Machine {
-                cpu,
+                cpu: next,
                 memory,
                 gap: self.gap,
             },
