@@ -206,18 +206,19 @@ fn changed(cpu: Cpu, event: Event) -> Cpu
 }
 
 impl Machine {
-    // Run. Data memory and count stand apart from the processor, which then goes through the steps in registers.
+    // Run. It is judged where the machine stands; then data memory and count stand apart from the processor, which goes through the steps in
+    // registers.
     pub fn running(self, n: u16, mask: &[u8]) -> Answer
         ensures { λ r. ⌜ r ≡ applied (now (mask .entry)) (Event.Run n) self ⌝ }
     {
-        let mut memory = self.memory;
-        let refusal = run_refusal(self.cpu, &memory, mask);
+        let refusal = run_refusal(self.cpu, &self.memory, mask);
         if refusal != 0 {
             return Answer {
                 refusal,
                 machine: self,
             };
         }
+        let mut memory = self.memory;
         let mut gap = self.gap;
         let cpu = self.cpu.run(mask, &mut memory, n, &mut gap);
         Answer {

@@ -11,15 +11,15 @@ use Rattle.machine.proofs.Machine.running.Tie as tie
 returns : tie.Need-returns
 unfolding applied
 returns c =
-    let a = c .before .before .before .before .before .args in
-    refused (c .before .run-refusal .result) {k = refusalOf (a .mask .now) (Run (a .n)) (a .self)} (happened (a .mask .now) (Run (a .n)) (a .self)) (a .self) (c .if1 .taken) (c .before .run-refusal .ensures (a .n) (a .self .gap))
+    let a = c .before .before .before .before .before .before .args in
+    refused (c .before .run-refusal .result) {k = refusalOf (a .mask .now) (Run (a .n)) (a .t1)} (happened (a .mask .now) (Run (a .n)) (a .t1)) (a .t1) (c .if1 .taken) (c .before .run-refusal .ensures (a .n) (a .t1 .gap))
 
 returns-2 : tie.Need-returns-2
 unfolding applied happened
 returns-2 c =
-    let r = c .before .before .before .before in
-    let a = r .before .before .before .before .args in
-    done (r .run-refusal .result) {k = refusalOf (a .mask .now) (Run (a .n)) (a .self)} (happened (a .mask .now) (Run (a .n)) (a .self)) (a .self) (c .before .before .before .if1 .left) (r .run-refusal .ensures (a .n) (a .self .gap)) (ap₂ machineOf (c .run .ensures .0) (c .run .ensures .1))
+    let r = c .before .before .before .before .before .before in
+    let a = r .before .before .before .before .before .args in
+    done (r .run-refusal .result) {k = refusalOf (a .mask .now) (Run (a .n)) (a .t1)} (happened (a .mask .now) (Run (a .n)) (a .t1)) (a .t1) (c .before .before .before .before .before .if1 .left) (r .run-refusal .ensures (a .n) (a .t1 .gap)) (ap₂ machineOf (c .run .ensures .0) (c .run .ensures .1))
 
 pub running-spec : {M : Type 1} → statement M
 running-spec = tie.close (tie.spec (λ c κs. search needs) returns (λ c κs. search needs) returns-2)
