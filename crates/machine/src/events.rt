@@ -211,10 +211,10 @@ impl Machine {
     pub fn running(self, n: u16, mask: &[u8]) -> Answer
         ensures { λ r. ⌜ r ≡ applied (now (mask .entry)) (Event.Run n) self ⌝ }
     {
-        let refusal = run_refusal(self.cpu, &self.memory, mask);
-        if refusal != 0 {
+        let judged = run_refusal(self.cpu, &self.memory, mask);
+        if judged != 0 {
             return Answer {
-                refusal,
+                refusal: judged,
                 machine: self,
             };
         }
