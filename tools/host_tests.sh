@@ -102,4 +102,7 @@ cargo_in bench test --offline --release --quiet
 cargo_in bench build --offline --release --quiet
 target/cargo/release/bench diff --seed 1130
 
+say "the instructions of a step, held to what docs/PERFORMANCE.md says"
+python3 tools/step_instructions.py target/cargo/release/bench
+
 say "host tests passed"
