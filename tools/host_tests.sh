@@ -1,6 +1,7 @@
 #!/usr/bin/env bash
 # Tests both libraries from C and Rust: header, record layout, what the archives
-# hold, examples, and a comparison with a plain engine, assembler and glass. Needs
+# hold, examples, a comparison with a plain engine, assembler and glass, and the
+# instructions of a step, where valgrind is installed. Needs
 # libht1130.a and libht1130_tools.a, in target/staticlib or in HT1130_LIB_DIR
 # (from the top of the repository, or absolute).
 set -euo pipefail

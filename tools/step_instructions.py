@@ -1,5 +1,6 @@
 #!/usr/bin/env python3
-"""Counts the instructions of a step of Run, and fails where one takes more than docs/PERFORMANCE.md says, and three tenths on top.
+"""Counts the instructions of a step of Run, and fails where one takes more than docs/PERFORMANCE.md says, and three tenths on top. A plain
+engine's are printed beside them.
 
 usage: tools/step_instructions.py BENCH        BENCH: the bench's program, linked to the proved library
 
@@ -24,38 +25,45 @@ def figures():
     return {name: float(figure) for name, figure in rows}
 
 
-def collected(bench, engine, mask, runs):
+def counted(bench, engine, mask, runs):
+    """The instructions of so many Runs, and the cycles that the machine spent in them."""
     command = ["valgrind", "--tool=callgrind", "--callgrind-out-file=/dev/null", bench, "count", engine, mask, str(runs)]
     said = subprocess.run(command, capture_output=True, text=True)
     count = re.search(r"Collected : (\d+)", said.stderr)
-    if said.returncode != 0 or not count:
+    cycles = re.fullmatch(r"(\d+) cycles\n", said.stdout)
+    if said.returncode != 0 or not count or not cycles:
         sys.exit(f"step_instructions: {' '.join(command)} failed:\n{said.stdout}{said.stderr}")
-    return int(count[1])
+    if int(cycles[1]) < STEPS * runs:
+        sys.exit(f"step_instructions: {engine}, {mask}: {cycles[1]} cycles in {runs} Runs of {STEPS} steps: it does not run on")
+    return int(count[1]), int(cycles[1])
 
 
 def a_step(bench, engine, mask):
-    """Without what a call and the program cost: the difference of eleven Runs and one."""
-    return (collected(bench, engine, mask, 11) - collected(bench, engine, mask, 1)) / (10 * STEPS)
+    """Without what a call and the program cost: the difference of eleven Runs and one. And the cycles of the eleven."""
+    (many, cycles), (one, _) = counted(bench, engine, mask, 11), counted(bench, engine, mask, 1)
+    return (many - one) / (10 * STEPS), cycles
 
 
 def main():
     if len(sys.argv) != 2:
         sys.exit(__doc__)
-    if not shutil.which("valgrind"):
-        print("step_instructions: valgrind is not installed: the instructions of a step were NOT counted")
-        return
     held = figures()
     if len(held) != 5:
         sys.exit(f"step_instructions: {len(held)} figures in docs/PERFORMANCE.md, not 5")
+    if not shutil.which("valgrind"):
+        print("step_instructions: valgrind is not installed: the instructions of a step were NOT counted")
+        return
     slow = []
     for mask, figure in held.items():
-        library, plain = (a_step(sys.argv[1], engine, mask) for engine in ("library", "plain"))
+        (library, cycles), (plain, same) = (a_step(sys.argv[1], engine, mask) for engine in ("library", "plain"))
+        if cycles != same:
+            sys.exit(f"step_instructions: {mask}: the library spent {cycles} cycles and the plain engine {same}")
         most = SLACK * figure
         print(f"{mask:<18}{library:8.1f} instructions a step, held to {most:.1f}; plain {plain:.1f}, ratio {library / plain:.2f}")
         if library > most:
             slow.append(mask)
     if slow:
-        sys.exit(f"step_instructions: more than {SLACK} times the figure of docs/PERFORMANCE.md: {', '.join(slow)}")
+        sys.exit(f"step_instructions: over {SLACK} times the figure of docs/PERFORMANCE.md: {', '.join(slow)}")
 
 
 main()

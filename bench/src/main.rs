@@ -51,7 +51,7 @@ fn arguments() -> Option<Arguments> {
     Some(arguments)
 }
 
-/// `count` and its words; None where there is another first word.
+/// Whether `count` and its words did their work; None where they are other words.
 fn count() -> Option<bool> {
     let words: Vec<String> = std::env::args().skip(1).collect();
     let [first, engine, mask, runs] = words.as_slice() else {

@@ -114,8 +114,9 @@ pub fn tables() -> Mask {
     mask
 }
 
-/// A loop of 1,000 random instructions, which no processor foresees. A branch goes
-/// to the next one, taken or not; what leaves the loop is left out.
+/// A loop of 1,000 random instructions, every kind mixed, for jumps that are hard to
+/// foresee. A branch goes to the next one, taken or not; what leaves the loop is left
+/// out.
 pub fn scattered() -> Mask {
     let mut mask = with(&[
         (0x00, &[0xE0, 0x10]), // JMP 010h

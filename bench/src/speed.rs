@@ -104,17 +104,17 @@ pub fn count(engine: &str, name: &str, runs: u32) -> bool {
     let Some((_, mask)) = masks.iter().find(|(known, _)| *known == name) else {
         return false;
     };
+    if !["plain", "library"].contains(&engine) {
+        return false;
+    }
     let (mut ours, mut theirs) = powered();
     for _ in 0..runs {
         match engine {
             "plain" => ours
                 .apply(plain::RUN, STEPS, 0, 0, 0, black_box(mask))
                 .expect("a valid machine"),
-            "library" => {
-                ht1130::apply_kind(&mut theirs, plain::RUN, STEPS, 0, 0, 0, black_box(mask))
-                    .expect("a valid machine")
-            }
-            _ => return false,
+            _ => ht1130::apply_kind(&mut theirs, plain::RUN, STEPS, 0, 0, 0, black_box(mask))
+                .expect("a valid machine"),
         }
     }
     let ended = match engine {

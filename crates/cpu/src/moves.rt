@@ -1,4 +1,4 @@
-// What an instruction reads and writes: data memory, registers and ports.
+// What an instruction reads and writes: data memory and registers.
 ghost use mathlib.Core.Path.{_≡_};
 ghost use mathlib.Core.List.{[], _∷_};
 ghost use Rattle.datapath.specs.Memory.{strays, tallied};

@@ -14,8 +14,8 @@ pub enum Decoded {
     Unreadable,
 }
 
-// The instruction that starts with these two bytes. No helper that returns an enum, and no list: this is the engine's hot path. So is the
-// shape: a number of its own for each code of a register, and the long runs by their first five bits, which become one jump each.
+// The instruction that starts with these two bytes. No helper that returns an enum, and no list: this is the engine's hot path. Its shape
+// is for that too: an arm of its own for each code of a register, and the runs of eight codes by their first five bits.
 pub fn decode(first: u8, second: u8) -> Decoded
     ensures { λ r. ⌜ Reading first second r ⌝ }
 {
