@@ -1,4 +1,5 @@
 pub mod Gap
+pub mod Loan
 pub mod Property2
 pub mod Refused
 pub mod Wrapper

@@ -4,10 +4,11 @@ ghost use lib.ListN.{drop, length, replicate};
 ghost use Prim.Native.Nat.{_≤_};
 ghost use Rattle.cpu.specs.State.{state};
 ghost use Rattle.machine.specs.Machine.{machineOf};
-ghost use Rattle.machine.specs.Power.{afterRes, blank, powerOn, powerRefusal, powered};
+ghost use Rattle.machine.specs.Power.{afterRes, blank, leaving, powerOn, powerRefusal, powered};
 ghost use Rattle.machine.specs.Events.{resetting};
 use crate::Answer;
 use crate::Machine;
+use crate::Outcome;
 use crate::ranges::all_nibbles;
 use crate::ranges::options_ok;
 use crate::ranges::sound;
@@ -99,11 +100,13 @@ pub(crate) fn reset_cpu(cpu: Cpu) -> Cpu
     after_res(cpu.registers, cpu.pins, cpu.options, cpu.cycles)
 }
 
-// The machine that a power-on makes of options and an image.
-fn powered(options: Options, image: &[u8]) -> Machine
+// The processor that a power-on makes of options and an image, which fills the data memory that is lent.
+fn powered(options: Options, image: &[u8], memory: &mut [u8; 160]) -> Cpu
     requires { ⌜ length (now image) ≡ 166 ⌝ }
-    ensures { λ r. ⌜ r ≡ powered options (now (image .entry)) ⌝ }
+    ensures { λ r. ⌜ machineOf (state r (now (memory .exit))) 0 ≡ powered options (now (image .entry)) ⌝ }
 {
+    let all = image_memory(image);
+    *memory = all;
     let registers = Registers {
         acc: image[0],
         r0: image[1],
@@ -118,12 +121,28 @@ fn powered(options: Options, image: &[u8]) -> Machine
         pp: 15,
         int: 1,
     };
-    let cpu = after_res(registers, pins, options, 0);
-    let memory = image_memory(image);
-    Machine {
-        cpu,
-        memory,
+    after_res(registers, pins, options, 0)
+}
+
+// Power-on, where data memory is lent.
+pub fn power_lent(
+    cpu: Cpu,
+    gap: u16,
+    options: Options,
+    image: &[u8],
+    memory: &mut [u8; 160],
+) -> Outcome
+    ensures { λ r. ⌜ leaving r (now (memory .exit)) ≡ powerOn options (now (image .entry)) (machineOf (state cpu (now (memory .entry))) gap) ⌝ }
+{
+    let refusal = power_refusal(options, image);
+    if refusal != 0 {
+        return Outcome { cpu, gap, refusal };
+    }
+    let next = powered(options, image, memory);
+    Outcome {
+        cpu: next,
         gap: 0,
+        refusal: 0,
     }
 }
 
@@ -189,17 +208,16 @@ impl Machine {
     pub fn power_on(self, options: Options, image: &[u8]) -> Answer
         ensures { λ r. ⌜ r ≡ powerOn options (now (image .entry)) self ⌝ }
     {
-        let refusal = power_refusal(options, image);
-        if refusal != 0 {
-            return Answer {
-                refusal,
-                machine: self,
-            };
-        }
-        let machine = powered(options, image);
+        let mut memory = self.memory;
+        let out = power_lent(self.cpu, self.gap, options, image, &mut memory);
+        let cpu = out.cpu;
         Answer {
-            refusal: 0,
-            machine,
+            refusal: out.refusal,
+            machine: Machine {
+                cpu,
+                memory,
+                gap: out.gap,
+            },
         }
     }
 

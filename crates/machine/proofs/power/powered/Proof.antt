@@ -12,11 +12,11 @@ use Rattle.machine.proofs.power.powered.Tie as tie
 
 returns : tie.Need-returns
 unfolding powered
-returns c = ap₂ (λ (k : Cpu) (m : List ℕ). machineOf (state k m) 0) (c .before .after-res .ensures) (c .image-memory .ensures)
+returns c = ap₂ (λ (k : Cpu) (m : List ℕ). machineOf (state k m) 0) (c .after-res .ensures) (c .before .before .before .before .before .before .before .image-memory .ensures)
 
 pub powered-spec : {M : Type 1} → statement M
 powered-spec =
     tie.close
     (tie.spec
-    (λ c. search needs) (λ c. search needs) (λ c. search needs) (λ c. search needs) (λ c. search needs) (λ c. search needs)
-    (λ c κs. search needs) (λ c κs. search needs) returns)
+    (λ c κs. search needs) (λ c. search needs) (λ c. search needs) (λ c. search needs) (λ c. search needs) (λ c. search needs)
+    (λ c. search needs) (λ c κs. search needs) returns)
