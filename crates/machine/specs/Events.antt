@@ -171,8 +171,8 @@ abbrev pub Every : (Call → Type 0) → List Call → Type 0
 Every P [] = Unit {0}
 Every P (k ∷ ks) = P k × Every P ks
 
--- machines handed on: `Machine::power_on` promises `r ≡ powerOn ..`, `Machine::apply_named` `r ≡ namedAnswer ..`, and `apply`, `running`, `reset` and
--- `step` what it says of their events. So each call's answer is `answerTo`'s, and each gets the machine that the one before answered; a call on a lent record is
+-- machines handed on: `Machine::power_on` promises `r ≡ powerOn ..`, `Machine::apply_named` `r ≡ namedAnswer ..`, and `apply`, `reset` and `step`
+-- what it says of their events. So each call's answer is `answerTo`'s, and each gets the machine that the one before answered; a call on a lent record is
 -- one too, whose answer is the number and the record that it left
 pub data Session : Machine → List Call → Machine → Type 0 where
   ended : {m : Machine} → Session m [] m

@@ -1,4 +1,4 @@
-// The events other than power-on, applied to a machine by value.
+// The events other than power-on, on a machine whose data memory is lent and on one by value.
 ghost use mathlib.Core.Path.{_≡_};
 ghost use Prim.Native.Nat.{ℕ};
 ghost use lib.ListN.{length};
