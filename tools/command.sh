@@ -16,7 +16,8 @@ closed=''
 { : 3>&1; } 2> /dev/null || { closed+=output; exec 1> /dev/null; }
 { : 3>&2; } 2> /dev/null || exec 2> /dev/null
 
-finish() { # also where a signal ends the command
+finish() { # also where a signal ends the command; a second one, which bash sends on a hangup, does not end this
+    trap '' HUP INT TERM PIPE
     [ -z "$folder" ] || rm -rf -- "$folder" || :
     [ -z "$beside" ] || rm -f -- "$beside" || :
     exit "$status"
