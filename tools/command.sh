@@ -16,13 +16,13 @@ closed=''
 { : 3>&1; } 2> /dev/null || { closed+=output; exec 1> /dev/null; }
 { : 3>&2; } 2> /dev/null || exec 2> /dev/null
 
-finish() { # also where a signal ends the command; a second one, which bash sends on a hangup, does not end this
-    trap '' HUP INT TERM PIPE
+remove() { # all that is temporary; a second signal does not end this
+    trap '' HUP INT TERM
     [ -z "$folder" ] || rm -rf -- "$folder" || :
     [ -z "$beside" ] || rm -f -- "$beside" || :
-    exit "$status"
 }
-trap finish EXIT
+trap 'remove; exit "$status"' EXIT                      # also where a signal ends the command
+trap 'remove; trap - HUP; kill -s HUP $$' HUP           # bash sends one more to the whole group, at any time
 
 say() { printf '%s: %s\n' "$command" "$*" >&2 || :; }
 

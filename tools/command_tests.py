@@ -305,7 +305,8 @@ def links():
                 expect(f'{link}', run([link, *GOOD[name]], folder), 0, None, '')
         found = run(['bash', '-c', 'PATH="$PWD/a b:$PATH"; checkmask2 --brief m'], folder)
         expect('checkmask2 through PATH', found, 0, 'm: passed\n', '')
-        found = run(['bash', '-c', 'CDPATH=/ "$0" --brief m', command('checkmask')], folder)
+        (folder / 'temporary').mkdir()      # cd prints what it finds through CDPATH
+        found = run([command('checkmask'), '--brief', 'm'], folder, env=environment('temporary', CDPATH='.'))
         expect('checkmask with CDPATH', found, 0, 'm: passed\n', '')
 
 
@@ -493,10 +494,16 @@ def mask_is_protected():
 
 def signals():
     """A command that waits for standard input is ended: by that signal, and with no temporary file left."""
-    for number in (signal.SIGINT, signal.SIGTERM, signal.SIGHUP):
+    ends = signal.SIGINT, signal.SIGTERM, signal.SIGHUP
+
+    def default():      # nohup and & have some of them ignored
+        for number in ends:
+            signal.signal(number, signal.SIG_DFL)
+
+    for number in ends:
         with new_folder() as temporary:
             process = subprocess.Popen([command('checkmask'), '-'], env=environment(temporary), stdin=subprocess.PIPE, stdout=subprocess.PIPE,
-                                       stderr=subprocess.PIPE, start_new_session=True)
+                                       stderr=subprocess.PIPE, start_new_session=True, preexec_fn=default)
             end = time.monotonic() + 30
             while not list(temporary.glob('*/mask.bin')) and time.monotonic() < end:
                 time.sleep(0.01)
