@@ -60,8 +60,11 @@ enum { HT1130_SCRIPT = 65535, HT1130_WAY = 36864, HT1130_TEXT = 65535, HT1130_PI
 /*
  * Checks a mask and writes its 4,096 mark bytes: 1 the code at this address may
  * run in level 0, 2 in level 1, 4 in level 2, added. The answer is 0 where the
- * mask passed: no list of events makes it fault. Else it has the fault, address
- * and level of the lowest pair that may. Refuses with 1 or 2.
+ * mask passed: from a power-on that is accepted, no list of events faults in
+ * which each Run has this mask. (A record that no power-on made, or a Run of
+ * another mask, may fault.) Else it has the fault, address and level of the
+ * lowest pair that may; such a mask need not fault, since every branch is taken
+ * both ways and an enabled interrupt at any time. Refuses with 1 or 2.
  */
 uint64_t ht1130_check(const uint8_t *mask, size_t mask_len, uint8_t *marks, size_t marks_len);
 
@@ -84,8 +87,9 @@ uint64_t ht1130_way(const uint8_t *mask, size_t mask_len, uint8_t *list, size_t 
  *   HT1130_BOUNDED      no chain from the pair to a return has more cycles than
  *                       HT1130_WAIT, the RET or RETI included, and one has as many
  * A machine at a bounded pair, not halted or faulted, has come to level 0 once its
- * steps have spent that many cycles, whatever happens to it but RES and power-on.
- * An edge that is held then, with interrupts enabled, is taken by the next step.
+ * steps have spent that many cycles, under any events but RES and power-on, each
+ * Run with this mask. An edge that is held then, with interrupts enabled, is taken
+ * by the next step.
  * Example: EI, JMP 001H at 0, RETI at 4, and INC R4, RETI at 8 are bounded by 1 at
  * address 4, by 2 at 8 and by 1 at 9, all in level 2; no other pair is reached
  * above level 0. Refuses with 1, 5 or 15.

@@ -10,7 +10,7 @@ use lib.ListN.{length, take, getD, List·getD-eq-default}
 use borrow.Author.Tests.{ltb-true, ltb-false, lt-ltb, eq-eqb}
 use Rattle.isa.specs.Choice.{pick}
 use Rattle.isa.specs.Code.{bytesOf, inRange}
-use Rattle.isa.specs.Reading.{Reads, Reading, Entry, none, map, complete, decoded}
+use Rattle.isa.specs.Reading.{Reads, Reading, Entry, undefined, opcodes, complete, decoded}
 use Rattle.isa.specs.Timing.{Columns, lengthOf, cyclesOf}
 use Rattle.rom.specs.Fetching.{refused, byteAt, withTiming, fetching}
 use Rattle.rom.specs.Writing as Writing
@@ -132,13 +132,13 @@ read-then-write mask address m w bytes e h f = f ∙ ap writeNumber there
 -- ---- what is written
 -- past the map's end nothing is read
 first-below : (x y : ℕ) (i : Instruction) → decoded x y ≡ Read i → x < 256
-unfolding decoded map
+unfolding decoded opcodes
 first-below x y i e = go (ltb x 256) refl
   where
     go : (t : Bool) → ltb x 256 ≡ t → x < 256
     go true h = ltb-true x 256 h
     go false h =
-        let p : getD map x none ≡ none = List·getD-eq-default map none (ltb-false x 256 h) in
+        let p : getD opcodes x undefined ≡ undefined = List·getD-eq-default opcodes undefined (ltb-false x 256 h) in
         let q : Unreadable ≡ Read i = sym (ap (λ (e : Entry). complete e y) p) ∙ e in
         absurd (let z : _≡_ {A = ℕ} 0 1 = cc in omega arith)
 

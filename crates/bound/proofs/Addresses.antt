@@ -11,7 +11,7 @@ use borrow.Author.Tests.{ltb-true}
 use Rattle.isa.specs.Timing.{Columns, entries, columnsOf}
 use Rattle.isa.specs.Views.{View, on, jmp, branch, call, ret, reti, ei, view}
 use Rattle.isa.proofs.Exact.{sound, timed}
-use Rattle.isa.specs.Reading.{map, decoded}
+use Rattle.isa.specs.Reading.{opcodes, decoded}
 use Rattle.isa.proofs.List.{cycles-at}
 use Rattle.isa.specs.declared.Instruction.{Instruction}
 use Rattle.isa.specs.declared.decoder.Decoded.{Decoded}
@@ -47,7 +47,7 @@ cheap-at (x ∷ xs) zero e = first-cheap x xs e .0
 cheap-at (x ∷ xs) (suc k) e = cheap-at xs k (first-cheap x xs e .1)
 
 all-cheap : cheap entries ≡ true
-unfolding entries columnsOf map cheap
+unfolding entries columnsOf opcodes cheap
 all-cheap = refl
 
 pub two-cycles : (mask : List ℕ) (a : ℕ) → cyclesAt mask a ≤ 2

@@ -3,7 +3,7 @@ use Prim.Native.Nat.{ℕ, _<_}
 use mathlib.Core.Path.{_≡_, refl, ap, _∙_}
 use mathlib.Core.List.{[], _∷_}
 use Rattle.isa.specs.Code.{bytesOf}
-use Rattle.isa.specs.Reading.{map, decoded}
+use Rattle.isa.specs.Reading.{opcodes, decoded}
 use Rattle.isa.specs.declared.decoder.Decoded.the-variants.{Read}
 use Rattle.isa.specs.declared.Instruction.the-variants as I
 use Rattle.isa.proofs.Exact.{sound}
@@ -15,7 +15,7 @@ use Rattle.bound.specs.declared.ways.Ways.{Ways}
 use Rattle.bound.specs.declared.ways.Ways.the-variants.{Stop, Out, One, Two}
 
 pub halt : (a b : ℕ) → a ≡ 0x37 → b ≡ 0x3e → decoded a b ≡ Read I.Halt
-unfolding decoded map
+unfolding decoded opcodes
 halt a b p q = rw (p, q) refl
 
 halts : (a b : ℕ) → b < 256 → decoded a b ≡ Read I.Halt → (a ≡ 0x37) × (b ≡ 0x3e)

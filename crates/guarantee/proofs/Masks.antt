@@ -10,7 +10,7 @@ use borrow.Author.Tests.{eqb-true}
 use lib.Dec.{eqb}
 use lib.ListN.{length, getD, replicate, length-replicate, getD-replicate}
 use Rattle.rom.specs.Fetching.{byteAt}
-use Rattle.isa.specs.Reading.{decoded, map}
+use Rattle.isa.specs.Reading.{decoded, opcodes}
 use Rattle.isa.specs.Timing.{columnsOf, columnsAt}
 use Rattle.isa.specs.Views.{view}
 use Rattle.machine.specs.Table.{nops}
@@ -34,11 +34,11 @@ nop-at a = getD-replicate 4096 (a % 4096) 0x3e 0 (below a)
 
 -- a NOP hands on to the next address in its level, and gives no fault
 nop-next : (mask : List ℕ) (a l : ℕ) → byteAt mask a ≡ 0x3e → successors mask (pair a l) ≡ pair ((a + 1) % 4096) l ∷ []
-unfolding successors fault flowAt flowOf view decoded map columnsOf columnsAt
+unfolding successors fault flowAt flowOf view decoded opcodes columnsOf columnsAt
 nop-next mask a l e = rw e refl
 
 nop-fault : (mask : List ℕ) (a l : ℕ) → byteAt mask a ≡ 0x3e → fault mask (pair a l) ≡ 0
-unfolding fault flowAt flowOf view decoded map
+unfolding fault flowAt flowOf view decoded opcodes
 nop-fault mask a l e = rw e refl
 
 only : {q p : Pair} → Member q (p ∷ []) → q ≡ p
@@ -95,7 +95,7 @@ every-3e old new v l w =
 
 -- ---- a mask that fails is answered with its lowest forbidden pair
 first-fault : (mask : List ℕ) → byteAt mask 0 ≡ 0x40 → byteAt mask 1 ≡ 0x15 → fault mask (pair 0 0) ≡ 1
-unfolding fault flowAt decoded map
+unfolding fault flowAt decoded opcodes
 first-fault mask e f = rw (e, f) refl
 
 lowest-40-15 : (mask : List ℕ) → byteAt mask 0 ≡ 0x40 → byteAt mask 1 ≡ 0x15 → Lowest mask 1 0 0
@@ -108,15 +108,15 @@ mask-40-15 mask old new v m l e f =
 -- "F0 10 then 3E: fault 2 at 0, level 1": the subroutine at 010h runs on past FFFh to the CALL at 0
 module _ (mask : List ℕ) (call : byteAt mask 0 ≡ 0xf0) (to : byteAt mask 1 ≡ 0x10) (rest : (a : ℕ) → 2 ≤ a → a < 4096 → byteAt mask a ≡ 0x3e) where
   call-next : successors mask (pair 0 0) ≡ pair 0x010 1 ∷ pair 2 0 ∷ []
-  unfolding successors fault flowAt flowOf view decoded map columnsOf columnsAt
+  unfolding successors fault flowAt flowOf view decoded opcodes columnsOf columnsAt
   call-next = rw (call, to) refl
 
   call-main : fault mask (pair 0 0) ≡ 0
-  unfolding fault flowAt flowOf view decoded map
+  unfolding fault flowAt flowOf view decoded opcodes
   call-main = rw call refl
 
   call-inside : fault mask (pair 0 1) ≡ 2
-  unfolding fault flowAt flowOf view decoded map
+  unfolding fault flowAt flowOf view decoded opcodes
   call-inside = rw call refl
 
   inside : (n : ℕ) → 0x010 + n < 4096 → Reached mask (pair (0x010 + n) 1)

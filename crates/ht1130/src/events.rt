@@ -1,33 +1,24 @@
-// Power-on and the other events where data memory is lent, the report and the count of strays of a machine by value: from numbers.
+// Power-on, the other events, the report and the count of strays on a machine by value, from numbers.
 ghost use mathlib.Core.Path.{_≡_};
-ghost use lib.ListN.{length};
 ghost use Rattle.ht1130.specs.Lent.{gapNumber, optionsOf, hosted};
 ghost use Rattle.machine.specs.Gap.{gapCount};
-ghost use Rattle.cpu.specs.State.{state};
-ghost use Rattle.machine.specs.Machine.{machineOf};
-ghost use Rattle.machine.specs.Power.{leaving, powerOn};
+ghost use Rattle.machine.specs.Power.{powerOn};
 ghost use Rattle.machine.specs.Report.{report, reporting};
-use cpu::Cpu;
 use cpu::Options;
+use machine::Answer;
 use machine::Machine;
-use machine::Outcome;
 use machine::events::event_of;
-use machine::events::named_lent;
-use machine::power::power_lent;
 
 pub(crate) fn power(
-    cpu: Cpu,
-    gap: u16,
+    machine: Machine,
     rate: u8,
     commons: u8,
     pm: u8,
     ps: u8,
     pp: u8,
     image: &[u8],
-    memory: &mut [u8; 160],
-) -> Outcome
-    requires { ⌜ length (now memory) ≡ 160 ⌝ }
-    ensures { λ r. ⌜ leaving r (now (memory .exit)) ≡ powerOn (optionsOf rate commons pm ps pp) (now (image .entry)) (machineOf (state cpu (now (memory .entry))) gap) ⌝ }
+) -> Answer
+    ensures { λ r. ⌜ r ≡ powerOn (optionsOf rate commons pm ps pp) (now (image .entry)) machine ⌝ }
 {
     let options = Options {
         rate,
@@ -36,25 +27,22 @@ pub(crate) fn power(
         ps,
         pp,
     };
-    power_lent(cpu, gap, options, image, memory)
+    machine.power_on(options, image)
 }
 
 // The event of a kind. What the kind does not name is not looked at, and an unknown one is refused.
 pub(crate) fn event(
-    cpu: Cpu,
-    gap: u16,
+    machine: Machine,
     kind: u16,
     count: u16,
     a: u8,
     b: u8,
     c: u8,
     mask: &[u8],
-    memory: &mut [u8; 160],
-) -> Outcome
-    requires { ⌜ length (now memory) ≡ 160 ⌝ }
-    ensures { λ r. ⌜ leaving r (now (memory .exit)) ≡ hosted (now (mask .entry)) kind count a b c (machineOf (state cpu (now (memory .entry))) gap) ⌝ }
+) -> Answer
+    ensures { λ r. ⌜ r ≡ hosted (now (mask .entry)) kind count a b c machine ⌝ }
 {
-    named_lent(cpu, gap, event_of(kind, count, a, b, c), mask, memory)
+    machine.apply_named(event_of(kind, count, a, b, c), mask)
 }
 
 pub(crate) fn shown(machine: Machine, out: &mut [u8]) -> u8

@@ -1,6 +1,5 @@
 // The machine record that a host lends: document 01, "A host may also lend one machine record and have an event applied to it directly".
-// Power-on and apply lend its data memory on where it lies, and store what the outcome has; a refused call stores nothing. The report and the
-// query hand the record on by value.
+// Each wrapper takes the record out, hands it on by value, and puts back what the answer has; a refused call stores nothing.
 ghost use mathlib.Core.Path.{_≡_};
 ghost use Rattle.ht1130.specs.Lent.{gapNumber, left, optionsOf, hosted};
 ghost use Rattle.machine.specs.Gap.{gapCount};
@@ -24,22 +23,11 @@ pub extern "C" fn ht1130_power_on(
 ) -> u8
     ensures { λ r. ⌜ left r (now (machine .exit)) ≡ powerOn (optionsOf rate commons pm ps pp) (now (image .entry)) (now (machine .entry)) ⌝ }
 {
-    let powered = power(
-        machine.cpu,
-        machine.gap,
-        rate,
-        commons,
-        pm,
-        ps,
-        pp,
-        image,
-        &mut machine.memory,
-    );
-    if powered.refusal == 0 {
-        machine.cpu = powered.cpu;
-        machine.gap = powered.gap;
+    let answer = power(*machine, rate, commons, pm, ps, pp, image);
+    if answer.refusal == 0 {
+        *machine = answer.machine;
     }
-    powered.refusal
+    answer.refusal
 }
 
 #[no_mangle]
@@ -54,20 +42,9 @@ pub extern "C" fn ht1130_apply(
 ) -> u8
     ensures { λ r. ⌜ left r (now (machine .exit)) ≡ hosted (now (mask .entry)) kind count a b c (now (machine .entry)) ⌝ }
 {
-    let applied = event(
-        machine.cpu,
-        machine.gap,
-        kind,
-        count,
-        a,
-        b,
-        c,
-        mask,
-        &mut machine.memory,
-    );
+    let applied = event(*machine, kind, count, a, b, c, mask);
     if applied.refusal == 0 {
-        machine.cpu = applied.cpu;
-        machine.gap = applied.gap;
+        *machine = applied.machine;
     }
     applied.refusal
 }

@@ -12,7 +12,7 @@ use lib.ListN.{length, take, getD}
 use borrow.Author.Tests.{ltb-true, eqb-true, lt-ltb, le-ltb, ne-eqb}
 use Rattle.isa.specs.Choice.{pick}
 use Rattle.isa.specs.Code.{bytesOf, inRange, leading, bitInRange}
-use Rattle.isa.specs.Reading.{Reads, Reading, Entry, none, whole, fixed, nibble, byte, map, complete, decoded, ReadingDetermines}
+use Rattle.isa.specs.Reading.{Reads, Reading, Entry, undefined, whole, fixed, nibble, byte, opcodes, complete, decoded, ReadingDetermines}
 use Rattle.isa.specs.Timing.{Columns, columns, columnsOf, columnsAt, entryColumns, Timed}
 use Rattle.isa.specs.declared.decoder.Decoded.{Decoded}
 use Rattle.isa.specs.declared.decoder.Decoded.the-variants.{Read, Unreadable}
@@ -97,7 +97,7 @@ module _ (a b : ℕ) where
   eight b n = values 8 (λ (k : ℕ). decoded (0b1000_0000 + 8 * n + k) b) ≡ values 8 (to (λ (t : ProgramAddress). I.Branch t (Ja n)) b)
 
   bits : (b n : ℕ) → n < 4 → eight b n
-  unfolding decoded map
+  unfolding decoded opcodes
   bits b zero h = refl
   bits b (suc zero) h = refl
   bits b (suc (suc zero)) h = refl
@@ -108,7 +108,7 @@ module _ (a b : ℕ) where
   bit n t h = target (Ja n) (0b1000_0000 + 8 * n) t (bits (t .0 % 256) n (ltb-true n 4 (and-left (ltb n 4) (ltb (t .0) 2048) h))) (and-right (ltb n 4) (ltb (t .0) 2048) h)
 
   pub back : (i : Instruction) → Reads a b i → decoded a b ≡ Read i
-  unfolding bytesOf inRange leading bitInRange decoded map
+  unfolding bytesOf inRange leading bitInRange decoded opcodes
   back I.AddAM r = one (r .bytes) refl
   back I.AdcAM r = one (r .bytes) refl
   back I.SubAM r = one (r .bytes) refl
@@ -203,7 +203,7 @@ abbrev good : Columns → Instruction → List ℕ → Bool
 good c i s = inRange i && same (bytesOf i) s && (eqb (c .bytes) (columnsOf i .bytes) && eqb (c .cycles) (columnsOf i .cycles))
 
 abbrev right : ℕ → Entry → Bool
-right a none = true
+right a undefined = true
 right a (whole i) = good (columnsOf i) i (a ∷ [])
 right a (fixed b i) = good (columnsOf i) i (a ∷ b ∷ [])
 right a (nibble f) = below 16 (λ (b : ℕ). good (columnsOf (f 0)) (f b) (a ∷ b ∷ []))
@@ -213,8 +213,8 @@ abbrev every : ℕ → List Entry → Bool
 every a [] = true
 every a (e ∷ es) = right a e && every (suc a) es
 
-tested : every 0 map ≡ true
-unfolding inRange bytesOf leading bitInRange columnsOf map
+tested : every 0 opcodes ≡ true
+unfolding inRange bytesOf leading bitInRange columnsOf opcodes
 tested = refl
 
 same-is : (s t : List ℕ) → same s t ≡ true → s ≡ t
@@ -231,12 +231,12 @@ below-at zero f e k h = absurd (not-suc-le-zero h)
 below-at (suc n) f e zero h = and-left (f 0) (below n (λ (k : ℕ). f (suc k))) e
 below-at (suc n) f e (suc k) h = below-at n (λ (k : ℕ). f (suc k)) (and-right (f 0) (below n (λ (k : ℕ). f (suc k))) e) k (le-of-suc-le-suc h)
 
-every-at : (es : List Entry) (a k : ℕ) → every a es ≡ true → right (a + k) (getD es k none) ≡ true
+every-at : (es : List Entry) (a k : ℕ) → every a es ≡ true → right (a + k) (getD es k undefined) ≡ true
 every-at [] a zero e = refl
 every-at [] a (suc k) e = refl
 every-at (x ∷ es) a zero e = rw (add-zero a) (and-left (right a x) (every (suc a) es) e)
 every-at (x ∷ es) a (suc k) e =
-    subst (λ (m : ℕ). right m (getD es k none) ≡ true) (suc-add a k ∙ sym (add-suc a k))
+    subst (λ (m : ℕ). right m (getD es k undefined) ≡ true) (suc-add a k ∙ sym (add-suc a k))
     (every-at es (suc a) k (and-right (right a x) (every (suc a) es) e))
 
 -- what a passed test says of the instruction
@@ -261,7 +261,7 @@ picked true i j e = (refl, same-read e)
 picked false i j e = absurd (let z : _≡_ {A = ℕ} 0 1 = cc in omega arith)
 
 entry : (e : Entry) (a b : ℕ) (i : Instruction) → right a e ≡ true → b < 256 → complete e b ≡ Read i → Made (entryColumns e) a b i
-entry none a b i t h e = absurd (let z : _≡_ {A = ℕ} 0 1 = cc in omega arith)
+entry undefined a b i t h e = absurd (let z : _≡_ {A = ℕ} 0 1 = cc in omega arith)
 entry (whole j) a b i t h e = subst (Made (columnsOf j) a b) (same-read e) (made (columnsOf j) a b j (a ∷ []) t refl)
 entry (fixed y j) a b i t h e =
     let p = picked (eqb b y) i j e in
@@ -275,12 +275,12 @@ entry (byte f) a b i t h e =
     (made (columnsOf (f 0)) a b (f b) (a ∷ b ∷ []) (below-at 256 (λ (b : ℕ). good (columnsOf (f 0)) (f b) (a ∷ b ∷ [])) t b h) refl)
 
 -- ---- the laws
-row : (a : ℕ) → right a (getD map a none) ≡ true
-row a = subst (λ (m : ℕ). right m (getD map a none) ≡ true) (zero-add a) (every-at map 0 a tested)
+row : (a : ℕ) → right a (getD opcodes a undefined) ≡ true
+row a = subst (λ (m : ℕ). right m (getD opcodes a undefined) ≡ true) (zero-add a) (every-at opcodes 0 a tested)
 
 from-map : (a b : ℕ) (i : Instruction) → b < 256 → decoded a b ≡ Read i → Made (columnsAt a) a b i
 unfolding decoded columnsAt
-from-map a b i h e = entry (getD map a none) a b i (row a) h e
+from-map a b i h e = entry (getD opcodes a undefined) a b i (row a) h e
 
 -- what the map gives is what the codes say, for every pair of bytes
 pub sound : (a b : ℕ) (i : Instruction) → b < 256 → decoded a b ≡ Read i → Reads a b i
@@ -317,7 +317,7 @@ timed-read : (a b : ℕ) (i : Instruction) → b < 256 → Reads a b i → colum
 timed-read a b i h r = from-map a b i h (back a b i r) .timed
 
 timed-unread : (a : ℕ) (e : Entry) → right a e ≡ true → ((b : ℕ) (i : Instruction) → Reads a b i → ⊥) → entryColumns e ≡ columns 0 0
-timed-unread a none t h = refl
+timed-unread a undefined t h = refl
 timed-unread a (whole i) t h = absurd (h 0 i (made (columnsOf i) a 0 i (a ∷ []) t refl .reads))
 timed-unread a (fixed b i) t h = absurd (h b i (made (columnsOf i) a b i (a ∷ b ∷ []) t refl .reads))
 timed-unread a (nibble f) t h = absurd (h 0 (f 0) (made (columnsOf (f 0)) a 0 (f 0) (a ∷ 0 ∷ []) (below-at 16 (λ (b : ℕ). good (columnsOf (f 0)) (f b) (a ∷ b ∷ [])) t 0 (lit< tt)) refl .reads))
@@ -326,7 +326,7 @@ timed-unread a (byte f) t h = absurd (h 0 (f 0) (made (columnsOf (f 0)) a 0 (f 0
 -- the entry for a first byte is what the summary says of it
 pub timed : (a : ℕ) → Timed a (columnsAt a)
 unfolding columnsAt
-timed a = record { read = λ b i h r. timed-read a b i h r; unread = timed-unread a (getD map a none) (row a) }
+timed a = record { read = λ b i h r. timed-read a b i h r; unread = timed-unread a (getD opcodes a undefined) (row a) }
 
 -- ---- what the decoder's arms show
 pub one-byte : {a b x : ℕ} {i : Instruction} → inRange i ≡ true → bytesOf i ≡ x ∷ [] → a ≡ x → Reads a b i
@@ -345,11 +345,11 @@ to-target k a b h f e =
     two-byte (and-both (bitInRange k) (ltb (a % 8 * 256 + b) 2048) f (lt-ltb (a % 8 * 256 + b) 2048 (omega arith))) refl (omega arith) (omega arith)
 
 pub no-pattern : (a b : ℕ) → a ≡ 0x35 → (i : Instruction) → Reads a b i → ⊥
-unfolding decoded map
+unfolding decoded opcodes
 no-pattern a b e = unread a b (rw e refl)
 
 pub other-halt : (a b : ℕ) → a ≡ 0x37 → (b ≡ 0x3e → ⊥) → (i : Instruction) → Reads a b i → ⊥
-unfolding decoded map
+unfolding decoded opcodes
 other-halt a b e n = unread a b (rw (e, ne-eqb b 0x3e n) refl)
 
 failed : {t : Bool} (d : Decoded) → t ≡ false → pick t d Unreadable ≡ Unreadable

@@ -1,5 +1,5 @@
--- What two bytes read as. The meaning is `Reads`, stated from `Code` alone. `decoded` computes it from a map by first byte: the
--- laws of proofs/Exact.antt show that the two agree, so a reader believes `Reads` and not the map. Assumes nothing.
+-- What two bytes read as. The meaning is `Reads`, stated from `Code` alone. `decoded` computes it from a map by first byte, `opcodes`:
+-- the laws of proofs/Exact.antt show that the two agree, so a reader believes `Reads` and not the map. Assumes nothing.
 use Prim.Native.Nat.{ℕ, zero, suc, _+_, _*_, _<_}
 use mathlib.Core.Path.{_≡_}
 use mathlib.Core.Bool.{Bool, true, false}
@@ -51,7 +51,7 @@ ReadingDetermines = (a b : ℕ) (d e : Decoded) → b < 256 → Reading a b d �
 
 -- what a first byte leaves to its second
 pub data Entry : Type 0 where
-  none : Entry
+  undefined : Entry
   whole : Instruction → Entry
   fixed : ℕ → Instruction → Entry
   nibble : (ℕ → Instruction) → Entry
@@ -67,9 +67,9 @@ pair p low = nibble (λ (high : ℕ). I.MovPairXX p low high)
 abbrev pub branch : Condition → ℕ → Entry
 branch k high = byte (λ (low : ℕ). I.Branch (record { 0 = high * 256 + low }) k)
 
--- the map, sixteen first bytes a line
-unfoldable pub map : List Entry
-map =
+-- the opcode map by first byte: four a line to 4Fh, then a line for each run of one pattern
+unfoldable pub opcodes : List Entry
+opcodes =
     whole I.RrA ∷ whole I.RlA ∷ whole I.RrcA ∷ whole I.RlcA
     ∷ whole (I.MovAM R1R0) ∷ whole (I.MovMA R1R0) ∷ whole (I.MovAM R3R2) ∷ whole (I.MovMA R3R2)
     ∷ whole I.AdcAM ∷ whole I.AddAM ∷ whole I.SbcAM ∷ whole I.SubAM
@@ -83,7 +83,7 @@ map =
     ∷ whole (I.MovRA 4) ∷ whole (I.MovAR 4) ∷ whole I.Clc ∷ whole I.Stc
     ∷ whole I.Ei ∷ whole I.Di ∷ whole I.Ret ∷ whole I.Reti
     ∷ whole I.OutPaA ∷ whole I.IncA ∷ whole (I.InA Pm) ∷ whole (I.InA Ps)
-    ∷ whole (I.InA Pp) ∷ none ∷ whole I.Daa ∷ fixed 0x3e I.Halt
+    ∷ whole (I.InA Pp) ∷ undefined ∷ whole I.Daa ∷ fixed 0x3e I.Halt
     ∷ whole I.TimerOn ∷ whole I.TimerOff ∷ whole I.MovATmrl ∷ whole I.MovATmrh
     ∷ whole I.MovTmrlA ∷ whole I.MovTmrhA ∷ whole I.Nop ∷ whole I.DecA
     ∷ nibble I.AddAX ∷ nibble I.SubAX ∷ nibble I.AndAX ∷ nibble I.XorAX
@@ -111,12 +111,12 @@ map =
 
 -- an entry with its second byte
 abbrev pub complete : Entry → ℕ → Decoded
-complete none b = Unreadable
+complete undefined b = Unreadable
 complete (whole i) b = Read i
 complete (fixed k i) b = pick (eqb b k) (Read i) Unreadable
 complete (nibble f) b = pick (ltb b 16) (Read (f b)) Unreadable
 complete (byte f) b = Read (f b)
 
 unfoldable pub decoded : ℕ → ℕ → Decoded
-unfolding map
-decoded a b = complete (getD map a none) b
+unfolding opcodes
+decoded a b = complete (getD opcodes a undefined) b

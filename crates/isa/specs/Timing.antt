@@ -4,7 +4,7 @@ use Prim.Native.Nat.{ℕ, _+_, _*_, _<_}
 use mathlib.Core.Path.{_≡_}
 use mathlib.Core.List.{List, [], _∷_}
 use lib.ListN.{getD}
-use Rattle.isa.specs.Reading.{Reads, Entry, none, whole, fixed, nibble, byte, map}
+use Rattle.isa.specs.Reading.{Reads, Entry, undefined, whole, fixed, nibble, byte, opcodes}
 use Rattle.isa.specs.declared.Instruction.{Instruction}
 use Rattle.isa.specs.declared.Instruction.the-variants as I
 
@@ -85,14 +85,14 @@ pub record Timed (a : ℕ) (c : Columns) : Type 0 where
 
 -- the entry, computed from the map: the columns do not depend on the second byte
 abbrev pub entryColumns : Entry → Columns
-entryColumns none = columns 0 0
+entryColumns undefined = columns 0 0
 entryColumns (whole i) = columnsOf i
 entryColumns (fixed b i) = columnsOf i
 entryColumns (nibble f) = columnsOf (f 0)
 entryColumns (byte f) = columnsOf (f 0)
 
 unfoldable pub columnsAt : ℕ → Columns
-columnsAt a = entryColumns (getD map a none)
+columnsAt a = entryColumns (getD opcodes a undefined)
 
 abbrev pub lengthOf : ℕ → ℕ
 lengthOf a = columnsAt a .bytes
@@ -110,4 +110,4 @@ entriesOf (e ∷ es) = packed (entryColumns e) ∷ entriesOf es
 
 -- the list
 unfoldable pub entries : List ℕ
-entries = entriesOf map
+entries = entriesOf opcodes

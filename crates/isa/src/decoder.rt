@@ -14,8 +14,7 @@ pub enum Decoded {
     Unreadable,
 }
 
-// The instruction that starts with these two bytes. No helper that returns an enum, and no list: this is the engine's hot path. Its shape
-// is for that too: an arm of its own for each code of a register, and the runs of eight codes by their first five bits.
+// The instruction that starts with these two bytes. No helper that returns an enum, and no list: this is the engine's hot path.
 pub fn decode(first: u8, second: u8) -> Decoded
     ensures { λ r. ⌜ Reading first second r ⌝ }
 {
@@ -39,32 +38,16 @@ pub fn decode(first: u8, second: u8) -> Decoded
         0x0d => Decoded::Read(Instruction::DecM(Pointer::R1R0)),
         0x0e => Decoded::Read(Instruction::IncM(Pointer::R3R2)),
         0x0f => Decoded::Read(Instruction::DecM(Pointer::R3R2)),
-        0x10 => Decoded::Read(Instruction::IncR(0)),
-        0x11 => Decoded::Read(Instruction::DecR(0)),
-        0x12 => Decoded::Read(Instruction::IncR(1)),
-        0x13 => Decoded::Read(Instruction::DecR(1)),
-        0x14 => Decoded::Read(Instruction::IncR(2)),
-        0x15 => Decoded::Read(Instruction::DecR(2)),
-        0x16 => Decoded::Read(Instruction::IncR(3)),
-        0x17 => Decoded::Read(Instruction::DecR(3)),
-        0x18 => Decoded::Read(Instruction::IncR(4)),
-        0x19 => Decoded::Read(Instruction::DecR(4)),
+        0x10 | 0x12 | 0x14 | 0x16 | 0x18 => Decoded::Read(Instruction::IncR(nibble / 2)),
+        0x11 | 0x13 | 0x15 | 0x17 | 0x19 => Decoded::Read(Instruction::DecR(nibble / 2)),
         0x1a => Decoded::Read(Instruction::AndAM),
         0x1b => Decoded::Read(Instruction::XorAM),
         0x1c => Decoded::Read(Instruction::OrAM),
         0x1d => Decoded::Read(Instruction::AndMA),
         0x1e => Decoded::Read(Instruction::XorMA),
         0x1f => Decoded::Read(Instruction::OrMA),
-        0x20 => Decoded::Read(Instruction::MovRA(0)),
-        0x21 => Decoded::Read(Instruction::MovAR(0)),
-        0x22 => Decoded::Read(Instruction::MovRA(1)),
-        0x23 => Decoded::Read(Instruction::MovAR(1)),
-        0x24 => Decoded::Read(Instruction::MovRA(2)),
-        0x25 => Decoded::Read(Instruction::MovAR(2)),
-        0x26 => Decoded::Read(Instruction::MovRA(3)),
-        0x27 => Decoded::Read(Instruction::MovAR(3)),
-        0x28 => Decoded::Read(Instruction::MovRA(4)),
-        0x29 => Decoded::Read(Instruction::MovAR(4)),
+        0x20 | 0x22 | 0x24 | 0x26 | 0x28 => Decoded::Read(Instruction::MovRA(nibble / 2)),
+        0x21 | 0x23 | 0x25 | 0x27 | 0x29 => Decoded::Read(Instruction::MovAR(nibble / 2)),
         0x2a => Decoded::Read(Instruction::Clc),
         0x2b => Decoded::Read(Instruction::Stc),
         0x2c => Decoded::Read(Instruction::Ei),
@@ -150,37 +133,35 @@ pub fn decode(first: u8, second: u8) -> Decoded
         0x4d => Decoded::Read(Instruction::ReadR4A(Page::F)),
         0x4e => Decoded::Read(Instruction::ReadMr0A(Page::Current)),
         0x4f => Decoded::Read(Instruction::ReadMr0A(Page::F)),
-        _ => match first / 8 {
-            0x0a | 0x0b => {
-                if second < 16 {
-                    Decoded::Read(Instruction::MovPairXX(Pointer::R1R0, nibble, second))
-                } else {
-                    Decoded::Unreadable
-                }
+        0x50..=0x5f => {
+            if second < 16 {
+                Decoded::Read(Instruction::MovPairXX(Pointer::R1R0, nibble, second))
+            } else {
+                Decoded::Unreadable
             }
-            0x0c | 0x0d => {
-                if second < 16 {
-                    Decoded::Read(Instruction::MovPairXX(Pointer::R3R2, nibble, second))
-                } else {
-                    Decoded::Unreadable
-                }
+        }
+        0x60..=0x6f => {
+            if second < 16 {
+                Decoded::Read(Instruction::MovPairXX(Pointer::R3R2, nibble, second))
+            } else {
+                Decoded::Unreadable
             }
-            0x0e | 0x0f => Decoded::Read(Instruction::MovAX(nibble)),
-            0x10 => Decoded::Read(Instruction::Branch(ProgramAddress(target), Condition::Ja(0))),
-            0x11 => Decoded::Read(Instruction::Branch(ProgramAddress(target), Condition::Ja(1))),
-            0x12 => Decoded::Read(Instruction::Branch(ProgramAddress(target), Condition::Ja(2))),
-            0x13 => Decoded::Read(Instruction::Branch(ProgramAddress(target), Condition::Ja(3))),
-            0x14 => Decoded::Read(Instruction::Branch(ProgramAddress(target), Condition::JnzR0)),
-            0x15 => Decoded::Read(Instruction::Branch(ProgramAddress(target), Condition::JnzR1)),
-            0x16 => Decoded::Read(Instruction::Branch(ProgramAddress(target), Condition::Jz)),
-            0x17 => Decoded::Read(Instruction::Branch(ProgramAddress(target), Condition::JnzA)),
-            0x18 => Decoded::Read(Instruction::Branch(ProgramAddress(target), Condition::Jc)),
-            0x19 => Decoded::Read(Instruction::Branch(ProgramAddress(target), Condition::Jnc)),
-            0x1a => Decoded::Read(Instruction::Branch(ProgramAddress(target), Condition::Jtmr)),
-            0x1b => Decoded::Read(Instruction::Branch(ProgramAddress(target), Condition::JnzR4)),
-            0x1c | 0x1d => Decoded::Read(Instruction::Jmp(ProgramAddress(address))),
-            0x1e | 0x1f => Decoded::Read(Instruction::Call(ProgramAddress(address))),
-            _ => Decoded::Unreadable,
-        },
+        }
+        0x70..=0x7f => Decoded::Read(Instruction::MovAX(nibble)),
+        0x80..=0x9f => Decoded::Read(Instruction::Branch(
+            ProgramAddress(target),
+            Condition::Ja(first / 8 % 4),
+        )),
+        0xa0..=0xa7 => Decoded::Read(Instruction::Branch(ProgramAddress(target), Condition::JnzR0)),
+        0xa8..=0xaf => Decoded::Read(Instruction::Branch(ProgramAddress(target), Condition::JnzR1)),
+        0xb0..=0xb7 => Decoded::Read(Instruction::Branch(ProgramAddress(target), Condition::Jz)),
+        0xb8..=0xbf => Decoded::Read(Instruction::Branch(ProgramAddress(target), Condition::JnzA)),
+        0xc0..=0xc7 => Decoded::Read(Instruction::Branch(ProgramAddress(target), Condition::Jc)),
+        0xc8..=0xcf => Decoded::Read(Instruction::Branch(ProgramAddress(target), Condition::Jnc)),
+        0xd0..=0xd7 => Decoded::Read(Instruction::Branch(ProgramAddress(target), Condition::Jtmr)),
+        0xd8..=0xdf => Decoded::Read(Instruction::Branch(ProgramAddress(target), Condition::JnzR4)),
+        0xe0..=0xef => Decoded::Read(Instruction::Jmp(ProgramAddress(address))),
+        0xf0..=0xff => Decoded::Read(Instruction::Call(ProgramAddress(address))),
+        _ => Decoded::Unreadable,
     }
 }

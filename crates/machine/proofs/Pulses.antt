@@ -8,7 +8,7 @@ use native.Mathlib.Omega.{arith}
 use lib.Dec.{eqb}
 use borrow.Author.Tests.{lt-ltb, eq-eqb, ne-eqb}
 use Rattle.isa.specs.Choice.{pick}
-use Rattle.isa.specs.Reading.{decoded, map}
+use Rattle.isa.specs.Reading.{decoded, opcodes}
 use Rattle.isa.specs.Timing.{columnsOf, columnsAt, lengthOf, cyclesOf}
 use Rattle.isa.specs.declared.Instruction.the-variants as I
 use Rattle.rom.specs.Fetching.{byteAt}
@@ -85,7 +85,7 @@ module _ (mask memory : List ℕ) (c : Cpu) (w : Waiting 2 c) (at : c .control .
   none-next = rw (w .interrupts) refl
 
   read : instructed mask (decoded 0x2f (byteAt mask (c .control .pc .0 + 1))) (lengthOf 0x2f) (cyclesOf 0x2f) (state c memory) ≡ settled 1 (state c memory) (effect mask I.Reti (state (moved 1 c) memory))
-  unfolding decoded map columnsOf columnsAt
+  unfolding decoded opcodes columnsOf columnsAt
   read = refl
 
   returned : step mask (state c memory) ≡ state back memory

@@ -133,10 +133,14 @@ pub data Input : Type 0 where
   power : Options → List ℕ → Input
   named : Named → Input
 
--- an unknown kind is refused, but a machine out of range comes first: "the lowest number wins"
+-- a kind with this number: 0, what it names is answered; else the number, but a machine out of range comes first: "the lowest number wins"
+abbrev pub byKind : ℕ → Answer → Machine → Answer
+byKind n known m = pick (eqb n 0) known (answered (pick (valid (stateOf m)) n 5) m m)
+
+-- an unknown kind names nothing that could be done
 abbrev pub namedAnswer : List ℕ → Named → Machine → Answer
-namedAnswer mask (Known e) m = applied mask e m
-namedAnswer mask Unknown m = answered (pick (valid (stateOf m)) (kindRefusal Unknown) 5) m m
+namedAnswer mask (Known e) m = byKind (kindRefusal (Known e)) (applied mask e m) m
+namedAnswer mask Unknown m = byKind (kindRefusal Unknown) (answered 0 m m) m
 
 abbrev pub answerTo : List ℕ → Input → Machine → Answer
 answerTo mask (power options image) m = powerOn options image m

@@ -13,7 +13,6 @@ use Rattle.cpu.specs.declared.Pins.{Pins}
 use Rattle.cpu.specs.declared.Options.{Options}
 use Rattle.machine.specs.declared.Machine.{Machine}
 use Rattle.machine.specs.declared.Answer.{Answer}
-use Rattle.machine.specs.declared.Outcome.{Outcome}
 
 -- "RES sets PC, timer, TF, CF, enable flag, held edge, level, stack, halted and fault to 0, stops the timer, sets PA 15, sound off and
 -- once": all but what it keeps
@@ -66,10 +65,6 @@ powerRefusal options image = pick (eqb (length image) 166) (pick (nibbles image)
 -- "Nothing is written, the machine returns as handed in"
 abbrev pub answered : ℕ → Machine → Machine → Answer
 answered n new old = record { refusal = n; machine = pick (eqb n 0) new old }
-
--- the answer that a call leaves where data memory is lent to it: what it gives back, and what the memory then holds
-abbrev pub leaving : Outcome → List ℕ → Answer
-leaving r memory = record { refusal = r .refusal; machine = record { cpu = r .cpu; memory = memory; gap = r .gap } }
 
 unfoldable pub powerOn : Options → List ℕ → Machine → Answer
 powerOn options image m = answered (powerRefusal options image) (powered options image) m

@@ -1,4 +1,4 @@
-// The events other than power-on, on a machine whose data memory is lent and on one by value.
+// The events other than power-on: methods that take the machine and hand it back with their answer.
 ghost use mathlib.Core.Path.{_≡_};
 ghost use Prim.Native.Nat.{ℕ};
 ghost use lib.ListN.{length};
@@ -6,24 +6,13 @@ ghost use mathlib.Core.Bool.{true};
 ghost use mathlib.Core.List.{[], List};
 ghost use Rattle.cpu.specs.State.{state};
 ghost use Rattle.machine.specs.Machine.{machineOf};
-ghost use Rattle.machine.specs.Power.{leaving};
 ghost use Rattle.machine.specs.Events.{applied, clocked, counting, eventOf, fallen, happened, interrupted, maskOk, namedAnswer, pinned, refusalOf, stepping, valuesOk, wakes, withInt, withPorts, woken};
 use crate::Answer;
 use crate::Machine;
-use crate::Outcome;
 use crate::power::reset_cpu;
 use crate::ranges::both;
 use crate::ranges::sound;
-use cpu::Control;
 use cpu::Cpu;
-use cpu::Interrupts;
-use cpu::Options;
-use cpu::Outputs;
-use cpu::Pins;
-use cpu::Registers;
-use cpu::Stack;
-use cpu::Status;
-use cpu::Timer;
 use datapath::timer::advance;
 
 // Kinds 2 to 6 of document 01's records.
@@ -203,193 +192,93 @@ pub fn happened(cpu: Cpu, event: Event, mask: &[u8], memory: &mut [u8; 160], gap
     }
 }
 
-// What an event other than Run makes of the processor, all that it changes.
+// What pins, INT and TMCLK make of the processor, all that they change.
 fn changed(cpu: Cpu, event: Event) -> Cpu
-    ensures { λ r. ⌜ ((mask memory : List ℕ) (gap : ℕ) → ((n : ℕ) → event ≡ Event.Run n → ⊥) → machineOf (state r memory) gap ≡ happened mask event (machineOf (state cpu memory) gap)) ⌝ }
+    ensures { λ r. ⌜ ((mask memory : List ℕ) (gap : ℕ) → ((n : ℕ) → event ≡ Event.Run n → ⊥) → (event ≡ Event.Res → ⊥) → machineOf (state r memory) gap ≡ happened mask event (machineOf (state cpu memory) gap)) ⌝ }
 {
     match event {
-        Event::Run(_) => cpu,
         Event::Pins(pm, ps, pp) => pinned(cpu, pm, ps, pp),
         Event::Int(level) => interrupted(cpu, level),
         Event::Tmclk(n) => counting(cpu, n),
-        Event::Res => reset_cpu(cpu),
-    }
-}
-
-// The same processor. Put together anew, its fields go through the steps in registers one by one (docs/PERFORMANCE.md).
-fn apart(c: Cpu) -> Cpu
-    ensures { λ r. ⌜ r ≡ c ⌝ }
-{
-    let control = c.control;
-    let pc = control.pc;
-    let stack = c.stack;
-    let address = stack.address;
-    Cpu {
-        registers: Registers {
-            acc: c.registers.acc,
-            r0: c.registers.r0,
-            r1: c.registers.r1,
-            r2: c.registers.r2,
-            r3: c.registers.r3,
-            r4: c.registers.r4,
-        },
-        control: Control {
-            pc,
-            cf: control.cf,
-            tf: control.tf,
-        },
-        timer: Timer {
-            count: c.timer.count,
-            running: c.timer.running,
-        },
-        interrupts: Interrupts {
-            enabled: c.interrupts.enabled,
-            held: c.interrupts.held,
-            level: c.interrupts.level,
-        },
-        stack: Stack {
-            address,
-            carry: stack.carry,
-        },
-        status: Status {
-            halted: c.status.halted,
-            fault: c.status.fault,
-        },
-        outputs: Outputs {
-            pa: c.outputs.pa,
-            channel: c.outputs.channel,
-            mode: c.outputs.mode,
-        },
-        pins: Pins {
-            pm: c.pins.pm,
-            ps: c.pins.ps,
-            pp: c.pins.pp,
-            int: c.pins.int,
-        },
-        options: Options {
-            rate: c.options.rate,
-            commons: c.options.commons,
-            pm: c.options.pm,
-            ps: c.options.ps,
-            pp: c.options.pp,
-        },
-        cycles: c.cycles,
-    }
-}
-
-// Run. It is judged where the machine stands.
-fn run_lent(cpu: Cpu, gap: u16, n: u16, mask: &[u8], memory: &mut [u8; 160]) -> Outcome
-    requires { ⌜ length (now memory) ≡ 160 ⌝ }
-    ensures { λ r. ⌜ leaving r (now (memory .exit)) ≡ applied (now (mask .entry)) (Event.Run n) (machineOf (state cpu (now (memory .entry))) gap) ⌝ }
-{
-    let judged = run_refusal(cpu, memory, mask);
-    if judged != 0 {
-        return Outcome {
-            cpu,
-            gap,
-            refusal: judged,
-        };
-    }
-    let mut count = gap;
-    let first = apart(cpu);
-    let next = first.run(mask, memory, n, &mut count);
-    Outcome {
-        cpu: next,
-        gap: count,
-        refusal: 0,
-    }
-}
-
-// Any other event: it changes the processor alone.
-fn change_lent(cpu: Cpu, gap: u16, event: Event, memory: &[u8; 160]) -> Outcome
-    requires { ⌜ length (now memory) ≡ 160 ⌝ }
-    ensures { λ r. ⌜ ((mask : List ℕ) → ((n : ℕ) → event ≡ Event.Run n → ⊥) → leaving r (now (memory .entry)) ≡ applied mask event (machineOf (state cpu (now (memory .entry))) gap)) ⌝ }
-{
-    let refusal = refusal(cpu, memory, event);
-    if refusal != 0 {
-        return Outcome { cpu, gap, refusal };
-    }
-    let next = changed(cpu, event);
-    Outcome {
-        cpu: next,
-        gap,
-        refusal: 0,
-    }
-}
-
-// An event, where data memory is lent.
-fn apply_lent(cpu: Cpu, gap: u16, event: Event, mask: &[u8], memory: &mut [u8; 160]) -> Outcome
-    requires { ⌜ length (now memory) ≡ 160 ⌝ }
-    ensures { λ r. ⌜ leaving r (now (memory .exit)) ≡ applied (now (mask .entry)) event (machineOf (state cpu (now (memory .entry))) gap) ⌝ }
-{
-    match event {
-        Event::Run(n) => run_lent(cpu, gap, n, mask, memory),
-        _ => change_lent(cpu, gap, event, memory),
-    }
-}
-
-// A kind that names no event is refused with 7, but a machine out of range comes first.
-fn unknown_lent(cpu: Cpu, gap: u16, memory: &[u8; 160]) -> Outcome
-    requires { ⌜ length (now memory) ≡ 160 ⌝ }
-    ensures { λ r. ⌜ leaving r (now (memory .entry)) ≡ namedAnswer [] Named.Unknown (machineOf (state cpu (now (memory .entry))) gap) ⌝ }
-{
-    if sound(cpu, memory) {
-        return Outcome {
-            cpu,
-            gap,
-            refusal: 7,
-        };
-    }
-    Outcome {
-        cpu,
-        gap,
-        refusal: 5,
-    }
-}
-
-// What a kind names, where data memory is lent: its event, or the refusal of an unknown kind.
-pub fn named_lent(cpu: Cpu, gap: u16, named: Named, mask: &[u8], memory: &mut [u8; 160]) -> Outcome
-    requires { ⌜ length (now memory) ≡ 160 ⌝ }
-    ensures { λ r. ⌜ leaving r (now (memory .exit)) ≡ namedAnswer (now (mask .entry)) named (machineOf (state cpu (now (memory .entry))) gap) ⌝ }
-{
-    match named {
-        Named::Known(event) => apply_lent(cpu, gap, event, mask, memory),
-        Named::Unknown => unknown_lent(cpu, gap, memory),
+        _ => cpu,
     }
 }
 
 impl Machine {
+    // Run, on the machine's own memory. The machine is put together anew behind it: a store to each field makes the loop a third longer
+    // (docs/PERFORMANCE.md).
+    fn run(mut self, n: u16, mask: &[u8]) -> Answer
+        ensures { λ r. ⌜ r ≡ applied (now (mask .entry)) (Event.Run n) self ⌝ }
+    {
+        let judged = run_refusal(self.cpu, &self.memory, mask);
+        if judged != 0 {
+            return Answer {
+                refusal: judged,
+                machine: self,
+            };
+        }
+        let mut gap = self.gap;
+        let cpu = self.cpu.run(mask, &mut self.memory, n, &mut gap);
+        let memory = self.memory;
+        Answer {
+            refusal: 0,
+            machine: Machine { cpu, memory, gap },
+        }
+    }
+
+    // Pins, INT or TMCLK: the processor alone changes.
+    fn change(mut self, event: Event) -> Answer
+        ensures { λ r. ⌜ ((mask : List ℕ) → ((n : ℕ) → event ≡ Event.Run n → ⊥) → (event ≡ Event.Res → ⊥) → r ≡ applied mask event self) ⌝ }
+    {
+        let refusal = refusal(self.cpu, &self.memory, event);
+        if refusal != 0 {
+            return Answer {
+                refusal,
+                machine: self,
+            };
+        }
+        let next = changed(self.cpu, event);
+        self.cpu = next;
+        Answer {
+            refusal: 0,
+            machine: self,
+        }
+    }
+
     // An event. A refused one leaves the machine as it was.
-    pub fn apply(self, event: Event, mask: &[u8]) -> Answer
+    pub fn apply(mut self, event: Event, mask: &[u8]) -> Answer
         ensures { λ r. ⌜ r ≡ applied (now (mask .entry)) event self ⌝ }
     {
-        let mut memory = self.memory;
-        let out = apply_lent(self.cpu, self.gap, event, mask, &mut memory);
-        let cpu = out.cpu;
+        match event {
+            Event::Run(n) => self.run(n, mask),
+            Event::Res => self.reset(),
+            _ => self.change(event),
+        }
+    }
+
+    // A kind that names no event is refused with 7, but a machine out of range comes first.
+    fn unknown(self) -> Answer
+        ensures { λ r. ⌜ r ≡ namedAnswer [] Named.Unknown self ⌝ }
+    {
+        if sound(self.cpu, &self.memory) {
+            return Answer {
+                refusal: 7,
+                machine: self,
+            };
+        }
         Answer {
-            refusal: out.refusal,
-            machine: Machine {
-                cpu,
-                memory,
-                gap: out.gap,
-            },
+            refusal: 5,
+            machine: self,
         }
     }
 
     // What a kind names: its event, or the refusal of an unknown kind.
-    pub fn apply_named(self, named: Named, mask: &[u8]) -> Answer
+    pub fn apply_named(mut self, named: Named, mask: &[u8]) -> Answer
         ensures { λ r. ⌜ r ≡ namedAnswer (now (mask .entry)) named self ⌝ }
     {
-        let mut memory = self.memory;
-        let out = named_lent(self.cpu, self.gap, named, mask, &mut memory);
-        let cpu = out.cpu;
-        Answer {
-            refusal: out.refusal,
-            machine: Machine {
-                cpu,
-                memory,
-                gap: out.gap,
-            },
+        match named {
+            Named::Known(event) => self.apply(event, mask),
+            Named::Unknown => self.unknown(),
         }
     }
 

@@ -21,11 +21,3 @@ pub struct Answer {
     pub machine: Machine,
     pub refusal: u8,
 }
-
-// What an event gives back where the caller lends data memory: the rest of the machine, and the refusal number. A refused one leaves both as they
-// were.
-pub struct Outcome {
-    pub cpu: Cpu,
-    pub gap: u16,
-    pub refusal: u8,
-}

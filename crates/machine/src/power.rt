@@ -4,11 +4,10 @@ ghost use lib.ListN.{drop, length, replicate};
 ghost use Prim.Native.Nat.{_≤_};
 ghost use Rattle.cpu.specs.State.{state};
 ghost use Rattle.machine.specs.Machine.{machineOf};
-ghost use Rattle.machine.specs.Power.{afterRes, blank, leaving, powerOn, powerRefusal, powered};
+ghost use Rattle.machine.specs.Power.{afterRes, blank, powerOn, powerRefusal, powered};
 ghost use Rattle.machine.specs.Events.{resetting};
 use crate::Answer;
 use crate::Machine;
-use crate::Outcome;
 use crate::ranges::all_nibbles;
 use crate::ranges::options_ok;
 use crate::ranges::sound;
@@ -124,28 +123,6 @@ fn powered(options: Options, image: &[u8], memory: &mut [u8; 160]) -> Cpu
     after_res(registers, pins, options, 0)
 }
 
-// Power-on, where data memory is lent.
-pub fn power_lent(
-    cpu: Cpu,
-    gap: u16,
-    options: Options,
-    image: &[u8],
-    memory: &mut [u8; 160],
-) -> Outcome
-    ensures { λ r. ⌜ leaving r (now (memory .exit)) ≡ powerOn options (now (image .entry)) (machineOf (state cpu (now (memory .entry))) gap) ⌝ }
-{
-    let refusal = power_refusal(options, image);
-    if refusal != 0 {
-        return Outcome { cpu, gap, refusal };
-    }
-    let next = powered(options, image, memory);
-    Outcome {
-        cpu: next,
-        gap: 0,
-        refusal: 0,
-    }
-}
-
 // The machine that a power-on makes of options and one nibble that fills the image, where data memory and count are lent.
 pub fn filled(options: Options, x: u8, memory: &mut [u8; 160], gap: &mut u16) -> Cpu
     ensures { λ r. ⌜ machineOf (state r (now (memory .exit))) (now (gap .exit)) ≡ powered options (replicate 166 x) ⌝ }
@@ -205,19 +182,22 @@ impl Machine {
     }
 
     // Power-on. A refused one leaves the machine as it was.
-    pub fn power_on(self, options: Options, image: &[u8]) -> Answer
+    pub fn power_on(mut self, options: Options, image: &[u8]) -> Answer
         ensures { λ r. ⌜ r ≡ powerOn options (now (image .entry)) self ⌝ }
     {
-        let mut memory = self.memory;
-        let out = power_lent(self.cpu, self.gap, options, image, &mut memory);
-        let cpu = out.cpu;
+        let refusal = power_refusal(options, image);
+        if refusal != 0 {
+            return Answer {
+                refusal,
+                machine: self,
+            };
+        }
+        let next = powered(options, image, &mut self.memory);
+        self.cpu = next;
+        self.gap = 0;
         Answer {
-            refusal: out.refusal,
-            machine: Machine {
-                cpu,
-                memory,
-                gap: out.gap,
-            },
+            refusal: 0,
+            machine: self,
         }
     }
 

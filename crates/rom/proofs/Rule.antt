@@ -6,7 +6,7 @@ use native.Mathlib.Omega.{arith}
 use mathlib.Core.Path.{_≡_, refl, sym, ap, _∙_}
 use mathlib.Core.List.{List, [], _∷_}
 use lib.ListN.{getD}
-use Rattle.isa.specs.Reading.{map}
+use Rattle.isa.specs.Reading.{opcodes}
 use Rattle.isa.specs.Timing.{columnsOf, entries}
 
 -- so many first bytes in a row that have one entry
@@ -39,7 +39,7 @@ listed [] = []
 listed (r ∷ rs) = repeated (r .count) (r .entry) (listed rs)
 
 tested : listed runs ≡ entries
-unfolding entries columnsOf map
+unfolding entries columnsOf opcodes
 tested = refl
 
 -- run k, and where it starts

@@ -475,9 +475,11 @@ pub const RES: u16 = 6;
 /// What the checker says of a mask.
 #[derive(Clone, Copy, PartialEq, Eq, Hash, Debug)]
 pub enum Verdict {
-    /// No list of events makes it fault.
+    /// From a power-on that is accepted, no list of events faults in which each Run
+    /// has this mask.
     Passed,
-    /// The lowest address, then level, where it may fault.
+    /// The lowest address, then level, where it may fault. Every branch is taken both
+    /// ways and an enabled interrupt at any time, so such a mask need not fault.
     Failed {
         /// 1 to 3, as in [`Status::fault`].
         fault: u8,
@@ -885,9 +887,9 @@ pub fn pairs(list: &[u8]) -> impl Iterator<Item = Pair> + '_ {
 ///
 /// [`Bound::Cycles`] is the largest total over all chains from the pair to a
 /// return. A machine at such a pair, not halted or faulted, has come to level 0
-/// once its steps have spent that many cycles, whatever happens to it but RES and
-/// power-on. An edge that is held then, with interrupts enabled, is taken by the
-/// next step.
+/// once its steps have spent that many cycles, under any events but RES and
+/// power-on, each Run with this mask. An edge that is held then, with interrupts
+/// enabled, is taken by the next step.
 ///
 /// The call takes up to 337 KB of stack, more than a thread started with a small
 /// one may have.

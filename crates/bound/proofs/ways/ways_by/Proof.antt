@@ -7,7 +7,7 @@ use native.Mathlib.Omega.{arith}
 use lib.Dec.{eqb}
 use borrow.Author.Needs.{needs}
 use Rattle.isa.specs.Choice.{pick}
-use Rattle.isa.specs.Reading.{map}
+use Rattle.isa.specs.Reading.{opcodes}
 use Rattle.isa.specs.Views.{view}
 use Rattle.rom.specs.Fetching.{movedBy}
 use Rattle.checker.specs.Marks.{flowOf}
@@ -28,7 +28,7 @@ or-ei k = pick (eqb k 0x2c) Enable On
 
 -- a branch
 returns : tie.Need-returns
-unfolding map flowOf view
+unfolding opcodes flowOf view
 returns c =
     let a = c .before .before .before .args in
     let next = c .moved in
@@ -41,7 +41,7 @@ returns c =
 
 -- JMP
 returns-2 : tie.Need-returns-2
-unfolding map flowOf view
+unfolding opcodes flowOf view
 returns-2 c =
     let a = c .before .before .before .args in
     let m = movedBy (a .timing / 16) (a .address) in
@@ -52,7 +52,7 @@ returns-2 c =
 
 -- CALL
 returns-3 : tie.Need-returns-3
-unfolding map flowOf view
+unfolding opcodes flowOf view
 returns-3 c =
     let a = c .before .before .before .args in
     goes-out (a .first) (a .second) (movedBy (a .timing / 16) (a .address)) (Sub (record { 0 = (a .first - 0xf0) * 256 + a .second })) (omega arith) (λ h. omega arith) refl
@@ -60,7 +60,7 @@ returns-3 c =
 
 -- 00h to 2Dh: EI goes on too
 returns-4 : tie.Need-returns-4
-unfolding map flowOf view
+unfolding opcodes flowOf view
 returns-4 c =
     let a = c .before .before .before .before .args in
     by-flow (a .first) (a .second) (movedBy (a .timing / 16) (a .address)) (One (c .moved2 .result)) (or-ei (a .first - 0)) (omega arith) (λ h. omega arith)
@@ -72,7 +72,7 @@ returns-4 c =
     on false m = refl
 
 pub ways-by-spec : {M : Type 1} → statement M
-unfolding map flowOf view
+unfolding opcodes flowOf view
 ways-by-spec =
     tie.close
     (tie.spec

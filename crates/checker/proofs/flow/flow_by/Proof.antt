@@ -3,7 +3,7 @@
 use Prim.Native.Nat.{ℕ, _+_, _-_, _*_, _%_}
 use mathlib.Core.Path.{_≡_, refl, ap, _∙_}
 use native.Mathlib.Omega.{arith}
-use Rattle.isa.specs.Reading.{map}
+use Rattle.isa.specs.Reading.{opcodes}
 use Rattle.isa.specs.Views.{view}
 use Rattle.checker.specs.Marks.{flowOf}
 use Rattle.checker.specs.declared.flow.Flow.{Flow}
@@ -18,7 +18,7 @@ all f k = f
 
 -- a branch
 returns : tie.Need-returns
-unfolding map flowOf view
+unfolding opcodes flowOf view
 returns c =
     let a = c .before .before .args in
     let e : a .first % 8 ≡ (a .first - 0x80) % 8 = omega arith in
@@ -27,7 +27,7 @@ returns c =
 
 -- JMP
 returns-2 : tie.Need-returns-2
-unfolding map flowOf view
+unfolding opcodes flowOf view
 returns-2 c =
     let a = c .before .before .before .args in
     let e : a .first % 16 ≡ a .first - 0xe0 = omega arith in
@@ -36,7 +36,7 @@ returns-2 c =
 
 -- CALL
 returns-3 : tie.Need-returns-3
-unfolding map flowOf view
+unfolding opcodes flowOf view
 returns-3 c =
     let a = c .before .before .before .args in
     let e : a .first % 16 ≡ a .first - 0xf0 = omega arith in
@@ -44,7 +44,7 @@ returns-3 c =
     ∙ in-run 0xf0 0x10 (λ (k : ℕ). Sub (record { 0 = k * 256 + a .second })) (a .first) (a .second) refl (omega arith) (omega arith)
 
 pub flow-by-spec : {M : Type 1} → statement M
-unfolding map flowOf view
+unfolding opcodes flowOf view
 flow-by-spec =
     tie.close
     (tie.spec

@@ -12,7 +12,7 @@ use types.Run.{OneOf}
 use borrow.Author.Needs.{needs}
 use borrow.Author.Tests.{lt-ltb, eqb-true, ltb-true, ltb-false}
 use Rattle.isa.specs.Code.{bytesOf, inRange, leading, bitInRange}
-use Rattle.isa.specs.Reading.{decoded, map}
+use Rattle.isa.specs.Reading.{decoded, opcodes}
 use Rattle.isa.specs.declared.Pointer.the-variants.{R1R0, R3R2}
 use Rattle.isa.specs.declared.Instruction.the-variants as I
 use Rattle.isa.specs.declared.Condition.the-variants.{Ja, JnzR0, JnzR1, JnzR4, Jz, JnzA, Jc, Jnc, Jtmr}
@@ -28,10 +28,10 @@ arms =
     ∷ (0x47 ∷ []) ∷ (0x46 ∷ []) ∷ (0x45 ∷ []) ∷ (0x44 ∷ []) ∷ (0x43 ∷ []) ∷ (0x42 ∷ []) ∷ (0x41 ∷ []) ∷ (0x40 ∷ [])
     ∷ (0x3f ∷ []) ∷ (0x3e ∷ []) ∷ (0x3d ∷ []) ∷ (0x3c ∷ []) ∷ (0x3b ∷ []) ∷ (0x3a ∷ []) ∷ (0x39 ∷ []) ∷ (0x38 ∷ [])
     ∷ (0x37 ∷ []) ∷ (0x36 ∷ []) ∷ (0x34 ∷ []) ∷ (0x33 ∷ []) ∷ (0x32 ∷ []) ∷ (0x31 ∷ []) ∷ (0x30 ∷ [])
-    ∷ (0x2f ∷ []) ∷ (0x2e ∷ []) ∷ (0x2d ∷ []) ∷ (0x2c ∷ []) ∷ (0x2b ∷ []) ∷ (0x2a ∷ []) ∷ (0x29 ∷ []) ∷ (0x28 ∷ [])
-    ∷ (0x27 ∷ []) ∷ (0x26 ∷ []) ∷ (0x25 ∷ []) ∷ (0x24 ∷ []) ∷ (0x23 ∷ []) ∷ (0x22 ∷ []) ∷ (0x21 ∷ []) ∷ (0x20 ∷ [])
-    ∷ (0x1f ∷ []) ∷ (0x1e ∷ []) ∷ (0x1d ∷ []) ∷ (0x1c ∷ []) ∷ (0x1b ∷ []) ∷ (0x1a ∷ []) ∷ (0x19 ∷ []) ∷ (0x18 ∷ [])
-    ∷ (0x17 ∷ []) ∷ (0x16 ∷ []) ∷ (0x15 ∷ []) ∷ (0x14 ∷ []) ∷ (0x13 ∷ []) ∷ (0x12 ∷ []) ∷ (0x11 ∷ []) ∷ (0x10 ∷ [])
+    ∷ (0x2f ∷ []) ∷ (0x2e ∷ []) ∷ (0x2d ∷ []) ∷ (0x2c ∷ []) ∷ (0x2b ∷ []) ∷ (0x2a ∷ [])
+    ∷ (0x21 ∷ 0x23 ∷ 0x25 ∷ 0x27 ∷ 0x29 ∷ []) ∷ (0x20 ∷ 0x22 ∷ 0x24 ∷ 0x26 ∷ 0x28 ∷ [])
+    ∷ (0x1f ∷ []) ∷ (0x1e ∷ []) ∷ (0x1d ∷ []) ∷ (0x1c ∷ []) ∷ (0x1b ∷ []) ∷ (0x1a ∷ [])
+    ∷ (0x11 ∷ 0x13 ∷ 0x15 ∷ 0x17 ∷ 0x19 ∷ []) ∷ (0x10 ∷ 0x12 ∷ 0x14 ∷ 0x16 ∷ 0x18 ∷ [])
     ∷ (0x0f ∷ []) ∷ (0x0e ∷ []) ∷ (0x0d ∷ []) ∷ (0x0c ∷ []) ∷ (0x0b ∷ []) ∷ (0x0a ∷ []) ∷ (0x09 ∷ []) ∷ (0x08 ∷ [])
     ∷ (0x07 ∷ []) ∷ (0x06 ∷ []) ∷ (0x05 ∷ []) ∷ (0x04 ∷ []) ∷ (0x03 ∷ []) ∷ (0x02 ∷ []) ∷ (0x01 ∷ []) ∷ (0x00 ∷ []) ∷ []
 
@@ -41,32 +41,24 @@ default a h n =
     let t : anyOf arms a || eqb a 0x35 ≡ true = below-at 0x50 (λ (k : ℕ). anyOf arms k || eqb k 0x35) refl a h in
     eqb-true a 0x35 (rw (none-of arms a n) at t)
 
--- the branches' first five bits, last first: what is above them and none of them is JMP or CALL
-branches : List (List ℕ)
-branches =
-    (0x1b ∷ []) ∷ (0x1a ∷ []) ∷ (0x19 ∷ []) ∷ (0x18 ∷ []) ∷ (0x17 ∷ []) ∷ (0x16 ∷ []) ∷ (0x15 ∷ []) ∷ (0x14 ∷ [])
-    ∷ (0x13 ∷ []) ∷ (0x12 ∷ []) ∷ (0x11 ∷ []) ∷ (0x10 ∷ []) ∷ []
+below-54 : {a : ℕ} → a < 0x36 → a < 0x50
+below-54 h = omega arith
 
-above : (k : ℕ) → 0x10 ≤ k → NoneOf branches k → 0x1c ≤ k
-unfolding branches
-above k h n = go (ltb k 0x1c) refl
+-- so what is above 0x35 is above them all
+above : (a : ℕ) → 0x36 ≤ a → NoneOf arms a → 0x50 ≤ a
+above a h n = go (ltb a 0x50) refl
   where
-    go : (t : Bool) → ltb k 0x1c ≡ t → 0x1c ≤ k
-    go true e =
-        let t : anyOf branches k || ltb k 0x10 ≡ true = below-at 0x1c (λ (k : ℕ). anyOf branches k || ltb k 0x10) refl k (ltb-true k 0x1c e) in
-        absurd (omega (arith, ltb-true k 0x10 (rw (none-of branches k n) at t)))
-    go false e = ltb-false k 0x1c e
+    go : (t : Bool) → ltb a 0x50 ≡ t → 0x50 ≤ a
+    go true e = absurd (omega (arith, default a (ltb-true a 0x50 e) n))
+    go false e = ltb-false a 0x50 e
 
--- two runs of eight are one of sixteen
-sixteen : (x a : ℕ) → x % 2 ≡ 0 → x ≤ a / 8 → a / 8 < x + 2 → a / 16 * 16 ≡ 8 * x
-sixteen x a e l u = omega arith
-
-under : {a : ℕ} → a < 256 → a / 8 < 0x20
-under h = omega arith
+-- the five codes of a register's number in bits 1 to 3
+registers : (x a : ℕ) → x % 16 < 2 → OneOf (x ∷ (x + 2) ∷ (x + 4) ∷ (x + 6) ∷ (x + 8) ∷ []) a → (a % 16 / 2 < 5) × (a ≡ x + 2 * (a % 16 / 2))
+registers x a h = ⊎-elim (λ w. omega arith) (⊎-elim (λ w. omega arith) (⊎-elim (λ w. omega arith) (⊎-elim (λ w. omega arith) (λ w. omega arith))))
 
 -- the needs in the order of the code: first the two sums, then the arms' answers
 pub decode-spec : {M : Type 1} → statement M
-unfolding bytesOf inRange decoded map arms branches leading bitInRange
+unfolding bytesOf inRange decoded opcodes arms leading bitInRange
 decode-spec =
     tie.close
     (tie.spec
@@ -103,187 +95,147 @@ decode-spec =
     (λ c. one-byte refl refl (c .match .keys15))
     -- DEC [R3R2]
     (λ c. one-byte refl refl (c .match .keys16))
-    -- INC R0
-    (λ c. one-byte refl refl (c .match .keys17))
-    -- DEC R0
-    (λ c. one-byte refl refl (c .match .keys18))
-    -- INC R1
-    (λ c. one-byte refl refl (c .match .keys19))
-    -- DEC R1
-    (λ c. one-byte refl refl (c .match .keys20))
-    -- INC R2
-    (λ c. one-byte refl refl (c .match .keys21))
-    -- DEC R2
-    (λ c. one-byte refl refl (c .match .keys22))
-    -- INC R3
-    (λ c. one-byte refl refl (c .match .keys23))
-    -- DEC R3
-    (λ c. one-byte refl refl (c .match .keys24))
-    -- INC R4
-    (λ c. one-byte refl refl (c .match .keys25))
-    -- DEC R4
-    (λ c. one-byte refl refl (c .match .keys26))
+    -- INC Rn
+    (λ c. to-register I.IncR 0x10 _ _ refl refl (registers 0x10 _ (omega arith) (c .match .keys17)))
+    -- DEC Rn
+    (λ c. to-register I.DecR 0x11 _ _ refl refl (registers 0x11 _ (omega arith) (c .match .keys18)))
     -- AND A,[R1R0]
-    (λ c. one-byte refl refl (c .match .keys27))
+    (λ c. one-byte refl refl (c .match .keys19))
     -- XOR A,[R1R0]
-    (λ c. one-byte refl refl (c .match .keys28))
+    (λ c. one-byte refl refl (c .match .keys20))
     -- OR A,[R1R0]
-    (λ c. one-byte refl refl (c .match .keys29))
+    (λ c. one-byte refl refl (c .match .keys21))
     -- AND [R1R0],A
-    (λ c. one-byte refl refl (c .match .keys30))
+    (λ c. one-byte refl refl (c .match .keys22))
     -- XOR [R1R0],A
-    (λ c. one-byte refl refl (c .match .keys31))
+    (λ c. one-byte refl refl (c .match .keys23))
     -- OR [R1R0],A
-    (λ c. one-byte refl refl (c .match .keys32))
-    -- MOV R0,A
-    (λ c. one-byte refl refl (c .match .keys33))
-    -- MOV A,R0
-    (λ c. one-byte refl refl (c .match .keys34))
-    -- MOV R1,A
-    (λ c. one-byte refl refl (c .match .keys35))
-    -- MOV A,R1
-    (λ c. one-byte refl refl (c .match .keys36))
-    -- MOV R2,A
-    (λ c. one-byte refl refl (c .match .keys37))
-    -- MOV A,R2
-    (λ c. one-byte refl refl (c .match .keys38))
-    -- MOV R3,A
-    (λ c. one-byte refl refl (c .match .keys39))
-    -- MOV A,R3
-    (λ c. one-byte refl refl (c .match .keys40))
-    -- MOV R4,A
-    (λ c. one-byte refl refl (c .match .keys41))
-    -- MOV A,R4
-    (λ c. one-byte refl refl (c .match .keys42))
+    (λ c. one-byte refl refl (c .match .keys24))
+    -- MOV Rn,A
+    (λ c. to-register I.MovRA 0x20 _ _ refl refl (registers 0x20 _ (omega arith) (c .match .keys25)))
+    -- MOV A,Rn
+    (λ c. to-register I.MovAR 0x21 _ _ refl refl (registers 0x21 _ (omega arith) (c .match .keys26)))
     -- CLC
-    (λ c. one-byte refl refl (c .match .keys43))
+    (λ c. one-byte refl refl (c .match .keys27))
     -- STC
-    (λ c. one-byte refl refl (c .match .keys44))
+    (λ c. one-byte refl refl (c .match .keys28))
     -- EI
-    (λ c. one-byte refl refl (c .match .keys45))
+    (λ c. one-byte refl refl (c .match .keys29))
     -- DI
-    (λ c. one-byte refl refl (c .match .keys46))
+    (λ c. one-byte refl refl (c .match .keys30))
     -- RET
-    (λ c. one-byte refl refl (c .match .keys47))
+    (λ c. one-byte refl refl (c .match .keys31))
     -- RETI
-    (λ c. one-byte refl refl (c .match .keys48))
+    (λ c. one-byte refl refl (c .match .keys32))
     -- OUT PA,A
-    (λ c. one-byte refl refl (c .match .keys49))
+    (λ c. one-byte refl refl (c .match .keys33))
     -- INC A
-    (λ c. one-byte refl refl (c .match .keys50))
+    (λ c. one-byte refl refl (c .match .keys34))
     -- IN A,PM
-    (λ c. one-byte refl refl (c .match .keys51))
+    (λ c. one-byte refl refl (c .match .keys35))
     -- IN A,PS
-    (λ c. one-byte refl refl (c .match .keys52))
+    (λ c. one-byte refl refl (c .match .keys36))
     -- IN A,PP
-    (λ c. one-byte refl refl (c .match .keys53))
+    (λ c. one-byte refl refl (c .match .keys37))
     -- DAA
-    (λ c. one-byte refl refl (c .match .keys54))
+    (λ c. one-byte refl refl (c .match .keys38))
     -- HALT
-    (λ c. two-byte refl refl (c .before .match .keys55) (c .if1 .taken))
+    (λ c. two-byte refl refl (c .before .match .keys39) (c .if1 .taken))
     -- HALT, another second byte
-    (λ c. other-halt _ _ (c .before .match .keys55) (c .if1 .left))
+    (λ c. other-halt _ _ (c .before .match .keys39) (c .if1 .left))
     -- TIMER ON
-    (λ c. one-byte refl refl (c .match .keys56))
+    (λ c. one-byte refl refl (c .match .keys40))
     -- TIMER OFF
-    (λ c. one-byte refl refl (c .match .keys57))
+    (λ c. one-byte refl refl (c .match .keys41))
     -- MOV A,TMRL
-    (λ c. one-byte refl refl (c .match .keys58))
+    (λ c. one-byte refl refl (c .match .keys42))
     -- MOV A,TMRH
-    (λ c. one-byte refl refl (c .match .keys59))
+    (λ c. one-byte refl refl (c .match .keys43))
     -- MOV TMRL,A
-    (λ c. one-byte refl refl (c .match .keys60))
+    (λ c. one-byte refl refl (c .match .keys44))
     -- MOV TMRH,A
-    (λ c. one-byte refl refl (c .match .keys61))
+    (λ c. one-byte refl refl (c .match .keys45))
     -- NOP
-    (λ c. one-byte refl refl (c .match .keys62))
+    (λ c. one-byte refl refl (c .match .keys46))
     -- DEC A
-    (λ c. one-byte refl refl (c .match .keys63))
+    (λ c. one-byte refl refl (c .match .keys47))
     -- ADD A,XH
-    (λ c. two-byte (lt-ltb _ 16 (c .if2 .taken)) refl (c .before .match .keys64) refl)
+    (λ c. two-byte (lt-ltb _ 16 (c .if2 .taken)) refl (c .before .match .keys48) refl)
     -- ADD A,XH, X over 15
-    (λ c. over _ _ I.AddAX (c .if2 .left) (rw (c .before .match .keys64) refl))
+    (λ c. over _ _ I.AddAX (c .if2 .left) (rw (c .before .match .keys48) refl))
     -- SUB A,XH
-    (λ c. two-byte (lt-ltb _ 16 (c .if3 .taken)) refl (c .before .match .keys65) refl)
+    (λ c. two-byte (lt-ltb _ 16 (c .if3 .taken)) refl (c .before .match .keys49) refl)
     -- SUB A,XH, X over 15
-    (λ c. over _ _ I.SubAX (c .if3 .left) (rw (c .before .match .keys65) refl))
+    (λ c. over _ _ I.SubAX (c .if3 .left) (rw (c .before .match .keys49) refl))
     -- AND A,XH
-    (λ c. two-byte (lt-ltb _ 16 (c .if4 .taken)) refl (c .before .match .keys66) refl)
+    (λ c. two-byte (lt-ltb _ 16 (c .if4 .taken)) refl (c .before .match .keys50) refl)
     -- AND A,XH, X over 15
-    (λ c. over _ _ I.AndAX (c .if4 .left) (rw (c .before .match .keys66) refl))
+    (λ c. over _ _ I.AndAX (c .if4 .left) (rw (c .before .match .keys50) refl))
     -- XOR A,XH
-    (λ c. two-byte (lt-ltb _ 16 (c .if5 .taken)) refl (c .before .match .keys67) refl)
+    (λ c. two-byte (lt-ltb _ 16 (c .if5 .taken)) refl (c .before .match .keys51) refl)
     -- XOR A,XH, X over 15
-    (λ c. over _ _ I.XorAX (c .if5 .left) (rw (c .before .match .keys67) refl))
+    (λ c. over _ _ I.XorAX (c .if5 .left) (rw (c .before .match .keys51) refl))
     -- OR A,XH
-    (λ c. two-byte (lt-ltb _ 16 (c .if6 .taken)) refl (c .before .match .keys68) refl)
+    (λ c. two-byte (lt-ltb _ 16 (c .if6 .taken)) refl (c .before .match .keys52) refl)
     -- OR A,XH, X over 15
-    (λ c. over _ _ I.OrAX (c .if6 .left) (rw (c .before .match .keys68) refl))
+    (λ c. over _ _ I.OrAX (c .if6 .left) (rw (c .before .match .keys52) refl))
     -- SOUND n
-    (λ c. two-byte (lt-ltb _ 16 (c .if7 .taken)) refl (c .before .match .keys69) refl)
+    (λ c. two-byte (lt-ltb _ 16 (c .if7 .taken)) refl (c .before .match .keys53) refl)
     -- SOUND n, X over 15
-    (λ c. over _ _ I.SoundN (c .if7 .left) (rw (c .before .match .keys69) refl))
+    (λ c. over _ _ I.SoundN (c .if7 .left) (rw (c .before .match .keys53) refl))
     -- MOV R4,XH
-    (λ c. two-byte (lt-ltb _ 16 (c .if8 .taken)) refl (c .before .match .keys70) refl)
+    (λ c. two-byte (lt-ltb _ 16 (c .if8 .taken)) refl (c .before .match .keys54) refl)
     -- MOV R4,XH, X over 15
-    (λ c. over _ _ I.MovR4X (c .if8 .left) (rw (c .before .match .keys70) refl))
+    (λ c. over _ _ I.MovR4X (c .if8 .left) (rw (c .before .match .keys54) refl))
     -- TIMER XXH
-    (λ c. two-byte (lt-ltb (c .before .args .second) 256 (omega arith)) refl (c .match .keys71) refl)
+    (λ c. two-byte (lt-ltb (c .before .args .second) 256 (omega arith)) refl (c .match .keys55) refl)
     -- SOUND ONE
-    (λ c. one-byte refl refl (c .match .keys72))
+    (λ c. one-byte refl refl (c .match .keys56))
     -- SOUND LOOP
-    (λ c. one-byte refl refl (c .match .keys73))
+    (λ c. one-byte refl refl (c .match .keys57))
     -- SOUND OFF
-    (λ c. one-byte refl refl (c .match .keys74))
+    (λ c. one-byte refl refl (c .match .keys58))
     -- SOUND A
-    (λ c. one-byte refl refl (c .match .keys75))
+    (λ c. one-byte refl refl (c .match .keys59))
     -- READ R4A
-    (λ c. one-byte refl refl (c .match .keys76))
+    (λ c. one-byte refl refl (c .match .keys60))
     -- READF R4A
-    (λ c. one-byte refl refl (c .match .keys77))
+    (λ c. one-byte refl refl (c .match .keys61))
     -- READ MR0A
-    (λ c. one-byte refl refl (c .match .keys78))
+    (λ c. one-byte refl refl (c .match .keys62))
     -- READF MR0A
-    (λ c. one-byte refl refl (c .match .keys79))
-    -- JA0
-    (λ c. let h = c .match2 .keys1 in to-target (Ja 0) _ _ (omega arith) refl (omega arith))
-    -- JA1
-    (λ c. let h = c .match2 .keys2 in to-target (Ja 1) _ _ (omega arith) refl (omega arith))
-    -- JA2
-    (λ c. let h = c .match2 .keys3 in to-target (Ja 2) _ _ (omega arith) refl (omega arith))
-    -- JA3
-    (λ c. let h = c .match2 .keys4 in to-target (Ja 3) _ _ (omega arith) refl (omega arith))
-    -- JNZ R0
-    (λ c. let h = c .match2 .keys5 in to-target JnzR0 _ _ (omega arith) refl (omega arith))
-    -- JNZ R1
-    (λ c. let h = c .match2 .keys6 in to-target JnzR1 _ _ (omega arith) refl (omega arith))
-    -- JZ A
-    (λ c. let h = c .match2 .keys7 in to-target Jz _ _ (omega arith) refl (omega arith))
-    -- JNZ A
-    (λ c. let h = c .match2 .keys8 in to-target JnzA _ _ (omega arith) refl (omega arith))
-    -- JC
-    (λ c. let h = c .match2 .keys9 in to-target Jc _ _ (omega arith) refl (omega arith))
-    -- JNC
-    (λ c. let h = c .match2 .keys10 in to-target Jnc _ _ (omega arith) refl (omega arith))
-    -- JTMR
-    (λ c. let h = c .match2 .keys11 in to-target Jtmr _ _ (omega arith) refl (omega arith))
-    -- JNZ R4
-    (λ c. let h = c .match2 .keys12 in to-target JnzR4 _ _ (omega arith) refl (omega arith))
+    (λ c. one-byte refl refl (c .match .keys63))
+    -- 35h
+    (λ c. no-pattern _ _ (default _ (below-54 (c .if10 .taken)) (c .before .before .match .rest)))
     -- MOV R1R0,XXH
-    (λ c. to-pair R1R0 0x50 _ _ refl refl (omega arith) (omega arith) (c .if11 .taken))
+    (λ c. to-pair R1R0 0x50 _ _ refl refl (above _ (c .before .before .if10 .left) (c .before .before .before .before .match .rest)) (c .before .if11 .taken) (c .if12 .taken))
     -- MOV R1R0,XXH, its second nibble over 15
-    (λ c. over-pair R1R0 0x50 _ _ refl (omega arith) (omega arith) (c .if11 .left))
+    (λ c. over-pair R1R0 0x50 _ _ refl (above _ (c .before .before .if10 .left) (c .before .before .before .before .match .rest)) (c .before .if11 .taken) (c .if12 .left))
     -- MOV R3R2,XXH
-    (λ c. to-pair R3R2 0x60 _ _ refl refl (omega arith) (omega arith) (c .if13 .taken))
+    (λ c. to-pair R3R2 0x60 _ _ refl refl (c .before .before .if11 .left) (c .before .if13 .taken) (c .if14 .taken))
     -- MOV R3R2,XXH, its second nibble over 15
-    (λ c. over-pair R3R2 0x60 _ _ refl (omega arith) (omega arith) (c .if13 .left))
+    (λ c. over-pair R3R2 0x60 _ _ refl (c .before .before .if11 .left) (c .before .if13 .taken) (c .if14 .left))
     -- MOV A,XH
     (λ c. one-byte (lt-ltb (c .before .before .before .before .before .before .args .first % 16) 16 (omega arith)) refl (omega arith))
+    -- JAn
+    (λ c. let a = c .before .before .before .before .before .before .before .args .first in to-target (Ja (a / 8 % 4)) a _ (omega arith) (lt-ltb (a / 8 % 4) 4 (omega arith)) (omega arith))
+    -- JNZ R0
+    (λ c. to-target JnzR0 _ _ (omega arith) refl (omega arith))
+    -- JNZ R1
+    (λ c. to-target JnzR1 _ _ (omega arith) refl (omega arith))
+    -- JZ A
+    (λ c. to-target Jz _ _ (omega arith) refl (omega arith))
+    -- JNZ A
+    (λ c. to-target JnzA _ _ (omega arith) refl (omega arith))
+    -- JC
+    (λ c. to-target Jc _ _ (omega arith) refl (omega arith))
+    -- JNC
+    (λ c. to-target Jnc _ _ (omega arith) refl (omega arith))
+    -- JTMR
+    (λ c. to-target Jtmr _ _ (omega arith) refl (omega arith))
+    -- JNZ R4
+    (λ c. to-target JnzR4 _ _ (omega arith) refl (omega arith))
     -- JMP
-    (λ c. to-address I.Jmp 0xe0 _ _ refl refl (omega arith) (sixteen 0x1c _ refl (above _ (c .before .if14 .left) (c .before .before .before .before .before .match2 .rest)) (c .if15 .taken)))
+    (λ c. to-address I.Jmp 0xe0 _ _ refl refl (omega arith) (omega arith))
     -- CALL
-    (λ c. to-address I.Call 0xf0 _ _ refl refl (omega arith) (sixteen 0x1e _ refl (c .before .if15 .left) (under (omega arith))))
-    -- 35h
-    (λ c. no-pattern _ _ (default _ (omega arith) (c .before .before .match .rest)))
-    -- no such byte
-    (λ c. absurd (omega (arith, under {a = c .before .before .before .before .before .before .before .before .args .first} (omega arith), c .if16 .left))))
+    (λ c. to-address I.Call 0xf0 _ _ refl refl (omega arith) (omega arith)))
