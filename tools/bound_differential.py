@@ -15,6 +15,7 @@ import bound_programs
 import reference
 from comparing import BIN, differs, first_difference, run_program, start, stop
 from reference import NO_BOUND, NOT_REACHED
+from stored import printed
 
 CHECKMASK = BIN / 'checkmask'
 PASSED = 2000       # masks to compare, at least
@@ -118,7 +119,7 @@ def judge(mask):
     if verdict == 'passed':
         met['passed'] += 1
         answers = reference.bounds(mask, marks)
-        want = ''.join(line + '\n' for line in [verdict] + reference.bound_lines(mask, marks, answers)).encode()
+        want = printed([verdict] + reference.bound_lines(mask, marks, answers))
         note(met, mask, marks, answers)
     else:       # the way is compared elsewhere
         met['failed'] += 1

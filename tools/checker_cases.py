@@ -13,6 +13,7 @@ import paths  # noqa: F401
 import isa_table
 import reference
 from reference import MASK
+from stored import write_files
 
 FOLDER = os.path.join(os.path.dirname(os.path.abspath(__file__)), '..', 'crates', 'checker_main')
 KEPT = bytes([255])         # what the mark bytes hold before the checker writes them
@@ -224,11 +225,5 @@ def files():
             os.path.join(FOLDER, 'stdout'): ('\n'.join(out) + '\n').encode('ascii')}
 
 
-def main():
-    for path, content in files().items():
-        with open(path, 'wb') as file:
-            file.write(content)
-
-
 if __name__ == '__main__':
-    main()
+    write_files(files())

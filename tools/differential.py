@@ -24,6 +24,7 @@ import make_panel_cases
 import reference
 from comparing import BIN, ROOT, compare, differs, first_difference, run_program, start, stop
 from panel_input import int_pin, pins, power_on, record, res, run, tmclk, two, write
+from stored import printed
 
 PANEL = BIN / 'panel'
 CHECKER = BIN / 'checker_main'
@@ -37,10 +38,6 @@ met = collections.Counter()     # what the panel cases met, by name
 # ---------------------------------------------------------------------------
 # Stored cases
 # ---------------------------------------------------------------------------
-
-def printed(lines):
-    return ''.join(line + '\n' for line in lines).encode()
-
 
 def stored_cases(program, names):
     """How many cases of a program ran, each with files of these names."""

@@ -22,6 +22,7 @@ from isa_table import Refused
 from make_panel_cases import LONGEST, padded
 from make_readings_cases import DRAW, drawing, mask_of
 from panel_input import int_pin, pins, power_on, res, run, tmclk, write
+from stored import printed
 
 READINGS = BIN / 'readings'
 GLASS_MAIN = BIN / 'glass_main'
@@ -101,7 +102,7 @@ MUST_MEET = {'dark': 300, 'a number': 1000, 'a minus': 100, 'a point': 300, **{f
 
 def compared(name, mask, script):
     lines = glass.readings(mask, script)
-    compare(f'readings, {name}', [READINGS], {'mask.bin': mask, 'script.bin': script}, ''.join(line + '\n' for line in lines).encode())
+    compare(f'readings, {name}', [READINGS], {'mask.bin': mask, 'script.bin': script}, printed(lines))
     return lines
 
 

@@ -11,6 +11,7 @@ import pathlib
 
 import paths  # noqa: F401
 import glass
+import stored
 from glass import DARK, Number
 from isa_table import Refused
 from panel_input import two
@@ -147,7 +148,7 @@ ENOUGH = {'read dark: dark': 5, 'read a number': 400, 'read refused 2': 30, 'rea
 
 def written(cases):
     """What cases.bin has for these cases, and what glass_main must print of them."""
-    return two(len(cases)) + b''.join(case for case, _ in cases), ''.join(line + '\n' for _, line in cases).encode()
+    return two(len(cases)) + b''.join(case for case, _ in cases), stored.printed(line for _, line in cases)
 
 
 def files():
@@ -162,11 +163,5 @@ def files():
     return {CRATE / 'data' / 'cases.bin': data, CRATE / 'stdout': output}
 
 
-def main():
-    (CRATE / 'data').mkdir(exist_ok=True)
-    for path, content in files().items():
-        path.write_bytes(content)
-
-
 if __name__ == '__main__':
-    main()
+    stored.write_files(files())

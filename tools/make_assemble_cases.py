@@ -9,6 +9,7 @@ import pathlib
 
 import paths  # noqa: F401
 import assembler
+import stored
 
 ROOT = pathlib.Path(__file__).resolve().parent.parent
 CASES = ROOT / 'tests' / 'assemble'
@@ -118,31 +119,19 @@ def expected(text, answer):
 def readme():
     head = ('# Stored cases of `assemble`\n\nEach folder is one case: `source.asm`, what the program must print, `expected`, and, where the '
             'text is accepted, what it\nmust write, `mask.bin`. A file `missing` says that source.asm is left out. '
-            '`tools/make_assemble_cases.py` makes them all,\nthis page too; `tools/assembler_differential.py` runs them.\n\n'
-            '| Case | What it guards |\n|---|---|\n')
-    return (head + ''.join(f'| {name} | {guards} |\n' for name, _, _, guards in cases())).encode()
+            '`tools/make_assemble_cases.py` makes them all,\nthis page too; `tools/assembler_differential.py` runs them.\n')
+    return stored.page(head, ((name, guards) for name, _, _, guards in cases()))
 
 
 def files():
     """All that is stored, as a dict from paths to bytes."""
     result = {CASES / 'README.md': readme()}
     for name, text, answer, _ in cases():
-        folder = CASES / name
-        result[folder / 'expected'], mask = expected(text, answer)
-        if mask:
-            result[folder / 'mask.bin'] = mask
-        if text is None:
-            result[folder / 'missing'] = b'source.asm\n'
-        else:
-            result[folder / 'source.asm'] = text.encode()
+        printed, mask = expected(text, answer)
+        made = {} if mask is None else {'mask.bin': mask}
+        result |= stored.case_files(CASES / name, {'source.asm': None if text is None else text.encode(), 'expected': printed, **made})
     return result
 
 
-def main():
-    for path, content in files().items():
-        path.parent.mkdir(parents=True, exist_ok=True)
-        path.write_bytes(content)
-
-
 if __name__ == '__main__':
-    main()
+    stored.write_files(files())

@@ -10,6 +10,7 @@ import pathlib
 
 import paths  # noqa: F401
 import reference
+import stored
 from panel_input import assemble
 
 ROOT = pathlib.Path(__file__).resolve().parent.parent
@@ -277,38 +278,25 @@ def expected(image, lines):
     made = reference.checkmask(image or b'')
     assert made == lines, (made, lines)
     assert not made[0].startswith('fault') or shortest_ways(image) == 1, made
-    return ''.join(line + '\n' for line in made).encode()
+    return stored.printed(made)
 
 
 def readme():
     head = ('# Stored cases of `checkmask`\n\nEach folder is one case: `mask.bin` and what the program must print, `expected`. A file `missing` says '
             'that mask.bin is left out.\n`tools/make_checkmask_cases.py` makes them all, this page too; `tools/differential.py` runs them. Those of a '
-            'mask that passes are named `bound-..`,\nafter what decides how long an edge is held.\n\n'
-            '| Case | What it guards |\n|---|---|\n')
-    return (head + ''.join(f'| {name} | {guards} |\n' for name, _, _, guards in cases())).encode()
+            'mask that passes are named `bound-..`,\nafter what decides how long an edge is held.\n')
+    return stored.page(head, ((name, guards) for name, _, _, guards in cases()))
 
 
 def files():
     """All that is stored, as a dict from paths to bytes."""
     result = {CASES / 'README.md': readme()}
     for name, image, lines, _ in cases():
-        folder = CASES / name
-        result[folder / 'expected'] = expected(image, lines)
-        if image is None:
-            result[folder / 'missing'] = b'mask.bin\n'
-        else:
-            result[folder / 'mask.bin'] = image
+        result |= stored.case_files(CASES / name, {'mask.bin': image, 'expected': expected(image, lines)})
         if name == 'call-in-an-interrupt':      # the program's own case
-            result[CRATE / 'data' / 'mask.bin'] = image
-            result[CRATE / 'stdout'] = result[folder / 'expected']
+            result |= {CRATE / 'data' / 'mask.bin': image, CRATE / 'stdout': stored.printed(lines)}
     return result
 
 
-def main():
-    for path, content in files().items():
-        path.parent.mkdir(parents=True, exist_ok=True)
-        path.write_bytes(content)
-
-
 if __name__ == '__main__':
-    main()
+    stored.write_files(files())

@@ -23,6 +23,7 @@ import paths  # noqa: F401
 import assembler
 import glass
 import reference
+import stored
 from make_checkmask_cases import shortest_ways
 from panel_input import assemble, int_pin, pins, power_on, run
 
@@ -137,7 +138,7 @@ def pump_files():
             (1, 16, 0), (1, 16, 1), (1, 16, 2), (8, 3, 2), (1, 16, 0)]
     assert [states[k] for k in after] == want, states
     return {PUMP: PUMP.read_bytes(), FOLDER / 'pump.bin': image, FOLDER / 'pump_script.bin': pump_script(),
-            FOLDER / 'pump_expected': ''.join(one + '\n' for one in lines).encode()}
+            FOLDER / 'pump_expected': stored.printed(lines)}
 
 
 PRESSED, LET_GO = pins(14, 15, 15), pins(15, 15, 15)
@@ -161,7 +162,7 @@ def gauge_files():
     lines = glass.readings(image, gauge_script())
     assert lines == GAUGE_LINES, lines
     return {GAUGE: GAUGE.read_bytes(), FOLDER / 'gauge.bin': image, FOLDER / 'gauge_script.bin': gauge_script(),
-            FOLDER / 'gauge_expected': ''.join(one + '\n' for one in lines).encode()}
+            FOLDER / 'gauge_expected': stored.printed(lines)}
 
 
 def files():
@@ -174,16 +175,10 @@ def files():
     assert reference.checker(forbidden)[1] == (2, 0x1D4, 2), reference.checker(forbidden)[1]
     assert shortest_ways(forbidden) == 1
     return {FOLDER / 'mask.bin': mask(), FOLDER / 'script.bin': script(),
-            FOLDER / 'expected': ''.join(line + '\n' for line in lines).encode(), FOLDER / 'forbidden.bin': forbidden,
-            FOLDER / 'forbidden': ''.join(line + '\n' for line in reference.checkmask(forbidden)).encode(),
+            FOLDER / 'expected': stored.printed(lines), FOLDER / 'forbidden.bin': forbidden,
+            FOLDER / 'forbidden': stored.printed(reference.checkmask(forbidden)),
             **pump_files(), **gauge_files()}
 
 
-def main():
-    FOLDER.mkdir(exist_ok=True)
-    for path, content in files().items():
-        path.write_bytes(content)
-
-
 if __name__ == '__main__':
-    main()
+    stored.write_files(files())

@@ -10,6 +10,7 @@ import pathlib
 
 import paths  # noqa: F401
 import reference
+import stored
 from panel_input import (assemble, int_pin, pins, power_on, record, res, run, tmclk)
 
 ROOT = pathlib.Path(__file__).resolve().parent.parent
@@ -318,7 +319,7 @@ def expected(mask, script, answer):
         assert lines == ([answer] if isinstance(answer, str) else answer), (answer, lines)
     else:
         assert not lines[0].startswith('refused')
-    return ''.join(line + '\n' for line in lines).encode()
+    return stored.printed(lines)
 
 
 def readme():
@@ -326,8 +327,8 @@ def readme():
     assert names == list(GUARDS), 'a case without what it guards, or the other way round'
     head = ('# Stored cases of `panel`\n\nEach folder is one case: `mask.bin`, `script.bin` and what the program must print, `expected`. A file '
             '`missing` names\na file that is left out. `tools/make_panel_cases.py` makes them all, this page too; `tools/differential.py` runs them.\n'
-            '`docs/SCRIPT.md` has the format.\n\n| Case | What it guards |\n|---|---|\n')
-    return (head + ''.join(f'| {name} | {GUARDS[name]} |\n' for name in names)).encode()
+            '`docs/SCRIPT.md` has the format.\n')
+    return stored.page(head, GUARDS.items())
 
 
 def files():
@@ -335,20 +336,9 @@ def files():
     result = {CRATE / 'data' / 'mask.bin': MASK, CRATE / 'data' / 'script.bin': SCRIPT,
               CRATE / 'stdout': expected(MASK, SCRIPT, LINES), CASES / 'README.md': readme()}
     for name, mask, script, answer in cases():
-        folder = CASES / name
-        stored = {'mask.bin': mask, 'script.bin': script, 'expected': expected(mask, script, answer)}
-        missing = [file for file in stored if stored[file] is None]
-        if missing:
-            stored['missing'] = '\n'.join(missing + ['']).encode()
-        result.update((folder / file, stored[file]) for file in stored if stored[file] is not None)
+        result |= stored.case_files(CASES / name, {'mask.bin': mask, 'script.bin': script, 'expected': expected(mask, script, answer)})
     return result
 
 
-def main():
-    for path, content in files().items():
-        path.parent.mkdir(parents=True, exist_ok=True)
-        path.write_bytes(content)
-
-
 if __name__ == '__main__':
-    main()
+    stored.write_files(files())

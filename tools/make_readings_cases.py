@@ -10,6 +10,7 @@ import pathlib
 import paths  # noqa: F401
 import glass
 import reference
+import stored
 from make_panel_cases import LONGEST, START, padded
 from panel_input import int_pin, pins, power_on, record, res, run, tmclk, write
 
@@ -194,7 +195,7 @@ def cases():
 
 def expected(mask, script, lines):
     assert glass.readings(mask or b'', script or b'') == lines, (glass.readings(mask or b'', script or b''), lines)
-    return ''.join(line + '\n' for line in lines).encode()
+    return stored.printed(lines)
 
 
 def readme():
@@ -202,8 +203,8 @@ def readme():
     assert names == list(GUARDS), 'a case without what it guards, or the other way round'
     head = ('# Stored cases of `readings`\n\nEach folder is one case: `mask.bin`, `script.bin` and what the program must print, `expected`. A file '
             '`missing` names\na file that is left out. `tools/make_readings_cases.py` makes them all, this page too; '
-            '`tools/differential.py` runs them.\n`docs/SCRIPT.md` has the format.\n\n| Case | What it guards |\n|---|---|\n')
-    return (head + ''.join(f'| {name} | {GUARDS[name]} |\n' for name in names)).encode()
+            '`tools/differential.py` runs them.\n`docs/SCRIPT.md` has the format.\n')
+    return stored.page(head, GUARDS.items())
 
 
 def files():
@@ -211,19 +212,9 @@ def files():
     result = {CRATE / 'data' / 'mask.bin': EXAMPLE, CRATE / 'data' / 'script.bin': EXAMPLE_SCRIPT,
               CRATE / 'stdout': expected(EXAMPLE, EXAMPLE_SCRIPT, EXAMPLE_LINES), CASES / 'README.md': readme()}
     for name, mask, script, lines in cases():
-        stored = {'mask.bin': mask, 'script.bin': script, 'expected': expected(mask, script, lines)}
-        missing = [file for file in stored if stored[file] is None]
-        if missing:
-            stored['missing'] = '\n'.join(missing + ['']).encode()
-        result.update((CASES / name / file, stored[file]) for file in stored if stored[file] is not None)
+        result |= stored.case_files(CASES / name, {'mask.bin': mask, 'script.bin': script, 'expected': expected(mask, script, lines)})
     return result
 
 
-def main():
-    for path, content in files().items():
-        path.parent.mkdir(parents=True, exist_ok=True)
-        path.write_bytes(content)
-
-
 if __name__ == '__main__':
-    main()
+    stored.write_files(files())

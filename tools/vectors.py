@@ -18,6 +18,7 @@ from pathlib import Path
 import paths  # noqa: F401
 import isa_table as isa
 import reference as ref
+import stored
 from isa_table import Refused
 from reference import Options
 
@@ -1043,11 +1044,5 @@ def files():
     return {CRATE / 'data' / 'vectors.bin': bytes(data), CRATE / 'stdout': output.encode()}
 
 
-def main():
-    (CRATE / 'data').mkdir(exist_ok=True)
-    for path, content in files().items():
-        path.write_bytes(content)
-
-
 if __name__ == '__main__':
-    main()
+    stored.write_files(files())
