@@ -44,7 +44,7 @@ boundsRefusal BadMask = 1
 boundsRefusal BadList = 2
 boundsRefusal MaskFails = 15
 
--- what each number says
+-- what each refusal says
 abbrev pub BoundsRefused : List ℕ → List ℕ → ℕ → Type 0
 BoundsRefused mask old n =
     either (eqb n 1) (length mask ≡ 4096 → ⊥)
@@ -52,12 +52,12 @@ BoundsRefused mask old n =
     (either (eqb n 15) ((length mask ≡ 4096) × (length old ≡ 8192) × (Safe mask → ⊥))
     ⊥))
 
--- what each answer says of the mask, and of the list at entry and at exit; after a refusal the list is as it was
+-- what each answer says, by its number, of the mask and of the list at entry and at exit: 0, that each entry is there; after a refusal the list is as
+-- it was
 abbrev pub BoundsAnswer : List ℕ → List ℕ → List ℕ → Bounds → Type 0
-BoundsAnswer mask old new Listed = (length old ≡ 8192) × (length new ≡ 8192) × Entries mask new
-BoundsAnswer mask old new BadMask = BoundsRefused mask old (boundsRefusal BadMask) × (new ≡ old)
-BoundsAnswer mask old new BadList = BoundsRefused mask old (boundsRefusal BadList) × (new ≡ old)
-BoundsAnswer mask old new MaskFails = BoundsRefused mask old (boundsRefusal MaskFails) × (new ≡ old)
+BoundsAnswer mask old new b =
+    either (eqb (boundsRefusal b) 0) ((length old ≡ 8192) × (length new ≡ 8192) × Entries mask new)
+    (BoundsRefused mask old (boundsRefusal b) × (new ≡ old))
 
 -- the first place whose entry is the largest
 pub record Largest (list : List ℕ) (place : ℕ) : Type 0 where
