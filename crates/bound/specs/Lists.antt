@@ -2,9 +2,9 @@
 -- is the longest that a program can stay above main. Then the targets of the CALLs that a mask may run. Assumes nothing.
 use Prim.Native.Nat.{ℕ, _+_, _*_, _-_, _<_, _≤_}
 use mathlib.Core.Path.{_≡_}
-use mathlib.Core.Bool.{true}
+use mathlib.Core.Bool.{true, _&&_}
 use mathlib.Core.List.{List}
-use lib.Dec.{eqb}
+use lib.Dec.{eqb, ltb}
 use lib.ListN.{length, getD}
 use Rattle.isa.specs.Choice.{pick}
 use Rattle.isa.specs.declared.ProgramAddress.{ProgramAddress}
@@ -32,6 +32,10 @@ boundAt n = pick (eqb n 0) NotReached (boundOf n)
 -- a pair's place, by address and then level
 abbrev pub placeOf : ℕ → ℕ → ℕ
 placeOf a l = a * 2 + (l - 1)
+
+-- the entry of a pair above level 0; 0, 'not reached', for any other pair, and for a list of another length
+abbrev pub entryOf : List ℕ → ℕ → ℕ → ℕ
+entryOf list a l = pick (eqb (length list) 8192 && ltb a addresses && ltb 0 l && ltb l levels) (getD list (placeOf a l) 0) 0
 
 -- each entry is the answer for its pair
 abbrev pub Entries : List ℕ → List ℕ → Type 0
