@@ -72,8 +72,8 @@ def demonstration():
     for name in ('pump', 'gauge'):
         got, trouble, left = run_in_folder([script, DEMO / f'{name}.asm', f'{name}.bin'], {})
         why += [trouble] * bool(trouble) + wrong(b'', got, {f'{name}.bin': (DEMO / f'{name}.bin').read_bytes()}, left)
-    got, _, left = run_in_folder([script, 'bad.asm', 'bad.bin'], bad)
-    why += wrong(b'refused 12 at line 2\nNOP^INOP\n', got, bad, left)
+    got, trouble, left = run_in_folder([script, 'bad.asm', 'bad.bin'], bad, status=1)
+    why += [trouble] * bool(trouble) + wrong(b'refused 12 at line 2\nNOP^INOP\n', got, bad, left)
     if why:
         stop(f'./assemble: {"; ".join(why)}')
 

@@ -28,9 +28,9 @@ def start(*programs):
     shutil.rmtree(SAVED, ignore_errors=True)
 
 
-def run_in_folder(command, files):
+def run_in_folder(command, files, status=0):
     """What a program prints, what went wrong, and the files that it leaves, run in a temporary folder
-    with these; None is a missing one."""
+    with these; None is a missing one. It ends with this status."""
     with tempfile.TemporaryDirectory() as made:
         folder = pathlib.Path(made)
         for name, content in files.items():
@@ -42,12 +42,12 @@ def run_in_folder(command, files):
         except subprocess.TimeoutExpired:
             return b'', f'no end within {SECONDS} seconds', {}
         left = {path.name: path.read_bytes() for path in folder.iterdir()}
-        return done.stdout, f'exit status {done.returncode}' if done.returncode else None, left
+        return done.stdout, f'exit status {done.returncode}' if done.returncode != status else None, left
 
 
-def run_program(command, files):
+def run_program(command, files, status=0):
     """What a program prints, and what went wrong."""
-    return run_in_folder(command, files)[:2]
+    return run_in_folder(command, files, status)[:2]
 
 
 def save(files):
@@ -73,8 +73,8 @@ def differs(name, files, got, why, expected=None):
     stop(f'{name}: {"; ".join(why)}; saved under target/differential')
 
 
-def compare(name, command, files, expected):
-    got, trouble = run_program(command, files)
+def compare(name, command, files, expected, status=0):
+    got, trouble = run_program(command, files, status)
     if got == expected and not trouble:
         return
     why = [trouble] if trouble else []

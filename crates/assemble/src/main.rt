@@ -1,6 +1,7 @@
 // `assemble`: reads source.asm and writes mask.bin, or prints one line `refused N at line L` and writes nothing. What it writes is made by the
 // proved function of `assembler`; here files are read and written.
 use files::read_file;
+use files::write_file;
 use libc::STDOUT_FILENO;
 
 fn put(s: &[u8]) {
@@ -13,19 +14,6 @@ fn put_refused(refusal: u8, line: u32) {
     put(b" at line ");
     io::print_decimal(STDOUT_FILENO, line as u64);
     put(b"\n");
-}
-
-// Writes a file anew, and says whether all of it was written.
-fn write_file(path: &[u8], bytes: &[u8]) -> bool {
-    let fd = os::open_overwrite(path);
-    if fd < 0 {
-        return false;
-    }
-    let done = io::write_all(fd, bytes);
-    if libc::close(fd) != 0 {
-        return false;
-    }
-    done
 }
 
 fn assemble(text: &[u8]) {

@@ -13,3 +13,16 @@ pub fn read_file(path: &[u8], buf: &mut [u8]) -> usize
     libc::close(fd);
     n
 }
+
+// Writes a file anew, and says whether all of it was written.
+pub fn write_file(path: &[u8], bytes: &[u8]) -> bool {
+    let fd = os::open_overwrite(path);
+    if fd < 0 {
+        return false;
+    }
+    let done = io::write_all(fd, bytes);
+    if libc::close(fd) != 0 {
+        return false;
+    }
+    done
+}

@@ -347,28 +347,21 @@ impl Refusal {
     }
 }
 
+/// The words of each refusal and fault, a line each. The repository's commands have the same list.
+const WORDS: &str = include_str!("refusals.txt");
+
+/// The words of a number, `refused ` or `fault ` standing before it.
+fn words(front: &str, number: u8) -> &'static str {
+    WORDS
+        .lines()
+        .filter_map(|line| line.strip_prefix(front)?.split_once(": "))
+        .find(|(of, _)| of.parse() == Ok(number))
+        .map_or("", |(_, words)| words)
+}
+
 impl fmt::Display for Refusal {
     fn fmt(&self, f: &mut fmt::Formatter<'_>) -> fmt::Result {
-        f.write_str(match self {
-            Refusal::MaskLength => "mask is not 4,096 bytes",
-            Refusal::BufferLength => {
-                "image, marks, report, mask or picture buffer has the wrong length"
-            }
-            Refusal::Value => "value out of range",
-            Refusal::Option => "mask option outside its list",
-            Refusal::Machine => "machine field, address or level out of range",
-            Refusal::RecordLength => "script too long, record cut off or payload length wrong",
-            Refusal::Kind => "unknown kind of event",
-            Refusal::NoPowerOn => "script does not start with power-on",
-            Refusal::ReportRoom => "report buffer too short for the script",
-            Refusal::MaskPasses => "mask passes, so no way leads to a fault",
-            Refusal::ListLength => "list too short for the way",
-            Refusal::Syntax => "text too long, or line that cannot be read",
-            Refusal::Range => "value, address or branch that does not fit",
-            Refusal::Label => "label missing, not above its ORG or defined again",
-            Refusal::MaskFails => "mask fails, so it has no bounds",
-            Refusal::Glass => "picture without a reading, or reading that does not fit",
-        })
+        f.write_str(words("refused ", self.number()))
     }
 }
 
@@ -495,6 +488,23 @@ pub enum Verdict {
         /// The level it runs in.
         level: u8,
     },
+}
+
+impl fmt::Display for Verdict {
+    fn fmt(&self, f: &mut fmt::Formatter<'_>) -> fmt::Result {
+        match *self {
+            Verdict::Passed => f.write_str("passed"),
+            Verdict::Failed {
+                fault,
+                address,
+                level,
+            } => write!(
+                f,
+                "{} at {address:03X}, level {level}",
+                words("fault ", fault)
+            ),
+        }
+    }
 }
 
 /// An address with a level, as [`way`] lists them.

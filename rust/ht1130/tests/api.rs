@@ -383,3 +383,43 @@ fn threads() {
         }
     });
 }
+
+/// Each number has its words in the list that the commands read too, and no line is left over.
+#[test]
+fn words() {
+    let refusals = [
+        Refusal::MaskLength,
+        Refusal::BufferLength,
+        Refusal::Value,
+        Refusal::Option,
+        Refusal::Machine,
+        Refusal::RecordLength,
+        Refusal::Kind,
+        Refusal::NoPowerOn,
+        Refusal::ReportRoom,
+        Refusal::MaskPasses,
+        Refusal::ListLength,
+        Refusal::Syntax,
+        Refusal::Range,
+        Refusal::Label,
+        Refusal::MaskFails,
+        Refusal::Glass,
+    ];
+    let refused = refusals.map(|one| format!("refused {}: {one}\n", one.number()));
+    let faults = [1, 2, 3].map(|fault| {
+        let verdict = Verdict::Failed {
+            fault,
+            address: 0x1D4,
+            level: 2,
+        };
+        let text = verdict.to_string();
+        let words = text.strip_suffix(" at 1D4, level 2").unwrap();
+        format!("fault {fault}: {words}\n")
+    });
+    assert_eq!(
+        refused.concat() + &faults.concat(),
+        include_str!("../src/refusals.txt")
+    );
+    assert_eq!(Refusal::Value.to_string(), "value out of range");
+    assert_eq!(Verdict::Passed.to_string(), "passed");
+}

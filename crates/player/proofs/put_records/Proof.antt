@@ -1,4 +1,4 @@
--- `panel::put_reports` is safe and ends: each record that is not refused moves the offset on. Assumes nothing.
+-- `player::put_records` is safe and ends: each record that is not refused moves the offset on. Assumes nothing.
 use Prim.Native.Nat.{_-_}
 use mathlib.Core.Path.{sym, ap, _∙_}
 use native.Mathlib.Omega.{arith}
@@ -6,14 +6,14 @@ use lib.ListN.{length}
 use borrow.Author.Needs.{needs}
 use Rattle.script.specs.declared.Progress.{Progress}
 use Rattle.script.proofs.Rests.{stepped-on}
-use Rattle.panel.proofs.put_reports.Statement.{statement}
-use Rattle.panel.proofs.put_reports.Tie as tie
+use Rattle.player.proofs.put_records.Statement.{statement}
+use Rattle.player.proofs.put_records.Tie as tie
 
 abbrev Inv-loop : tie.InvT-loop
-Inv-loop mask script at₀ machine₀ at machine = Unit {0}
+Inv-loop mask script shown at₀ machine₀ at machine = Unit {0}
 
 abbrev μ-loop : tie.MeasureT-loop
-μ-loop mask script at₀ machine₀ at machine = length script - at
+μ-loop mask script shown at₀ machine₀ at machine = length script - at
 
 loop-less : tie.Need-loop-less Inv-loop μ-loop
 loop-less c =
@@ -26,8 +26,8 @@ loop-less c =
     (ap (λ (p : Progress). p .refusal) (sym r) ∙ c .before .before .if1 .left) in
     omega arith
 
-pub put-reports-spec : {M : Type 1} → statement M
-put-reports-spec =
+pub put-records-spec : {M : Type 1} → statement M
+put-records-spec =
     tie.close
     (tie.spec
     Inv-loop μ-loop (λ c κs. search needs) (λ c. tt) (λ c κs. search needs) (λ c. tt) (λ c κs. search needs) loop-less (λ c. tt)

@@ -1,8 +1,8 @@
--- `readings::put_text` is safe and ends: the measure is the number that is left. Assumes nothing.
+-- `player::put_text` is safe and ends: the measure is the number that is left. Assumes nothing.
 use native.Mathlib.Omega.{arith}
 use borrow.Author.Needs.{needs}
-use Rattle.readings.proofs.put_text.Statement.{statement}
-use Rattle.readings.proofs.put_text.Tie as tie
+use Rattle.player.proofs.put_text.Statement.{statement}
+use Rattle.player.proofs.put_text.Tie as tie
 
 abbrev Inv-loop : tie.InvT-loop
 Inv-loop text rest₀ rest = Unit {0}
