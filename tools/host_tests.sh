@@ -3,8 +3,10 @@
 # hold, examples, a comparison with a plain engine, assembler and glass, and the
 # instructions of a step, where valgrind is installed. Needs
 # libht1130.a and libht1130_tools.a, in target/staticlib or in HT1130_LIB_DIR
-# (from the top of the repository, or absolute).
+# (from the top of the repository, or absolute). With --all every pair of a small
+# mask is asked for its bound, and not a sample of those that it does not reach.
 set -euo pipefail
+case "$*" in '') whole='' ;; --all) whole=--whole ;; *) echo "usage: tools/host_tests.sh [--all]" >&2 && exit 2 ;; esac
 cd "$(dirname "$0")/.."
 
 lib=${HT1130_LIB_DIR:-target/staticlib}
@@ -101,7 +103,7 @@ diff examples/check_and_run_forbidden.out "$work/check_and_run_forbidden.out"
 say "bench: the plain engine's, assembler's and glass's own tests, then the libraries against them"
 cargo_in bench test --offline --release --quiet
 cargo_in bench build --offline --release --quiet
-target/cargo/release/bench diff --seed 1130
+target/cargo/release/bench diff --seed 1130 $whole
 
 say "the instructions of a step, held to what docs/PERFORMANCE.md says"
 python3 tools/step_instructions.py target/cargo/release/bench
