@@ -12,8 +12,8 @@
  * (no `const`) overlaps nothing else that it is lent. Calls on different memory
  * may run at the same time.
  *
- * Stack. A call takes under 4 KB. Of the C library only memcpy, memmove and
- * memset are used.
+ * Stack. A call takes under 4 KB. Of the C library only memcpy and memset are
+ * used.
  *
  * Refusals. Bad input is refused before anything happens: the machine record
  * and every lent buffer are then as they were. The lowest number that holds is

@@ -3,8 +3,10 @@
 # hold, examples, a comparison with a plain engine, assembler and glass, and the
 # instructions of a step, where valgrind is installed. Needs
 # libht1130.a and libht1130_tools.a, in target/staticlib or in HT1130_LIB_DIR
-# (from the top of the repository, or absolute).
+# (from the top of the repository, or absolute). With --all every pair of a small
+# mask is asked for its bound, and not a sample of those that it does not reach.
 set -euo pipefail
+case "$*" in '') whole='' ;; --all) whole=--whole ;; *) echo "usage: tools/host_tests.sh [--all]" >&2 && exit 2 ;; esac
 cd "$(dirname "$0")/.."
 
 lib=${HT1130_LIB_DIR:-target/staticlib}
@@ -35,10 +37,10 @@ say "archives: each exports its own functions and no others"
 exports() { nm -g --defined-only "$HT1130_LIB_DIR/lib$1.a" | awk '$2 == "T" || $2 == "W" { print $3 }' | sort; }
 diff <(printf 'ht1130_%s\n' apply gap_count power_on report) <(exports ht1130)
 diff <(printf 'ht1130_%s\n' assemble bound check check_script glass_draw glass_read read reading run_script way write) <(exports ht1130_tools)
-# of the C library only these: ht1130_power_on copies the image by memmove, since the compiler does not know that it overlaps nothing
-libc() { nm -u "$HT1130_LIB_DIR/lib$1.a" | awk -v names=" $2 " '$1 == "U" && !index(names, " " $2 " ") { print; bad = 1 } END { exit bad }'; }
-libc ht1130 "memcpy memmove memset"
-libc ht1130_tools "memcpy memset"
+for name in ht1130 ht1130_tools; do
+    # of the C library only these two
+    nm -u "$HT1130_LIB_DIR/lib$name.a" | awk '$1 == "U" && $2 != "memcpy" && $2 != "memset" { print; bad = 1 } END { exit bad }'
+done
 
 say "archives: no list of lengths and cycles, in a section or on the stack of a call"
 python3 tools/find_list.py --forms
@@ -101,7 +103,7 @@ diff examples/check_and_run_forbidden.out "$work/check_and_run_forbidden.out"
 say "bench: the plain engine's, assembler's and glass's own tests, then the libraries against them"
 cargo_in bench test --offline --release --quiet
 cargo_in bench build --offline --release --quiet
-target/cargo/release/bench diff --seed 1130
+target/cargo/release/bench diff --seed 1130 $whole
 
 say "the instructions of a step, held to what docs/PERFORMANCE.md says"
 python3 tools/step_instructions.py target/cargo/release/bench

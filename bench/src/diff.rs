@@ -8,7 +8,7 @@ use crate::prng::Prng;
 use crate::{masks, pictures, plain_asm, routines, script, texts};
 use ht1130::WAY;
 use std::fmt::Debug;
-use std::sync::atomic::{AtomicU64, Ordering::Relaxed};
+use std::sync::atomic::{AtomicBool, AtomicU64, Ordering::Relaxed};
 use std::sync::Mutex;
 
 /// What differed, in words.
@@ -53,9 +53,9 @@ const SORTS: [Sort; 31] = [
         case: ways,
     },
     Sort {
-        name: "bounds, every pair",
+        name: "bounds, small masks",
         cases: |n| n / 2,
-        case: every_bound,
+        case: small_bounds,
     },
     Sort {
         name: "bounds, longer masks",
@@ -311,10 +311,17 @@ fn meet(what: Met, times: usize) {
     MET[what as usize].fetch_add(times as u64, Relaxed);
 }
 
+/// Whether every pair of a small mask is asked for, which takes most of the time.
+static WHOLE: AtomicBool = AtomicBool::new(false);
+
 /// Runs all sorts, `cases` being the number of random masks to check and the
 /// measure of the other sorts; false after a difference.
-pub fn run(seed: u64, cases: u64) -> bool {
-    println!("diff: seed {seed}, cases {cases}");
+pub fn run(seed: u64, cases: u64, whole: bool) -> bool {
+    WHOLE.store(whole, Relaxed);
+    println!(
+        "diff: seed {seed}, cases {cases}{}",
+        if whole { ", every pair" } else { "" }
+    );
     for sort in &SORTS {
         let count = (sort.cases)(cases).max(1);
         if let Some((case, what)) = first_difference(sort, seed, count) {
@@ -711,19 +718,29 @@ fn passed_bounds(mask: &Mask) -> Result<Box<Bounds>, String> {
     plain::bounds(mask).map_err(|number| format!("plain alone: refusal {number} of {}", hex(mask)))
 }
 
-/// Small masks: each of the calls checks the mask.
-fn every_bound(prng: &mut Prng, _: u64) -> Outcome {
+/// One in so many of the pairs that a mask does not reach is asked for.
+const UNREACHED: u64 = 16;
+
+/// Small masks, each of whose calls checks the mask: every pair that is reached, and of
+/// the others a sample, or all.
+fn small_bounds(prng: &mut Prng, _: u64) -> Outcome {
     let mask = match prng.below(8) {
         0 => routines::decided(prng),
         _ => routines::small(prng),
     };
     let bounds = passed_bounds(&mask)?;
     let lent = mask;
-    for pair in all_pairs() {
+    let asked: Vec<Pair> = all_pairs()
+        .filter(|&pair| {
+            let chance = prng.below(UNREACHED) == 0;
+            chance || at(&bounds, pair) != Bound::NotReached || WHOLE.load(Relaxed)
+        })
+        .collect();
+    for &pair in &asked {
         bound_of_both(&lent, pair, Ok(at(&bounds, pair)))?;
     }
     same(|| "mask after its bounds".into(), &lent[..], &mask)?;
-    note_bounds(&mask, &bounds, &all_pairs().collect::<Vec<_>>());
+    note_bounds(&mask, &bounds, &asked);
     let mut marks = [0; MASK];
     let _ = plain::check(&mask, &mut marks);
     let marked = |levels: u8| marks.iter().filter(|&mark| mark & levels == levels).count();

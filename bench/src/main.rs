@@ -16,7 +16,7 @@ mod texts;
 
 use std::process::ExitCode;
 
-const USAGE: &str = "usage: bench diff [--seed N] [--cases N] | speed | all [--seed N] [--cases N]
+const USAGE: &str = "usage: bench diff [--seed N] [--cases N] [--whole] | speed | all [--seed N] [--cases N] [--whole]
        bench count plain|library MASK RUNS    (Runs of 10,000 steps and nothing else)";
 
 struct Arguments {
@@ -24,6 +24,7 @@ struct Arguments {
     speed: bool,
     seed: u64,
     cases: u64,
+    whole: bool,
 }
 
 fn arguments() -> Option<Arguments> {
@@ -39,12 +40,14 @@ fn arguments() -> Option<Arguments> {
         speed,
         seed: 1130,
         cases: diff::CASES,
+        whole: false,
     };
     while let Some(word) = words.next() {
-        let value = words.next()?.parse().ok()?;
+        let mut value = || words.next()?.parse().ok();
         match word.as_str() {
-            "--seed" if diff => arguments.seed = value,
-            "--cases" if diff => arguments.cases = value,
+            "--seed" if diff => arguments.seed = value()?,
+            "--cases" if diff => arguments.cases = value()?,
+            "--whole" if diff => arguments.whole = true,
             _ => return None,
         }
     }
@@ -69,7 +72,7 @@ fn main() -> ExitCode {
         eprintln!("{USAGE}");
         return ExitCode::from(2);
     };
-    if arguments.diff && !diff::run(arguments.seed, arguments.cases) {
+    if arguments.diff && !diff::run(arguments.seed, arguments.cases, arguments.whole) {
         return ExitCode::FAILURE;
     }
     if arguments.speed {

@@ -5,12 +5,10 @@ use mathlib.Core.Bool.{true, false}
 use mathlib.Core.List.{List, [], _∷_, _++_, append-nil, map, map-append}
 use native.Mathlib.Numerals.{add-one}
 use native.Mathlib.Omega.{arith}
-use lib.Dec.{eqb}
-use borrow.Author.Tests.{eqb-false, eqb-true}
-use lib.ListN.{getD, length, set, take, length-set}
-use lib.Seq.{getD-set-other, getD-set-same, take-suc-set}
+use lib.ListN.{length, set, take, length-set}
+use lib.Seq.{take-suc-set}
 use Rattle.isa.specs.Choice.{pick}
-use Rattle.operand.specs.Read.{Held, namesAt, tokensAt, wordAt}
+use Rattle.operand.specs.Read.{namesAt, tokensAt, wordAt}
 use Rattle.operand.proofs.Texts.{case}
 use Rattle.assembler.specs.Statement.{Statement, statement}
 use Rattle.assembler.specs.Program.{Above, end, first, next, program, start, unread}
@@ -30,7 +28,7 @@ pub record Reading (text starts : List ℕ) (at number count : ℕ) : Type 0 whe
   pub found : first unread start 1 (program text) ≡ first unread s number (programAt text at)
   pub ends : end start (program text) ≡ end s (programAt text at)
   pub names : s .names ≡ namesAt text starts count
-  pub held : Held text starts count
+  pub held : count ≤ length starts
 
 pub begin : (text starts : List ℕ) → length starts ≡ 32768 → Reading text starts 0 1 0
 begin text starts h = record {
@@ -43,22 +41,13 @@ begin text starts h = record {
   found = refl;
   ends = refl;
   names = refl;
-  held = record { room = omega arith; places = λ k l. absurd (omega arith) };
+  held = omega arith;
 }
 
 -- a name more
 note-name : (text starts : List ℕ) (count v : ℕ) → count < length starts
     → namesAt text (set starts count v) (suc count) ≡ namesAt text starts count ++ (wordAt text v ∷ [])
 note-name text starts count v h = ap (map (wordAt text)) (take-suc-set starts count v h) ∙ map-append (wordAt text) (take count starts) (v ∷ [])
-
-held-more : (text starts : List ℕ) (count v : ℕ) → Held text starts count → count < length starts → v ≤ length text → Held text (set starts count v)
-    (suc count)
-held-more text starts count v g h l = record {
-  room = omega (arith, length-set starts count v);
-  places = λ k u. case (eqb k count)
-      (λ e. subst (λ (j : ℕ). getD (set starts count v) j 0 ≤ length text) (sym (eqb-true k count e)) (rw (getD-set-same starts count v 0 h) l))
-      (λ e. rw (getD-set-other starts count k v 0 (eqb-false k count e)) (g .places k (omega (arith, eqb-false k count e))));
-}
 
 module _ {text starts none : List ℕ} {at number count : ℕ} {r : Line} (short : length text ≤ 65535) (g : Reading text starts at number count)
     (x : Shows text [] [] none (statement (tokensAt text at)) r) where
@@ -93,7 +82,7 @@ module _ {text starts none : List ℕ} {at number count : ℕ} {r : Line} (short
         pub many : 2 * count' ≤ lineEnd text at
         pub room : length starts' ≡ 32768
         pub names : next (g .s) (statement (tokensAt text at)) .names ≡ namesAt text starts' count'
-        pub held : Held text starts' count'
+        pub held : count' ≤ length starts'
 
       next-names : next (g .s) (statement (tokensAt text at)) .names ≡ g .s .names ++ pick (r .labelled) (wordAt text (r .label) ∷ []) []
       unfolding next
@@ -108,7 +97,7 @@ module _ {text starts none : List ℕ} {at number count : ℕ} {r : Line} (short
             many = omega (arith, g .many, p .2);
             room = ap length e ∙ length-set starts count (r .label) ∙ g .room;
             names = next-names ∙ rw (l, e, f, g .names) (sym (note-name text starts count (r .label) (p .0)));
-            held = rw (e, f) (held-more text starts count (r .label) (g .held) (p .0) (p .1));
+            held = rw (e, f) (omega (arith, length-set starts count (r .label), p .0));
           })
           (λ l. let e : starts' ≡ starts = stored ∙ rw l refl in
           let f : count' ≡ count = counts ∙ rw l refl in

@@ -52,7 +52,8 @@ pub settles : (text starts addresses : List ℕ) (r : Labels) → Collected text
     → Settled text starts addresses (r .count)
 settles text starts addresses r g short room e = record {
   short = short;
-  table = record { held = g .held; room = omega (arith, g .held .room, g .room) };
+  held = g .held;
+  room = omega (arith, g .held, g .room);
   most = omega arith;
   names = g .names e;
   read = sym (g .line) ∙ e;

@@ -2,7 +2,7 @@
 use Prim.Native.Nat.{ℕ, zero, suc, _+_, _*_, _<_, _≤_}
 use mathlib.Core.Path.{_≡_, refl, sym, ap, _∙_}
 use mathlib.Core.Bool.{Bool, true, false, _&&_, _||_, not}
-use mathlib.Core.List.{List, [], _∷_, _++_, append-nil, map, reverse, reverseAux}
+use mathlib.Core.List.{List, [], _∷_, map, reverse, reverseAux}
 use mathlib.Core.Option.{Option, none, some}
 use native.Mathlib.Nat.{zero-add}
 use native.Mathlib.Omega.{arith}
@@ -13,16 +13,14 @@ use Rattle.isa.specs.Choice.{pick}
 use Rattle.mnemonic.specs.Spelling.{Token, letters, mark, operand}
 use Rattle.operand.specs.Text.{isDigit, isLetter}
 use Rattle.operand.specs.Words.{first, isFixed, isLabel, place}
-use Rattle.operand.specs.Operand.{Term, followed, minus, missing, operandOf, plus}
-use Rattle.operand.specs.Read.{Lexed, Next, OperandRead, befores, ended, kindOf, packed, placeOf, sign, signKind, tokensAt}
-use Rattle.operand.specs.Read.{word, wordAt, wordKind}
-use Rattle.operand.specs.Read as R
-use Rattle.operand.specs.declared.operands.Sum.{Sum}
+use Rattle.operand.specs.Operand.{Term, operandOf}
+use Rattle.operand.specs.Read.{Lexed, Next, ended, kindOf, operandAt, packed, placeOf, sign, signKind, tokensAt, valued, word, wordAt, wordKind}
+use Rattle.operand.specs.declared.operands.Value.{Value}
 use Rattle.operand.specs.declared.tokens.Lexeme.{Lexeme}
 use Rattle.operand.proofs.Places.{characters}
-use Rattle.operand.proofs.Terms.{befores-none}
 use Rattle.operand.proofs.Texts.{both, case, differ, neither, not-letter}
-use Rattle.operand.proofs.TokenKinds.{as-end, as-label, as-over, as-sign, sign-is, sign-not}
+use Rattle.operand.proofs.TokenKinds.{as-end, as-label, as-sign, sign-is, sign-not}
+use Rattle.operand.proofs.Whole.{short-read}
 use Rattle.assembler.specs.Forms.{digits}
 use Rattle.assembler.specs.Statement.{after, afterTwo, before, blank, body, coded, codeOf, labelOf, labelled, leads}
 use Rattle.assembler.specs.Statement.{mnemonic, nothing, operandFor, org, statement}
@@ -263,31 +261,44 @@ module _ (text : List ℕ) (at : ℕ) (within : at ≤ length text) where
       made i a b ts e = rw e (record { within = a; place = b; present = sym (rw i refl); label = rw i refl; rest = rw i refl })
 
 -- ---- the operand of a whole line
-befores-some : (ts us : List Term) → befores ts (some us) ≡ some (ts ++ us)
-befores-some [] us = refl
-befores-some (t ∷ ts) us = rw (befores-some ts us) refl
+-- what is read is what the operand counts, if there is one
+module _ (text : List ℕ) (names : List (List ℕ)) (addresses : List ℕ) (at form : ℕ) (name : Label) (short : length text ≤ 65535) {v : Value}
+    (e : v ≡ valued names addresses (operandAt text at)) where
+  value-of : (o : Option (List Term)) → operandOf (tokensAt text at) ≡ o → v ≡ valued names addresses o
+  value-of o q = e ∙ ap (valued names addresses) (short-read text at short ∙ q)
 
-module _ (text : List ℕ) (names : List (List ℕ)) (addresses : List ℕ) (at form : ℕ) (name : Label) (short : length text ≤ 65535) {r : Sum} where
-  pub no-operand : OperandRead text names addresses at 16 false r → r .readable ≡ false → (l : Line) → l .readable ≡ false
-      → Operanded names addresses (tokensAt text at) form name l
-  no-operand (R.bad q f) h l b = bad (f [] refl) b
-  no-operand (R.good ts q n a b s f) h l c = absurd (differ (sym h ∙ q))
+  pub no-operand : v .readable ≡ false → (l : Line) → l .readable ≡ false → Operanded names addresses (tokensAt text at) form name l
+  no-operand h l b = go (operandOf (tokensAt text at)) refl
+    where
+      go : (o : Option (List Term)) → operandOf (tokensAt text at) ≡ o → Operanded names addresses (tokensAt text at) form name l
+      go none q = bad q b
+      go (some ts) q = absurd (differ (sym h ∙ ap (λ (x : Value). x .readable) (value-of (some ts) q)))
 
-  module _ {k : Lexeme} (x : Lexed text (r .next) k) where
-    pub operand-over : OperandRead text names addresses at 16 false r → r .readable ≡ true → (k .kind ≡ 1 → ⊥) → (l : Line) → l .readable ≡ false
-        → Operanded names addresses (tokensAt text at) form name l
-    operand-over (R.bad q f) h e l b = absurd (differ (sym q ∙ h))
-    operand-over (R.good ts q n a b s f) h e l c = bad (f [] refl ∙ ap (befores ts) (as-over (x .next) s e false) ∙ befores-none ts) c
+  pub operand-whole : v .readable ≡ true
+      → Operanded names addresses (tokensAt text at) form name
+      (record { readable = true; form = form; labelled = name .present; label = name .start; missing = v .missing; plus = v .plus; minus = v .minus })
+  operand-whole h = go (operandOf (tokensAt text at)) refl
+    where
+      line : Line
+      line = record {
+        readable = true;
+        form = form;
+        labelled = name .present;
+        label = name .start;
+        missing = v .missing;
+        plus = v .plus;
+        minus = v .minus;
+      }
 
-    pub operand-whole : OperandRead text names addresses at 16 false r → r .readable ≡ true → k .kind ≡ 1
-        → Operanded names addresses (tokensAt text at) form name
-        (record { readable = true; form = form; labelled = name .present; label = name .start; missing = r .missing; plus = r .plus; minus = r .minus })
-    operand-whole (R.bad q f) h e = absurd (differ (sym q ∙ h))
-    operand-whole (R.good ts q n a b s f) h e =
-        good ts (f [] refl ∙ ap (λ (us : List Token). befores ts (followed us false [])) (as-end (x .next) e .0) ∙ befores-some ts [] ∙ ap some
-        (append-nil ts))
-        refl refl refl refl
-        (record { added = n .added; taken = n .taken; missed = n .missed; small = (omega (arith, n .low), omega (arith, n .less)) })
+      go : (o : Option (List Term)) → operandOf (tokensAt text at) ≡ o → Operanded names addresses (tokensAt text at) form name line
+      go none q = absurd (differ (sym (ap (λ (x : Value). x .readable) (value-of none q)) ∙ h))
+      go (some ts) q =
+          let u = value-of (some ts) q in
+          good ts q refl refl refl refl (record {
+            added = ap (λ (x : Value). x .plus) u;
+            taken = ap (λ (x : Value). x .minus) u;
+            missed = ap (λ (x : Value). x .missing) u;
+          })
 
 -- ---- what follows the label
 some-digits : (n : ℕ) (ts : List Token) → 0 < n → operandFor n ts ≡ operandOf ts
@@ -335,7 +346,7 @@ module _ (text : List ℕ) (above all : List (List ℕ)) (addresses : List ℕ) 
         (record { readable = true; form = form; labelled = name .present; label = name .start; missing = false; plus = 0; minus = 0 })
     plain-shown d e =
         L.coded [] (body-is ∙ rw (no-digits (digits (formAt form)) (digits-are ∙ d), e) refl) refl low high
-        (record { added = refl; taken = refl; missed = refl; small = (omega arith, omega arith) }) place
+        (record { added = refl; taken = refl; missed = refl }) place
 
     pub plain-broken : digitsIn (getD shapes form 0) ≡ 0 → nothing ts ≡ none → (r : Line) → r .readable ≡ false → Shows text above all addresses
         (bodied form own ts) r

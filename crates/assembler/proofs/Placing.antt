@@ -22,7 +22,7 @@ use Rattle.assembler.specs.Passing.{Placed, Settled, lineEnd}
 use Rattle.assembler.specs.declared.lines.Line.{Line}
 use Rattle.assembler.proofs.Addresses.{Flags, flag-span, shows-address, shows-place-free, shows-size, shows-stray, size-most}
 use Rattle.assembler.proofs.Splitting.{last-line, programAt}
-use Rattle.assembler.proofs.Walking.{Walk, shows-labelled, walk-begin, next-count, walk-clear, walk-few, walk-found, walk-names, walk-next-few}
+use Rattle.assembler.proofs.Walking.{Walk, shows-labelled, walk-begin, next-count, walk-clear, walk-found, walk-held, walk-names, walk-next-few}
 use Rattle.assembler.proofs.Walking.{walk-on, walk-past, walk-readable}
 
 pub record Placing (text starts addresses used : List ℕ) (all at number count address : ℕ) : Type 0 where
@@ -63,7 +63,7 @@ module _ {text starts addresses used : List ℕ} {all at number count address : 
   names = walk-names (g .walk) (g .settled)
 
   few : count ≤ length starts
-  few = omega (arith, walk-few (g .walk) (g .settled), g .settled .table .held .room)
+  few = walk-held (g .walk) (g .settled)
 
   stored-here : g .s .addresses ≡ take (length (namesAt text starts count)) addresses
   stored-here = g .stored ∙ ap (λ (n : ℕ). take n addresses) (sym (names-count text starts count few))
@@ -116,7 +116,7 @@ module _ {text starts addresses used : List ℕ} {all at number count address : 
       label-room l =
           let n = walk-next-few (g .walk) x (g .settled) (pick (r .labelled) (count + 1) count) refl in
           let m : count + 1 ≤ all = rw l at n in
-          (omega (arith, g .settled .table .room), omega (arith, here-most .0))
+          (omega (arith, g .settled .room), omega (arith, here-most .0))
 
       module _ (addresses' one two : List ℕ) (count' e : ℕ) (noted : addresses' ≡ pick (r .labelled) (set addresses count here) addresses)
           (counts : count' ≡ pick (r .labelled) (count + 1) count) (one-is : one ≡ pick (ltb 0 size) (set used here 1) used)
@@ -129,7 +129,8 @@ module _ {text starts addresses used : List ℕ} {all at number count address : 
         settled' : Settled text starts addresses' all
         settled' = record {
           short = g .settled .short;
-          table = record { held = g .settled .table .held; room = omega (arith, same-room, g .settled .table .room) };
+          held = g .settled .held;
+          room = omega (arith, same-room, g .settled .room);
           most = omega (arith, same-room, g .settled .most);
           names = g .settled .names;
           read = g .settled .read;
@@ -153,7 +154,7 @@ module _ {text starts addresses used : List ℕ} {all at number count address : 
             let last-names : length (next (g .s) st .names) ≡ count' = next-count (g .walk) x count' counts in
             let over : end start (program text) ≡ next (g .s) st = g .walk .ends ∙ ap (end (g .s)) is in
             let full : count' ≡ all = sym last-names ∙ ap (λ (a : Above). length (a .names)) (sym over) ∙ ap length (g .settled .names)
-            ∙ names-count text starts all (g .settled .table .held .room) in (
+            ∙ names-count text starts all (g .settled .held) in (
               clear,
               λ _. record {
                 settled = settled';

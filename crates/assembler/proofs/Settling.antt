@@ -60,10 +60,10 @@ module _ {text starts addresses : List ℕ} {all : ℕ} (p : Placed text starts 
   stored =
       first-addresses s (programAt text at) all addresses (ap (λ (a : Above). a .addresses) (sym (g .walk .ends)) ∙ p .addressed)
       (omega (arith, many, few))
-      ∙ ap (λ (n : ℕ). take n addresses) (many ∙ sym (names-count text starts count (omega (arith, few, p .settled .table .held .room))))
+      ∙ ap (λ (n : ℕ). take n addresses) (many ∙ sym (names-count text starts count (omega (arith, few, p .settled .held))))
 
   whole-stored : whole .addresses ≡ take (length (namesAt text starts all)) addresses
-  whole-stored = p .addressed ∙ ap (λ (n : ℕ). take n addresses) (sym (names-count text starts all (p .settled .table .held .room)))
+  whole-stored = p .addressed ∙ ap (λ (n : ℕ). take n addresses) (sym (names-count text starts all (p .settled .held)))
 
   in-place : misplaced s st ≡ false
   in-place = walk-none (g .walk) misplaced (g .placed) (p .placed)

@@ -25,7 +25,6 @@ use Rattle.assembler.specs.Statement.{operandFor, orgOf, statement}
 use Rattle.assembler.specs.Forms.{digits, forms}
 use Rattle.assembler.specs.Program.{Above, again, end, first, ifLabelled, labelOf, mislabelled, named, next, program, start, unread}
 use Rattle.assembler.specs.Read.{Shows, broken, coded as code, empty, labelIn, origin}
-use Rattle.assembler.specs.Read.{Tabled}
 use Rattle.assembler.specs.Passing.{Settled, lineEnd}
 use Rattle.assembler.specs.declared.lines.Line.{Line}
 use Rattle.assembler.proofs.Splitting.{end-within, last-line, next-line, programAt}
@@ -208,24 +207,17 @@ module _ {text : List ℕ} {at number count : ℕ} {s : Above} (w : Walk text at
     walk-few = omega (
       arith,
       w .counted,
-      few-names text starts all (settled .table .held .room) s (programAt text at)
+      few-names text starts all (settled .held) s (programAt text at)
           (ap (λ (a : Above). a .names) (sym (w .ends)) ∙ settled .names),
     )
 
     pub walk-names : s .names ≡ namesAt text starts count
     walk-names =
-        first-names text starts all (settled .table .held .room) s (programAt text at) (ap (λ (a : Above). a .names) (sym (w .ends)) ∙ settled .names)
+        first-names text starts all (settled .held) s (programAt text at) (ap (λ (a : Above). a .names) (sym (w .ends)) ∙ settled .names)
         ∙ ap (namesAt text starts) (w .counted)
 
-    pub walk-table : Tabled text starts addresses count
-    walk-table = record {
-      held = record {
-        room = omega (arith, walk-few, settled .table .held .room);
-        places = λ k h. settled .table .held .places k
-            (omega (arith, walk-few));
-      };
-      room = omega (arith, walk-few, settled .table .room);
-    }
+    pub walk-held : count ≤ length starts
+    walk-held = omega (arith, walk-few, settled .held)
 
   module _ {above all : List (List ℕ)} {addresses : List ℕ} {r : Line} (x : Shows text above all addresses here r) where
     pub walk-readable : r .readable ≡ true
@@ -253,7 +245,7 @@ module _ {text : List ℕ} {at number count : ℕ} {s : Above} (w : Walk text at
         omega (
           arith,
           next-count count' c,
-          few-names text starts most (settled .table .held .room) (next s here) (l .rest)
+          few-names text starts most (settled .held) (next s here) (l .rest)
               (ap (λ (ls : List Statement). end s ls .names) (sym (l .is)) ∙ ap (λ (a : Above). a .names) (sym (w .ends)) ∙ settled .names),
         )
 

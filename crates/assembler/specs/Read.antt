@@ -9,7 +9,7 @@ use lib.ListN.{length}
 use Rattle.isa.specs.Choice.{pick}
 use Rattle.mnemonic.specs.Spelling.{Token}
 use Rattle.operand.specs.Operand.{Term, minus, missing, operandOf, plus}
-use Rattle.operand.specs.Read.{Held, tokensAt, wordAt}
+use Rattle.operand.specs.Read.{tokensAt, wordAt}
 use Rattle.assembler.specs.Forms.{digits}
 use Rattle.assembler.specs.Statement.{Statement, unreadable, blank, org, mnemonic, after, afterTwo, before, codeOf, labelOf, labelled}
 use Rattle.assembler.specs.Statement.{operandFor, orgOf}
@@ -39,7 +39,6 @@ pub record Valued (names : List (List ℕ)) (addresses : List ℕ) (terms : List
   pub added : r .plus ≡ plus names addresses terms
   pub taken : r .minus ≡ minus names addresses terms
   pub missed : r .missing ≡ missing names terms
-  pub small : (r .plus ≤ 4294836225) × (r .minus ≤ 4294836225)
 
 -- a line of a form and label, with its operand
 pub data Operanded (names : List (List ℕ)) (addresses : List ℕ) (ts : List Token) (form : ℕ) (name : Label) (r : Line) : Type 0 where
@@ -60,8 +59,3 @@ pub data Shows (text : List ℕ) (above all : List (List ℕ)) (addresses : List
       → Valued above addresses terms r → r .label ≤ length text → Shows text above all addresses st r
   coded : (terms : List Term) → st ≡ mnemonic (labelIn text (r .labelled) (r .label)) (formAt (r .form)) terms → r .readable ≡ true
       → 0 < r .form → r .form < 97 → Valued all addresses terms r → r .label ≤ length text → Shows text above all addresses st r
-
--- what a reader of labels may use
-pub record Tabled (text starts addresses : List ℕ) (count : ℕ) : Type 0 where
-  pub held : Held text starts count
-  pub room : count ≤ length addresses

@@ -1,6 +1,7 @@
 -- "A line is blank, or holds an optional label and colon, then a mnemonic of document 001 or `ORG`, and operands" (document 02, wish 4). A label
 -- does not stand alone. Before its operand a line has fixed words, commas and brackets alone, and an operand none of them; so where they end the
--- operand starts, which goes on to the end of the line. Assumes nothing.
+-- operand starts, which goes on to the end of the line. assembler_laws/specs/Syntax has the same as a grammar, and shows that both agree. Assumes
+-- nothing.
 use Prim.Native.Nat.{ℕ, zero, suc}
 use Prim.Native.Char.{code}
 use mathlib.Core.Bool.{Bool, true, false, _&&_, _||_}

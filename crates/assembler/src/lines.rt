@@ -6,7 +6,7 @@ ghost use lib.ListN.{length};
 ghost use Rattle.operand.specs.Read.{namesAt, tokensAt};
 ghost use Rattle.assembler.specs.Statement.{statement};
 ghost use Rattle.assembler.specs.Shapes.{leadsIn};
-ghost use Rattle.assembler.specs.Read.{Headed, Labelling, Operanded, Shows, Tabled, bodied, labelIn};
+ghost use Rattle.assembler.specs.Read.{Headed, Labelling, Operanded, Shows, bodied, labelIn};
 use crate::forms::BLANK;
 use crate::forms::NONE;
 use crate::forms::ORG;
@@ -18,9 +18,6 @@ use operand::tokens::END;
 use operand::tokens::FIXED;
 use operand::tokens::LABEL;
 use operand::tokens::token;
-
-// "parentheses up to 16 deep"
-const DEEPEST: u8 = 16;
 
 // The words and signs of the longest form before its operand.
 const LONGEST: u8 = 6;
@@ -143,18 +140,12 @@ fn with_operand(
     addresses: &[u16],
     count: usize,
 ) -> Line
-    requires { ⌜ (at ≤ length (now text)) × (length (now text) ≤ 65535) × Tabled (now text) (now starts) (now addresses) count ⌝ }
+    requires { ⌜ length (now text) ≤ 65535 ⌝ }
     ensures { λ r. ⌜ Operanded (namesAt (now (text .entry)) (now (starts .entry)) count) (now (addresses .entry))
         (tokensAt (now (text .entry)) at) form name r ⌝ }
 {
-    let o = operand(text, at, DEEPEST, false, starts, addresses, count);
+    let o = operand(text, at, starts, addresses, count);
     if !o.readable {
-        return unreadable();
-    }
-    let after = o.next;
-    let end = token(text, after);
-    let last = end.kind;
-    if last != END {
         return unreadable();
     }
     let labelled = name.present;
@@ -185,7 +176,6 @@ fn body(
     all: usize,
 ) -> Line
     requires { ⌜ (at ≤ length (now text)) × (length (now text) ≤ 65535) × (form ≤ 97) × (name .start ≤ length (now text)) ⌝ }
-    requires { ⌜ Tabled (now text) (now starts) (now addresses) above × Tabled (now text) (now starts) (now addresses) all ⌝ }
     ensures { λ r. ⌜ Shows (now (text .entry)) (namesAt (now (text .entry)) (now (starts .entry)) above)
         (namesAt (now (text .entry)) (now (starts .entry)) all) (now (addresses .entry))
         (bodied form (labelIn (now (text .entry)) (name .present) (name .start)) (tokensAt (now (text .entry)) at)) r ⌝ }
@@ -228,7 +218,6 @@ pub(crate) fn read_line(
     all: usize,
 ) -> Line
     requires { ⌜ (at ≤ length (now text)) × (length (now text) ≤ 65535) ⌝ }
-    requires { ⌜ Tabled (now text) (now starts) (now addresses) above × Tabled (now text) (now starts) (now addresses) all ⌝ }
     ensures { λ r. ⌜ Shows (now (text .entry)) (namesAt (now (text .entry)) (now (starts .entry)) above)
         (namesAt (now (text .entry)) (now (starts .entry)) all) (now (addresses .entry)) (statement (tokensAt (now (text .entry)) at)) r ⌝ }
 {

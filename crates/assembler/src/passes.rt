@@ -9,7 +9,6 @@ ghost use Rattle.operand.specs.Words.{among};
 ghost use Rattle.operand.specs.Read.{namesAt, wordAt};
 ghost use Rattle.assembler.specs.Program.{end, first, mislabelled, misfit, misplaced, program, put, start, within};
 ghost use Rattle.assembler.specs.Shapes.{isFree, isMisfit};
-ghost use Rattle.assembler.specs.Read.{Tabled};
 ghost use Rattle.assembler.specs.Passing.{Collected, Placed, Settled, lineEnd};
 use crate::forms::BRANCH;
 use crate::forms::ORG;
@@ -95,8 +94,7 @@ pub(crate) fn read_lines(text: &[u8], starts: &mut [u16], none: &[u16]) -> Label
 
 // Whether a line's label is among the first ones.
 fn defined(text: &[u8], starts: &[u16], count: usize, labelled: bool, label: usize) -> bool
-    requires { ⌜ Tabled (now text) (now starts) (now starts) count ⌝ }
-    requires { ⌜ (labelled ≡ true → label ≤ length (now text)) ⌝ }
+    requires { ⌜ count ≤ length (now starts) ⌝ }
     ensures { λ r. ⌜ r ≡ (labelled && among (namesAt (now (text .entry)) (now (starts .entry)) count) (wordAt (now (text .entry)) label)) ⌝ }
 {
     if labelled {

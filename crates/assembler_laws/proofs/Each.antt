@@ -1,7 +1,8 @@
 -- What holds of each thing of a list. Assumes nothing.
-use mathlib.Core.Path.{_≡_, refl}
+use mathlib.Core.Path.{_≡_, refl, ap, _∙_}
 use mathlib.Core.Bool.{Bool, true, _&&_}
-use mathlib.Core.List.{List, [], _∷_, _++_, map}
+use mathlib.Core.List.{List, [], _∷_, _++_, map, List·Memᴰ, List·Memᴰ·not-nil, List·Memᴰ·cases-cons}
+use mathlib.Core.Logic.{⊎-elim}
 use Rattle.isa.proofs.Exact.{and-left, and-right, and-both}
 
 infixr 67 _and_
@@ -22,6 +23,11 @@ every p (a ∷ l) = p a && every p l
 pub each-passes : {A : Type 0} (p : A → Bool) (l : List A) → every p l ≡ true → Each (λ (a : A). p a ≡ true) l
 each-passes p [] e = none
 each-passes p (a ∷ l) e = and-left (p a) (every p l) e and each-passes p l (and-right (p a) (every p l) e)
+
+pub passes : {A : Type 0} (p : A → Bool) (a : A) (l : List A) → every p l ≡ true → List·Memᴰ a l → p a ≡ true
+passes p a [] e m = absurd (List·Memᴰ·not-nil m)
+passes p a (b ∷ l) e m =
+    ⊎-elim (λ q. ap p q ∙ and-left (p b) (every p l) e) (λ q. passes p a l (and-right (p b) (every p l) e) q) (List·Memᴰ·cases-cons m)
 
 pub every-append : {A : Type 0} (p : A → Bool) (s t : List A) → every p s ≡ true → every p t ≡ true → every p (s ++ t) ≡ true
 every-append p [] t e f = f

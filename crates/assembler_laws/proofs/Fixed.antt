@@ -6,7 +6,7 @@ use native.Mathlib.Omega.{arith}
 use mathlib.Core.Path.{_≡_, refl, sym, ap, subst, _∙_}
 use mathlib.Core.Bool.{Bool, true, false, _&&_, _||_, false≢true}
 use mathlib.Core.List.{List, [], _∷_, _++_, List·Memᴰ, List·Memᴰ·head, List·Memᴰ·tail}
-use mathlib.Core.List.{List·Memᴰ·not-nil, List·Memᴰ·cases-cons, List·Memᴰ·append-cases, List·Memᴰ·eq-of-singleton}
+use mathlib.Core.List.{List·Memᴰ·not-nil, List·Memᴰ·append-cases, List·Memᴰ·eq-of-singleton}
 use mathlib.Core.Logic.{⊎-elim}
 use lib.ListN.{length}
 use borrow.Author.Tests.{ltb-true}
@@ -27,7 +27,7 @@ use Rattle.assembler.specs.Forms.{digits, lead}
 use Rattle.assembler.specs.Statement.{leads}
 use Rattle.assembler_laws.specs.Fixed.{Stated, org, mnemonic, FixedExactly}
 use Rattle.assembler_laws.proofs.Each as Each
-use Rattle.assembler_laws.proofs.Each.{Each, _and_, every}
+use Rattle.assembler_laws.proofs.Each.{Each, _and_, every, passes}
 use Rattle.assembler_laws.proofs.Numbers.{same-is}
 use Rattle.assembler_laws.proofs.Own.{own-case, own-line}
 use Rattle.assembler_laws.proofs.Spoken.{spoken}
@@ -97,11 +97,6 @@ unfolding isFixed
 stated w e = found Stated w fixed-stated (ltb-true (place fixedWords w) (length fixedWords) e)
 
 -- ---- each word of a line is fixed
-passes : {A : Type 0} (p : A → Bool) (a : A) (l : List A) → every p l ≡ true → List·Memᴰ a l → p a ≡ true
-passes p a [] e m = absurd (List·Memᴰ·not-nil m)
-passes p a (b ∷ l) e m =
-    ⊎-elim (λ q. ap p q ∙ and-left (p b) (every p l) e) (λ q. passes p a l (and-right (p b) (every p l) e) q) (List·Memᴰ·cases-cons m)
-
 no-word : (w : List ℕ) (n v : ℕ) → List·Memᴰ (letters w) (spoken n v) → ⊥
 no-word w zero v m = List·Memᴰ·not-nil m
 no-word w (suc n) v m =

@@ -19,7 +19,7 @@ use Rattle.assembler_laws.specs.Grammar.{Operand, single, added, less, t
 use Rattle.assembler_laws.proofs.Numbers.{not-label}
 
 -- ---- words
-starts-with-digit : (w : List ℕ) (n : ℕ) → numberOf w ≡ some n → isDigit (first w) ≡ true
+pub starts-with-digit : (w : List ℕ) (n : ℕ) → numberOf w ≡ some n → isDigit (first w) ≡ true
 unfolding numberOf
 starts-with-digit w n e = go (isDigit (first w)) _ e
   where

@@ -14,6 +14,7 @@ pub mod Passed
 pub mod Printed
 pub mod Sound
 pub mod Spoken
+pub mod Syntax
 pub mod Tested
 pub mod Tokens
 pub mod Tree

@@ -19,7 +19,7 @@ use Rattle.operand.specs.Operand.{Term, plus, minus}
 use Rattle.assembler.specs.Forms.{size, field, reaches}
 use Rattle.assembler.specs.Statement.{Statement, unreadable, blank, org, mnemonic, statement}
 use Rattle.assembler.specs.Program.{Above, start, end, span, meets, within, misplaced, misfit, instruction, bytes, put, image, program}
-use Rattle.assembler_laws.specs.Lines.{Stands, here, there, LineReads, LinesRead, LinesReadAll}
+use Rattle.assembler_laws.specs.Lines.{Stands, here, there, BytesRead, LinesRead, LinesReadAll}
 use Rattle.assembler_laws.proofs.Each.{Each, _and_, each-map}
 use Rattle.assembler_laws.proofs.Form.{Fits, Formed, formed}
 use Rattle.assembler_laws.proofs.Image.{or-left, or-right, Clear, put-length, unwritten, put-line}
@@ -69,7 +69,7 @@ module _ (ls : List Statement) (out : List ℕ) (room : length out ≡ 4096) (fi
   all-clear u k h = cleared u k (each-line fits h) (placed u k h)
 
   line-reads : (u : Above) (l : Option (List ℕ)) (f : ℕ → Instruction) (ts : List Term) → Stands start ls u (mnemonic l f ts)
-      → LineReads whole u f ts (put whole start ls out)
+      → BytesRead whole u f ts (put whole start ls out)
   line-reads u l f ts h =
       let p : Fits f = each-line fits h in
       let v = added ts - taken ts in

@@ -5,7 +5,7 @@ use native.Mathlib.Omega.{arith}
 use mathlib.Core.Path.{_≡_, refl, ap, subst, _∙_}
 use mathlib.Core.Bool.{Bool, true, false, _&&_, not, false≢true}
 use mathlib.Core.List.{List, [], _∷_, _++_, map}
-use mathlib.Core.Option.{none, some}
+use mathlib.Core.Option.{Option, none, some}
 use lib.Dec.{leb}
 use lib.ListN.{length}
 use borrow.Author.Tests.{leb-true, not-true}
@@ -14,8 +14,8 @@ use Rattle.isa.specs.declared.Instruction.{Instruction}
 use Rattle.isa.proofs.Exact.{and-left, and-right}
 use Rattle.mnemonic.specs.Line.{lineOf}
 use Rattle.mnemonic.specs.Spelling.{Token, letters, mark, operand, codes, number, spelling}
-use Rattle.operand.specs.Text.{inWord, tokens}
-use Rattle.operand.specs.Words.{fixedWords, isFixed}
+use Rattle.operand.specs.Text.{inWord, isLetter, tokens}
+use Rattle.operand.specs.Words.{fixedWords, first, isFixed, isLabel}
 use Rattle.operand.specs.Operand as Operand
 use Rattle.operand.specs.Operand.{Term, operandOf}
 use Rattle.assembler.specs.Forms.{forms, leadOf, lead, digits, field}
@@ -69,53 +69,69 @@ operand-for zero v h b = refl
 operand-for (suc n) v h b = operand-said n v h b
 
 -- ---- no label
-unlabelled : (t : Token) (ts : List Token) (n v : ℕ) → labelled (t ∷ ts) ≡ false → labelled ((t ∷ ts) ++ said n v) ≡ false
-unlabelled (letters w) [] zero v e = refl
-unlabelled (letters w) [] (suc n) v e = refl
-unlabelled (letters w) (letters x ∷ ts) n v e = refl
-unlabelled (letters w) (mark c ∷ ts) n v e = e
-unlabelled (letters w) (operand m x ∷ ts) n v e = refl
-unlabelled (mark c) ts n v e = refl
-unlabelled (operand m x) ts n v e = refl
+-- a label is no fixed word, so a line that starts with fixed words has none
+fixed-no-label : (w : List ℕ) → isFixed w ≡ true → isLabel w ≡ false
+unfolding isLabel
+fixed-no-label w e = go (isLetter (first w)) (isFixed w) e
+  where
+    go : (a b : Bool) → b ≡ true → a && not b ≡ false
+    go true true q = refl
+    go false true q = refl
+    go a false q = absurd (false≢true q)
+
+unlabelled : (t : Token) (ts : List Token) → leads t ≡ true → labelled (t ∷ ts) ≡ false
+unlabelled (letters w) [] e = refl
+unlabelled (letters w) (letters x ∷ ts) e = refl
+unlabelled (letters w) (mark c ∷ ts) e = rw (fixed-no-label w e) refl
+unlabelled (letters w) (operand m x ∷ ts) e = refl
+unlabelled (mark c) ts e = refl
+unlabelled (operand m x) ts e = refl
 
 abbrev pub nonempty : List Token → Bool
 nonempty [] = false
 nonempty (t ∷ ts) = true
 
-bodied : (ts : List Token) (n v : ℕ) → nonempty ts ≡ true → labelled ts ≡ false → statement (ts ++ said n v) ≡ body none (ts ++ said n v)
-bodied [] n v e l = absurd (false≢true e)
-bodied (t ∷ ts) n v e l = rw (unlabelled t ts n v l) refl
+pub bodied : (ts us : List Token) → nonempty ts ≡ true → every leads ts ≡ true → statement (ts ++ us) ≡ body none (ts ++ us)
+bodied [] us n e = absurd (false≢true n)
+bodied (t ∷ ts) us n e = rw (unlabelled t (ts ++ us) (and-left (leads t) (every leads ts) e)) refl
 
 -- ---- the line
 abbrev pub org-words : List Token
 org-words = letters (codes "ORG") ∷ []
 
+pub body-parted : (l : Option (List ℕ)) (ts us : List Token) → every leads ts ≡ true → before us ≡ [] → after us ≡ us
+    → body l (ts ++ us) ≡ pick (equals org-words ts) (orgOf l (operandOf us)) (coded l us (formIn forms ts))
+unfolding body
+body-parted l ts us e b a = rw (before-there ts us e b, after-there ts us e a) refl
+
 body-said : (ts : List Token) (n v : ℕ) → every leads ts ≡ true
     → body none (ts ++ said n v) ≡ pick (equals org-words ts) (orgOf none (operandOf (said n v))) (coded none (said n v) (formIn forms ts))
-unfolding body
-body-said ts n v e = rw (before-there ts (said n v) e (before-said n v), after-there ts (said n v) e (after-said n v)) refl
+body-said ts n v e = body-parted none ts (said n v) e (before-said n v) (after-said n v)
+
+pub org-leads : every leads org-words ≡ true
+unfolding isFixed fixedWords
+org-leads = refl
 
 pub org-said : (n v : ℕ) → v < 16 ^ suc n → v ≤ 65535 → statement (org-words ++ said (suc n) v) ≡ org none (terms (suc n) v)
-unfolding isFixed fixedWords
-org-said n v h b = bodied org-words (suc n) v refl refl ∙ body-said org-words (suc n) v refl ∙ ap (orgOf none) (operand-said n v h b)
+org-said n v h b =
+    bodied org-words (said (suc n) v) refl org-leads
+    ∙ body-said org-words (suc n) v org-leads
+    ∙ ap (orgOf none) (operand-said n v h b)
 
 -- a form whose words and signs are a line's before its operand, and not ORG
 pub record Worded (f : ℕ → Instruction) : Type 0 where
   pub some-words : nonempty (lead f) ≡ true
-  pub no-label : labelled (lead f) ≡ false
   pub fixed : every leads (lead f) ≡ true
   pub no-org : equals org-words (lead f) ≡ false
 
 abbrev pub worded : (ℕ → Instruction) → Bool
-worded f = (nonempty (lead f) && not (labelled (lead f))) && (every leads (lead f) && not (equals org-words (lead f)))
+worded f = nonempty (lead f) && (every leads (lead f) && not (equals org-words (lead f)))
 
 pub is-worded : (f : ℕ → Instruction) → worded f ≡ true → Worded f
 is-worded f w =
-    let p = and-left (nonempty (lead f) && not (labelled (lead f))) (every leads (lead f) && not (equals org-words (lead f))) w in
-    let q = and-right (nonempty (lead f) && not (labelled (lead f))) (every leads (lead f) && not (equals org-words (lead f))) w in
+    let q = and-right (nonempty (lead f)) (every leads (lead f) && not (equals org-words (lead f))) w in
     record {
-      some-words = and-left (nonempty (lead f)) (not (labelled (lead f))) p;
-      no-label = not-true (labelled (lead f)) (and-right (nonempty (lead f)) (not (labelled (lead f))) p);
+      some-words = and-left (nonempty (lead f)) (every leads (lead f) && not (equals org-words (lead f))) w;
       fixed = and-left (every leads (lead f)) (not (equals org-words (lead f))) q;
       no-org = not-true (equals org-words (lead f)) (and-right (every leads (lead f)) (not (equals org-words (lead f))) q);
     }
@@ -123,7 +139,7 @@ is-worded f w =
 pub form-said : (f : ℕ → Instruction) (v : ℕ) → Worded f → formIn forms (lead f) ≡ some f → v < field f → v ≤ 65535
     → statement (lead f ++ said (digits f) v) ≡ mnemonic none f (terms (digits f) v)
 form-said f v w e h b =
-    bodied (lead f) (digits f) v (w .some-words) (w .no-label)
+    bodied (lead f) (said (digits f) v) (w .some-words) (w .fixed)
     ∙ body-said (lead f) (digits f) v (w .fixed)
     ∙ ap (λ (t : Bool). pick t (orgOf none (operandOf (said (digits f) v))) (coded none (said (digits f) v) (formIn forms (lead f)))) (w .no-org)
     ∙ ap (coded none (said (digits f) v)) e

@@ -32,7 +32,7 @@ GoesBy reti moved v = Unit {0}
 GoesBy ei moved v = Unit {0}
 
 -- a line with the form f and these terms, where this stands above it and `whole` above the end: its bytes read as its instruction
-pub record LineReads (whole s : Above) (f : ℕ → Instruction) (ts : List Term) (bs : List ℕ) : Type 0 where
+pub record BytesRead (whole s : Above) (f : ℕ → Instruction) (ts : List Term) (bs : List ℕ) : Type 0 where
   pub reads : Reading (byteAt bs (s .at)) (byteAt bs (s .at + 1)) (Read (instruction whole f ts))
   pub fits : s .at + Forms.size f ≤ 4096
   -- its operand has a value of its field, and a conditional branch goes to it
@@ -43,7 +43,7 @@ pub record LineReads (whole s : Above) (f : ℕ → Instruction) (ts : List Term
 pub record LinesRead (text bs : List ℕ) : Type 0 where
   pub size : length bs ≡ 4096
   pub lines : (s : Above) (l : Option (List ℕ)) (f : ℕ → Instruction) (ts : List Term) → Stands start (program text) s (mnemonic l f ts)
-      → LineReads (end start (program text)) s f ts bs
+      → BytesRead (end start (program text)) s f ts bs
   pub others : (a : ℕ) → a < 4096 → isIn (end start (program text) .written) a ≡ false → getD bs a 0 ≡ 0x3e
 
 abbrev pub LinesReadAll : Type 0

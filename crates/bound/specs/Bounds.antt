@@ -65,22 +65,24 @@ boundRefusal BadMask = 1
 boundRefusal BadPair = 5
 boundRefusal MaskFails = 15
 
--- what each number says: document 01's "1: mask not 4,096 bytes"; "15 if the mask fails, after 1 and 5 (a pair out of range)"
-abbrev pub BoundRefused : List ℕ → Pair → ℕ → Type 0
-BoundRefused mask p n =
-    either (eqb n 1) (length mask ≡ 4096 → ⊥)
+-- what each number says: 0, that nothing is refused; document 01's "1: mask not 4,096 bytes"; "15 if the mask fails, after 1 and 5 (a pair out of
+-- range)"
+abbrev pub BoundSays : List ℕ → Pair → ℕ → Type 0
+BoundSays mask p n =
+    either (eqb n 0) (Asked mask p)
+    (either (eqb n 1) (length mask ≡ 4096 → ⊥)
     (either (eqb n 5) ((length mask ≡ 4096) × (InRange p → ⊥))
     (either (eqb n 15) ((length mask ≡ 4096) × InRange p × (Safe mask → ⊥))
-    ⊥))
+    ⊥)))
 
--- what each answer says of the mask and the pair
+-- an answer says what its number says, and what it tells of the pair
 abbrev pub BoundAnswers : List ℕ → Pair → Bound → Type 0
-BoundAnswers mask p NotReached = Asked mask p × (ReachedAbove mask p → ⊥)
-BoundAnswers mask p NoBound = Asked mask p × ReachedAbove mask p × Unbounded mask p
-BoundAnswers mask p (Cycles n) = Asked mask p × ReachedAbove mask p × Bounded mask p n
-BoundAnswers mask p BadMask = BoundRefused mask p (boundRefusal BadMask)
-BoundAnswers mask p BadPair = BoundRefused mask p (boundRefusal BadPair)
-BoundAnswers mask p MaskFails = BoundRefused mask p (boundRefusal MaskFails)
+BoundAnswers mask p NotReached = BoundSays mask p (boundRefusal NotReached) × (ReachedAbove mask p → ⊥)
+BoundAnswers mask p NoBound = BoundSays mask p (boundRefusal NoBound) × ReachedAbove mask p × Unbounded mask p
+BoundAnswers mask p (Cycles n) = BoundSays mask p (boundRefusal (Cycles n)) × ReachedAbove mask p × Bounded mask p n
+BoundAnswers mask p BadMask = BoundSays mask p (boundRefusal BadMask)
+BoundAnswers mask p BadPair = BoundSays mask p (boundRefusal BadPair)
+BoundAnswers mask p MaskFails = BoundSays mask p (boundRefusal MaskFails)
 
 -- the answer depends on the mask and the pair alone
 abbrev pub BoundDetermines : Type 0

@@ -2,9 +2,9 @@
 -- is the longest that a program can stay above main. Then the targets of the CALLs that a mask may run. Assumes nothing.
 use Prim.Native.Nat.{ℕ, _+_, _*_, _-_, _<_, _≤_}
 use mathlib.Core.Path.{_≡_}
-use mathlib.Core.Bool.{true}
+use mathlib.Core.Bool.{true, _&&_}
 use mathlib.Core.List.{List}
-use lib.Dec.{eqb}
+use lib.Dec.{eqb, ltb}
 use lib.ListN.{length, getD}
 use Rattle.isa.specs.Choice.{pick}
 use Rattle.isa.specs.declared.ProgramAddress.{ProgramAddress}
@@ -33,6 +33,10 @@ boundAt n = pick (eqb n 0) NotReached (boundOf n)
 abbrev pub placeOf : ℕ → ℕ → ℕ
 placeOf a l = a * 2 + (l - 1)
 
+-- the entry of a pair above level 0; 0, 'not reached', for any other pair, and for a list of another length
+abbrev pub entryOf : List ℕ → ℕ → ℕ → ℕ
+entryOf list a l = pick (eqb (length list) 8192 && ltb a addresses && ltb 0 l && ltb l levels) (getD list (placeOf a l) 0) 0
+
 -- each entry is the answer for its pair
 abbrev pub Entries : List ℕ → List ℕ → Type 0
 Entries mask list = (a l : ℕ) → a < addresses → 0 < l → l < levels → BoundAnswers mask (pair a l) (boundAt (getD list (placeOf a l) 0))
@@ -44,7 +48,7 @@ boundsRefusal BadMask = 1
 boundsRefusal BadList = 2
 boundsRefusal MaskFails = 15
 
--- what each number says
+-- what each refusal says
 abbrev pub BoundsRefused : List ℕ → List ℕ → ℕ → Type 0
 BoundsRefused mask old n =
     either (eqb n 1) (length mask ≡ 4096 → ⊥)
@@ -52,12 +56,12 @@ BoundsRefused mask old n =
     (either (eqb n 15) ((length mask ≡ 4096) × (length old ≡ 8192) × (Safe mask → ⊥))
     ⊥))
 
--- what each answer says of the mask, and of the list at entry and at exit; after a refusal the list is as it was
+-- what each answer says, by its number, of the mask and of the list at entry and at exit: 0, that each entry is there; after a refusal the list is as
+-- it was
 abbrev pub BoundsAnswer : List ℕ → List ℕ → List ℕ → Bounds → Type 0
-BoundsAnswer mask old new Listed = (length old ≡ 8192) × (length new ≡ 8192) × Entries mask new
-BoundsAnswer mask old new BadMask = BoundsRefused mask old (boundsRefusal BadMask) × (new ≡ old)
-BoundsAnswer mask old new BadList = BoundsRefused mask old (boundsRefusal BadList) × (new ≡ old)
-BoundsAnswer mask old new MaskFails = BoundsRefused mask old (boundsRefusal MaskFails) × (new ≡ old)
+BoundsAnswer mask old new b =
+    either (eqb (boundsRefusal b) 0) ((length old ≡ 8192) × (length new ≡ 8192) × Entries mask new)
+    (BoundsRefused mask old (boundsRefusal b) × (new ≡ old))
 
 -- the first place whose entry is the largest
 pub record Largest (list : List ℕ) (place : ℕ) : Type 0 where

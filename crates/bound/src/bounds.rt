@@ -1,11 +1,9 @@
 // The bounds of all pairs above main, in one list by address, then level: 0 for not reached, 65,535 for no bound, else the cycles.
 ghost use mathlib.Core.Path.{_≡_};
-ghost use Prim.Native.Nat.{_<_};
-ghost use lib.ListN.{getD, length};
+ghost use lib.ListN.{length};
 ghost use Rattle.isa.specs.Choice.{pick};
-ghost use Rattle.checker.specs.Marks.{addresses, levels};
 ghost use Rattle.checker.specs.Verdicts.{Marked, Safe, isMarked};
-ghost use Rattle.bound.specs.Lists.{BoundsAnswer, Entries, Largest, placeOf};
+ghost use Rattle.bound.specs.Lists.{BoundsAnswer, Entries, Largest, entryOf};
 use crate::longest::longest;
 use checker::check::Verdict;
 use checker::check::check;
@@ -24,7 +22,6 @@ pub enum Bounds {
 
 // A pair's entry for the number of its address: 0 where it is not marked.
 fn entry(marks: &[u8; 4096], address: u16, level: u8, number: u16) -> u16
-    requires { ⌜ (address < addresses) × (level < levels) ⌝ }
     ensures { λ r. ⌜ r ≡ pick (isMarked (now (marks .entry)) address level) number 0 ⌝ }
 {
     if is_marked(marks, address, level) {
@@ -56,7 +53,7 @@ pub fn bounds_of(mask: &[u8], list: &mut [u16]) -> Bounds
     if mask.len() != 4096 {
         return Bounds::BadMask;
     }
-    if list.len() != 8192 {
+    if list.len() != 8192 { // two entries an address
         return Bounds::BadList;
     }
     let mut marks = [0u8; 4096];
@@ -68,11 +65,22 @@ pub fn bounds_of(mask: &[u8], list: &mut [u16]) -> Bounds
     Bounds::Listed
 }
 
-// The entry of a pair above main.
+// The entry of a pair above main; 0 for any other pair, and for a list of another length.
 pub fn entry_of(list: &[u16], address: u16, level: u8) -> u16
-    requires { ⌜ (length (now list) ≡ 8192) × (address < addresses) × (0 < level) × (level < levels) ⌝ }
-    ensures { λ r. ⌜ r ≡ getD (now (list .entry)) (placeOf address level) 0 ⌝ }
+    ensures { λ r. ⌜ r ≡ entryOf (now (list .entry)) address level ⌝ }
 {
+    if list.len() != 8192 {
+        return 0;
+    }
+    if 4095 < address {
+        return 0;
+    }
+    if level == 0 {
+        return 0;
+    }
+    if 2 < level {
+        return 0;
+    }
     list[address as usize * 2 + (level as usize - 1)]
 }
 

@@ -10,9 +10,9 @@ use mathlib.Core.List.{List}
 use lib.Dec.{eqb, ltb}
 use lib.ListN.{length, getD}
 use lib.Seq.{ext-getD}
-use borrow.Author.Tests.{eq-eqb, eqb-true, eqb-false, ltb-true, ltb-false}
+use borrow.Author.Tests.{lt-ltb, eq-eqb, eqb-true, eqb-false, ltb-true, ltb-false}
 use Rattle.checker.specs.Marks.{addresses, levels, Pair, pair, fault, Reached}
-use Rattle.checker.specs.Verdicts.{Marked, rank, Lowest, Safe, Written, Answers, AnswersDetermine, numberOf}
+use Rattle.checker.specs.Verdicts.{isMarked, Marked, rank, Lowest, Safe, Written, Answers, AnswersDetermine, numberOf}
 use Rattle.checker.specs.Walk.{pairs, nextCodes, Found, markOf, Packed, Names, verdictOf}
 use Rattle.checker.specs.declared.walk.Named.{Named}
 use Rattle.checker.specs.declared.check.Verdict.{Verdict}
@@ -30,6 +30,10 @@ flag seen f a (suc zero) h = omega (arith, f (a * 3), f (a * 3 + 1), f (a * 3 + 
 flag seen f a (suc (suc zero)) h = omega (arith, f (a * 3), f (a * 3 + 1), f (a * 3 + 2))
 flag seen f a (suc (suc (suc l))) h = absurd (omega arith)
 
+-- the mark of a pair in range is its bit
+pub its-bit : (marks : List ℕ) (a l : ℕ) → a < addresses → l < levels → isMarked marks a l ≡ eqb (getD marks a 0 / 2 ^ l % 2) 1
+its-bit marks a l h k = rw (lt-ltb a addresses h, lt-ltb l levels k) refl
+
 module _ (mask seen : List ℕ) (s : Found pairs (nextCodes mask) seen) where
   -- of a pair with a level, flagged
   at-pair : (a l : ℕ) → l < levels → getD seen (a * levels + l) 0 ≡ 1 → Reached mask (pair a l)
@@ -44,8 +48,8 @@ module _ (mask seen : List ℕ) (s : Found pairs (nextCodes mask) seen) where
       record {
         size = p .size;
         rest = λ a h. omega (arith, p .byte a h, s .flags (a * 3), s .flags (a * 3 + 1), s .flags (a * 3 + 2));
-        sound = λ a l h k e. at-pair a l k (sym (told a l h k) ∙ eqb-true (getD marks a 0 / 2 ^ l % 2) 1 e);
-        full = λ a l h k r. eq-eqb (getD marks a 0 / 2 ^ l % 2) 1 (told a l h k ∙ flagged (pair a l) r .1);
+        sound = λ a l h k e. at-pair a l k (sym (told a l h k) ∙ eqb-true (getD marks a 0 / 2 ^ l % 2) 1 (sym (its-bit marks a l h k) ∙ e));
+        full = λ a l h k r. its-bit marks a l h k ∙ eq-eqb (getD marks a 0 / 2 ^ l % 2) 1 (told a l h k ∙ flagged (pair a l) r .1);
       }
     where
       told : (a l : ℕ) → a < addresses → l < levels → getD marks a 0 / 2 ^ l % 2 ≡ getD seen (a * levels + l) 0
@@ -110,7 +114,9 @@ same-marks mask new other m n = ext-getD 0 new other (m .size ∙ sym (n .size))
   where
     bit : (a l : ℕ) → a < addresses → l < levels → getD new a 0 / 2 ^ l % 2 ≡ getD other a 0 / 2 ^ l % 2
     bit a l h k =
-        same-bit (getD new a 0 / 2 ^ l) (getD other a 0 / 2 ^ l) (λ e. n .full a l h k (m .sound a l h k e)) (λ e. m .full a l h k (n .sound a l h k e))
+        same-bit (getD new a 0 / 2 ^ l) (getD other a 0 / 2 ^ l)
+        (λ e. sym (its-bit other a l h k) ∙ n .full a l h k (m .sound a l h k (its-bit new a l h k ∙ e)))
+        (λ e. sym (its-bit new a l h k) ∙ m .full a l h k (n .sound a l h k (its-bit other a l h k ∙ e)))
 
     byte : (a : ℕ) → a < addresses → getD new a 0 ≡ getD other a 0
     byte a h =

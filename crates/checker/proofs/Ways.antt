@@ -9,7 +9,7 @@ use Rattle.checker.specs.Chains.{Chain, Shortest}
 use Rattle.checker.specs.Marks.{levels, Pair, pair, successors}
 use Rattle.checker.specs.Verdicts.{rank, Safe}
 use Rattle.checker.specs.Walk.{pairs, pairOf, nextCodes, Found, Names}
-use Rattle.checker.specs.Ways.{Way, WayAnswers, WayDetermines, WayToVerdict, WayFits, NeverTooShort}
+use Rattle.checker.specs.Ways.{Way, Lists, TooShort, WayAnswers, WayDetermines, WayToVerdict, WayFits, NeverTooShort}
 use Rattle.checker.specs.Trail.{Stands, StandsFirst, Traced, Counted, Up, stay, pairsAt, ListedTo}
 use Rattle.checker.specs.declared.way.Listing.{Listing}
 use Rattle.checker.specs.declared.way.Listing.the-variants.{Listed, BadMask, MaskPasses, BadList}
@@ -51,6 +51,7 @@ module _ (mask seen queue starts : List ℕ) (s : Found pairs (nextCodes mask) s
     pub answered : (old new : List ℕ) (r : Listing) → length mask ≡ 4096 → ListedTo queue starts (m .code) old new r → WayAnswers mask old new r
     answered old new (Listed n) e x =
         let p = x .listings in
+        let l : Lists mask old new n =
         record {
           mask-size = e;
           chain = pairsAt queue (p .places);
@@ -58,20 +59,21 @@ module _ (mask seen queue starts : List ℕ) (s : Found pairs (nextCodes mask) s
           counted = p .counted ∙ sym (pairs-length (p .places));
           fits = x .fits;
           bytes = p .bytes;
-        }
+        } in
+        l
     answered old new BadMask e x = absurd x
     answered old new MaskPasses e x = absurd x
     answered old new BadList e (x, kept) =
         let u = up-from (x .ended .counted) stay in
-        let n : x .count ≡ length (u .0) = omega (arith, u .2) in (
-          record {
-            mask-size = e;
-            chain = pairsAt queue (u .0);
-            way = way-back (u .0) (x .count) (x .ended .end) (x .ended .first) (x .ended .counted) (u .1) n;
-            short = omega (arith, x .short, pairs-length (u .0));
-          },
-          kept,
-        )
+        let n : x .count ≡ length (u .0) = omega (arith, u .2) in
+        let s : TooShort mask old =
+        record {
+          mask-size = e;
+          chain = pairsAt queue (u .0);
+          way = way-back (u .0) (x .count) (x .ended .end) (x .ended .first) (x .ended .counted) (u .1) n;
+          short = omega (arith, x .short, pairs-length (u .0));
+        } in
+        (s, kept)
 
 -- ---- the only answer
 same-count : (mask : List ℕ) (c d : List Pair) → Way mask c → Way mask d → length c ≡ length d

@@ -1,18 +1,18 @@
 -- What the checker writes and answers. Assumes nothing.
 use Prim.Native.Nat.{ℕ, _+_, _*_, _/_, _%_, _^_, _<_, _≤_}
 use mathlib.Core.Path.{_≡_}
-use mathlib.Core.Bool.{Bool, true}
+use mathlib.Core.Bool.{Bool, true, _&&_}
 use mathlib.Core.List.{List}
 use lib.ListN.{length, getD}
-use lib.Dec.{eqb}
+use lib.Dec.{eqb, ltb}
 use Rattle.isa.specs.Choice.{pick}
 use Rattle.checker.specs.Marks.{addresses, levels, Pair, pair, fault, Reached}
 use Rattle.checker.specs.declared.check.Verdict.{Verdict}
 use Rattle.checker.specs.declared.check.Verdict.the-variants.{Passed, Failed, BadMask, BadMarks}
 
--- "mark bytes: 1 level 0, 2 level 1, 4 level 2, added": the bit of a level in the byte of an address
+-- "mark bytes: 1 level 0, 2 level 1, 4 level 2, added": the bit of a level in the byte of an address. No pair out of range has one
 abbrev pub isMarked : List ℕ → ℕ → ℕ → Bool
-isMarked marks a l = eqb (getD marks a 0 / 2 ^ l % 2) 1
+isMarked marks a l = ltb a addresses && ltb l levels && eqb (getD marks a 0 / 2 ^ l % 2) 1
 
 -- "The checker writes 4,096 mark bytes .. for exactly the pairs that chains from address 0, level 0 reach"
 pub record Marked (mask marks : List ℕ) : Type 0 where

@@ -50,23 +50,28 @@ wayRefusal BadMask = 1
 wayRefusal MaskPasses = 10
 wayRefusal BadList = 11
 
+-- and its value, "its count of pairs": 0 beside a refusal
+abbrev pub wayCount : Listing → ℕ
+wayCount (Listed n) = n
+wayCount BadMask = 0
+wayCount MaskPasses = 0
+wayCount BadList = 0
+
 -- one of two claims, by a test
 abbrev pub either : Bool → Type 0 → Type 0 → Type 0
 either true P Q = P
 either false P Q = Q
 
--- what each number says: document 01's "1: mask not 4,096 bytes"; "10 if the mask passes, after 1; 11 if the list is too short, after 10"
+-- what each refusal says: document 01's "1: mask not 4,096 bytes"; "10 if the mask passes, after 1; 11 if the list is too short, after 10"
 abbrev pub WayRefused : List ℕ → List ℕ → ℕ → Type 0
 WayRefused mask old n =
     either (eqb n 1) (length mask ≡ 4096 → ⊥) (either (eqb n 10) ((length mask ≡ 4096) × Safe mask) (either (eqb n 11) (TooShort mask old) ⊥))
 
--- what each answer says of the mask, and of the list at entry and at exit; after a refusal the list is as it was. "Which of several is free": the
--- bytes listed are those of some shortest chain
+-- what each answer says, by its number, of the mask and of the list at entry and at exit: 0, that so many pairs are listed; after a refusal the list
+-- is as it was. "Which of several is free": the bytes listed are those of some shortest chain
 abbrev pub WayAnswers : List ℕ → List ℕ → List ℕ → Listing → Type 0
-WayAnswers mask old new (Listed n) = Lists mask old new n
-WayAnswers mask old new BadMask = WayRefused mask old (wayRefusal BadMask) × (new ≡ old)
-WayAnswers mask old new MaskPasses = WayRefused mask old (wayRefusal MaskPasses) × (new ≡ old)
-WayAnswers mask old new BadList = WayRefused mask old (wayRefusal BadList) × (new ≡ old)
+WayAnswers mask old new v =
+    either (eqb (wayRefusal v) 0) (Lists mask old new (wayCount v)) (WayRefused mask old (wayRefusal v) × (new ≡ old))
 
 -- the answer, its count with it, depends on the mask and the list at entry alone
 abbrev pub WayDetermines : Type 0

@@ -1,8 +1,7 @@
 // The marks and the verdict.
 ghost use mathlib.Core.Path.{_≡_};
-ghost use Prim.Native.Nat.{ℕ, _<_, _≤_};
+ghost use Prim.Native.Nat.{ℕ, _≤_};
 ghost use lib.ListN.{getD, length};
-ghost use Rattle.checker.specs.Marks.{addresses, levels};
 ghost use Rattle.checker.specs.Verdicts.{Answers, checkRefusal, isMarked, numberOf};
 ghost use Rattle.checker.specs.Walk.{Packed, verdictOf};
 use crate::walk::Named;
@@ -62,11 +61,13 @@ pub fn check(mask: &[u8], marks: &mut [u8]) -> Verdict
     judge(named)
 }
 
-// Whether a pair is marked: its level's bit in the mark byte of its address.
+// Whether a pair is marked: its level's bit in the mark byte of its address. A pair out of range is not.
 pub fn is_marked(marks: &[u8; 4096], address: u16, level: u8) -> bool
-    requires { ⌜ (address < addresses) × (level < levels) ⌝ }
     ensures { λ r. ⌜ r ≡ isMarked (now (marks .entry)) address level ⌝ }
 {
+    if 4095 < address {
+        return false;
+    }
     let byte = marks[address as usize];
     if level == 0 {
         return byte % 2 == 1;
@@ -74,5 +75,8 @@ pub fn is_marked(marks: &[u8; 4096], address: u16, level: u8) -> bool
     if level == 1 {
         return byte / 2 % 2 == 1;
     }
-    byte / 4 % 2 == 1
+    if level == 2 {
+        return byte / 4 % 2 == 1;
+    }
+    false
 }

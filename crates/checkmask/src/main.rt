@@ -2,9 +2,8 @@
 // level L` and then a shortest way there, a line a pair: address, level, bytes and instruction. A mask of another length, or none, gives `refused 1`.
 // What it prints is decided by the proved functions of `checker`, `bound` and `mnemonic`; here a file is read and lines are written.
 ghost use mathlib.Core.Path.{_≡_};
-ghost use Prim.Native.Nat.{_*_, _<_, _≤_};
+ghost use Prim.Native.Nat.{_*_, _≤_};
 ghost use lib.ListN.{length};
-ghost use Rattle.checker.specs.Marks.{addresses, levels};
 use bound::bounds::bounds_of;
 use bound::bounds::entry_of;
 use bound::bounds::largest;
@@ -132,18 +131,14 @@ fn put_cycles(cycles: u16) {
 }
 
 // The bound of a pair above main.
-fn put_bound(list: &[u16], address: u16, level: u8)
-    requires { ⌜ (length (now list) ≡ 8192) × (address < addresses) × (0 < level) × (level < levels) ⌝ }
-{
+fn put_bound(list: &[u16], address: u16, level: u8) {
     put(b"bound");
     put_place(address, level, b": ");
     put_cycles(entry_of(list, address, level));
     put(b"\n");
 }
 
-fn put_targets(list: &[u16], targets: &[u8; 4096])
-    requires { ⌜ length (now list) ≡ 8192 ⌝ }
-{
+fn put_targets(list: &[u16], targets: &[u8; 4096]) {
     let mut address: u16 = 0;
     while address < 4096 {
         if targets[address as usize] == 1 {

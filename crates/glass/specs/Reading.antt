@@ -8,6 +8,8 @@ use lib.Dec.{eqb, ltb}
 use lib.ListN.{length, take}
 use Rattle.glass.specs.Shapes.{Cell, glass, cells}
 use Rattle.glass.specs.Pictures.{Reads, Valid}
+use Rattle.glass.specs.declared.Reading.{Reading}
+use Rattle.glass.specs.declared.Reading.the-variants.{Dark}
 use Rattle.glass.specs.declared.Seen.{Seen}
 use Rattle.glass.specs.declared.Seen.the-variants.{Shown, BadLength, BadNibble, Unreadable}
 
@@ -44,20 +46,32 @@ seenRefusal BadLength = 2
 seenRefusal BadNibble = 3
 seenRefusal (Unreadable k) = 16
 
--- what each number says of a picture, with the digit of 16: document 01's 2, a buffer of another length; "3 for a picture nibble over 15; then 16 .."
-abbrev pub Refused : List ℕ → ℕ → ℕ → Type 0
-Refused s n k =
-    cond (eqb n 2) (length s ≡ 2 * glass → ⊥)
-    (cond (eqb n 3) ((length s ≡ 2 * glass) × (allNibbles s ≡ false))
-    (cond (eqb n 16) (EightNibbles s × Leftmost (cells s) k)
-    ⊥))
+-- and its values: the reading of 0, the digit of 16. Dark and 0 stand beside any other number
+abbrev pub seenReading : Seen → Reading
+seenReading (Shown r) = r
+seenReading BadLength = Dark
+seenReading BadNibble = Dark
+seenReading (Unreadable k) = Dark
 
--- what each answer says of the picture
+abbrev pub seenDigit : Seen → ℕ
+seenDigit (Shown r) = 0
+seenDigit BadLength = 0
+seenDigit BadNibble = 0
+seenDigit (Unreadable k) = k
+
+-- what each number says of a picture, with an answer's values: 0, that it reads so; document 01's 2, a buffer of another length; "3 for a picture
+-- nibble over 15; then 16 .."
+abbrev pub SeenSays : List ℕ → Seen → ℕ → Type 0
+SeenSays s x n =
+    cond (eqb n 0) (EightNibbles s × Reads (cells s) (seenReading x))
+    (cond (eqb n 2) (length s ≡ 2 * glass → ⊥)
+    (cond (eqb n 3) ((length s ≡ 2 * glass) × (allNibbles s ≡ false))
+    (cond (eqb n 16) (EightNibbles s × Leftmost (cells s) (seenDigit x))
+    ⊥)))
+
+-- an answer says what its number says
 abbrev pub SeenAnswers : List ℕ → Seen → Type 0
-SeenAnswers s (Shown r) = EightNibbles s × Reads (cells s) r
-SeenAnswers s BadLength = Refused s (seenRefusal BadLength) 0
-SeenAnswers s BadNibble = Refused s (seenRefusal BadNibble) 0
-SeenAnswers s (Unreadable k) = Refused s (seenRefusal (Unreadable k)) k
+SeenAnswers s x = SeenSays s x (seenRefusal x)
 
 -- a picture has one answer
 abbrev pub SeenDetermined : Type 0

@@ -1,7 +1,7 @@
 -- Document 01's proved table holds. Of its three masks: what is reached, and which of it is the lowest forbidden pair, leave one answer. Assumes
 -- nothing.
 use Prim.Native.Nat.{ℕ, zero, suc, _+_, _/_, _%_, _<_, _≤_, _^_}
-use mathlib.Core.Path.{_≡_, refl, ap, subst, _∙_}
+use mathlib.Core.Path.{_≡_, refl, sym, ap, subst, _∙_}
 use mathlib.Core.Bool.{true}
 use mathlib.Core.List.{List, [], _∷_}
 use native.Mathlib.Omega.{arith}
@@ -21,7 +21,7 @@ use Rattle.checker.specs.Verdicts.{Answers, Marked, rank, Safe, Lowest}
 use Rattle.checker.specs.declared.check.Verdict.{Verdict}
 use Rattle.checker.specs.declared.check.Verdict.the-variants.{Passed, Failed}
 use Rattle.checker.proofs.Chains.{reached-start, reached-next, reached-all}
-use Rattle.checker.proofs.Answer.{same-marks, answer-passed, answer-failed}
+use Rattle.checker.proofs.Answer.{its-bit, same-marks, answer-passed, answer-failed}
 use Rattle.guarantee.specs.Table.{ProvedTable}
 
 -- ---- all 3E
@@ -72,8 +72,8 @@ ones =
     record {
       size = length-replicate {A = ℕ} 4096 1;
       rest = λ a h. omega (arith, one-at a h);
-      sound = λ a l h k e. main a l h k (subst (λ (b : ℕ). eqb (b / 2 ^ l % 2) 1 ≡ true) (one-at a h) e);
-      full = λ a l h k r. rw (nops-main (pair a l) r, one-at a h) refl;
+      sound = λ a l h k e. main a l h k (subst (λ (b : ℕ). eqb (b / 2 ^ l % 2) 1 ≡ true) (one-at a h) (sym (its-bit (replicate 4096 1) a l h k) ∙ e));
+      full = λ a l h k r. its-bit (replicate 4096 1) a l h k ∙ rw (nops-main (pair a l) r, one-at a h) refl;
     }
   where
     main : (a l : ℕ) → a < 4096 → l < 3 → eqb (1 / 2 ^ l % 2) 1 ≡ true → Reached nops (pair a l)

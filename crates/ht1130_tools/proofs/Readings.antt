@@ -30,7 +30,7 @@ complement-tells (negsuc m) (pos n) h k e = absurd (omega (arith, h, k, e))
 complement-tells (negsuc m) (negsuc n) h k e = ap negsuc (omega (arith, h, k, e))
 
 number-same : (p q : List ℕ) (v w : ℤ) (c d : ℕ) → SeenAnswers p (Shown (Number v c)) → SeenAnswers q (Shown (Number w d))
-    → c * 2 ^ 24 + complement v * 2 ^ 32 ≡ d * 2 ^ 24 + complement w * 2 ^ 32 → Shown (Number v c) ≡ Shown (Number w d)
+    → seenNumber (Shown (Number v c)) ≡ seenNumber (Shown (Number w d)) → Shown (Number v c) ≡ Shown (Number w d)
 number-same p q v w c d a b e =
     let x = shown-under p v c a in
     let y = shown-under q w d b in

@@ -13,10 +13,9 @@ use Rattle.bound.specs.declared.bound.Bound.{Bound}
 use Rattle.bound.specs.declared.bound.Bound.the-variants.{NotReached, NoBound, Cycles, BadPair, MaskFails}
 use Rattle.bound.specs.declared.bound.Bound.the-variants.{BadMask as BadBoundMask}
 use Rattle.checker.specs.Marks.{Pair}
-use Rattle.checker.specs.Ways.{WayAnswers, wayRefusal}
+use Rattle.checker.specs.Ways.{WayAnswers, wayCount, wayRefusal}
 use Rattle.checker.specs.declared.way.Listing.{Listing}
-use Rattle.checker.specs.declared.way.Listing.the-variants.{Listed, MaskPasses, BadList}
-use Rattle.checker.specs.declared.way.Listing.the-variants.{BadMask as NoMask}
+use Rattle.checker.specs.declared.way.Listing.the-variants.{BadList}
 use Rattle.assembler.specs.Program.{Answer, left, line, refusal}
 use Rattle.script.specs.Reports.{Applied}
 use Rattle.script.specs.declared.Checked.{Checked}
@@ -24,8 +23,8 @@ use Rattle.script.specs.declared.Checked.{Checked}
 -- "It answers passed, or fault, address and level": 0, or fault in byte 1, level in byte 2 and address in bytes 4 and 5. A refusal is its
 -- number, "1: mask not 4,096 bytes", "2: .. marks .. not .. 4,096"
 abbrev pub verdictNumber : Verdict → ℕ
-verdictNumber Passed = 0
-verdictNumber (Failed f a l) = f * 2 ^ 8 + l * 2 ^ 16 + a * 2 ^ 32
+verdictNumber Passed = numberOf Passed
+verdictNumber (Failed f a l) = numberOf (Failed f a l) + f * 2 ^ 8 + l * 2 ^ 16 + a * 2 ^ 32
 verdictNumber BadMask = numberOf BadMask
 verdictNumber BadMarks = numberOf BadMarks
 
@@ -42,10 +41,7 @@ ChecksDetermine = (mask old new other : List ℕ) (r q : ℕ) → Checks mask ol
 -- document 02, wish 2: "the answer is its count of pairs", in bytes 4 and 5. A refusal is its number, "10 if the mask passes, after 1; 11 if the
 -- list is too short, after 10"
 abbrev pub wayNumber : Listing → ℕ
-wayNumber (Listed n) = n * 2 ^ 32
-wayNumber NoMask = wayRefusal NoMask
-wayNumber MaskPasses = wayRefusal MaskPasses
-wayNumber BadList = wayRefusal BadList
+wayNumber v = wayRefusal v + wayCount v * 2 ^ 32
 
 -- what `ht1130_way` leaves: an answer for the mask and the list at entry and at exit, and its number. "Which of several is free": the bytes listed
 -- are some shortest chain's
@@ -68,9 +64,9 @@ WayLengthDoes = (mask old new : List ℕ) (r : ℕ) → Bytes mask → wayLength
 -- document 02, wish 5: 'not reached' is 0, 'no bound' 1 and a bound 2, in byte 1; "the largest cycle total" in bytes 4 to 7. A refusal is its number,
 -- "15 if the mask fails, after 1 and 5 (a pair out of range)"
 abbrev pub boundNumber : Bound → ℕ
-boundNumber NotReached = 0
-boundNumber NoBound = 1 * 2 ^ 8
-boundNumber (Cycles n) = 2 * 2 ^ 8 + n * 2 ^ 32
+boundNumber NotReached = boundRefusal NotReached
+boundNumber NoBound = boundRefusal NoBound + 1 * 2 ^ 8
+boundNumber (Cycles n) = boundRefusal (Cycles n) + 2 * 2 ^ 8 + n * 2 ^ 32
 boundNumber BadBoundMask = boundRefusal BadBoundMask
 boundNumber BadPair = boundRefusal BadPair
 boundNumber MaskFails = boundRefusal MaskFails

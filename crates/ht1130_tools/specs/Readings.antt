@@ -26,12 +26,16 @@ abbrev pub readingNumber : Reading → ℕ
 readingNumber Dark = 1 * 2 ^ 16
 readingNumber (Number value count) = count * 2 ^ 24 + complement value * 2 ^ 32
 
+-- what stands above the refusal: the reading, or the digit of a 16
+abbrev pub seenValues : Seen → ℕ
+seenValues (Shown r) = readingNumber r
+seenValues BadLength = 0
+seenValues BadNibble = 0
+seenValues (Unreadable k) = k * 2 ^ 8
+
 -- document 02, wish 7: "3 for a picture nibble over 15; then 16 .., with the leftmost digit ..". 2 is a picture of another length
 abbrev pub seenNumber : Seen → ℕ
-seenNumber (Shown r) = readingNumber r
-seenNumber BadLength = seenRefusal BadLength
-seenNumber BadNibble = seenRefusal BadNibble
-seenNumber (Unreadable k) = seenRefusal (Unreadable k) + k * 2 ^ 8
+seenNumber s = seenRefusal s + seenValues s
 
 -- what `ht1130_glass_read` answers: what the picture is read as, and its number
 pub record GlassRead (picture : List ℕ) (r : ℕ) : Type 0 where
@@ -49,7 +53,7 @@ pub record GlassDrawn (d : Drawing) (new : List ℕ) (r : ℕ) : Type 0 where
   pub bytes : new ≡ d .picture
 
 abbrev pub sightNumber : Sight → ℕ
-sightNumber (OnGlass s) = seenNumber s
+sightNumber (OnGlass s) = sightRefusal (OnGlass s) + seenValues s
 sightNumber BadMachine = sightRefusal BadMachine
 
 -- what `ht1130_reading` answers: what is seen of the lent machine, and its number

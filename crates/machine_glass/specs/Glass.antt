@@ -11,7 +11,7 @@ use Rattle.machine.specs.Machine.{stateOf}
 use Rattle.machine.specs.Report.{display}
 use Rattle.machine.specs.declared.Machine.{Machine}
 use Rattle.glass.specs.Shapes.{glass}
-use Rattle.glass.specs.Reading.{EightNibbles, SeenAnswers, seenRefusal}
+use Rattle.glass.specs.Reading.{EightNibbles, SeenSays, seenRefusal}
 use Rattle.glass.specs.declared.Reading.the-variants.{Dark}
 use Rattle.glass.specs.declared.Seen.the-variants.{Shown}
 use Rattle.machine_glass.specs.declared.Pictured.{Pictured}
@@ -34,9 +34,10 @@ abbrev pub sightRefusal : Sight → ℕ
 sightRefusal (OnGlass s) = seenRefusal s
 sightRefusal BadMachine = 5
 
--- what each answer says of the machine: `BadMachine` has the number of its picture, which is 5 where the machine is out of range
+-- what each answer says of the machine: in range its picture is what its number says. `BadMachine` has the number of its picture, which is 5 where the
+-- machine is out of range
 abbrev pub Sees : Machine → Sight → Type 0
-Sees m (OnGlass s) = (valid (stateOf m) ≡ true) × SeenAnswers (onGlass m) s
+Sees m (OnGlass s) = (valid (stateOf m) ≡ true) × SeenSays (onGlass m) s (sightRefusal (OnGlass s))
 Sees m BadMachine = (valid (stateOf m) ≡ false) × (pictureOf m .refusal ≡ sightRefusal BadMachine)
 
 -- a machine has one answer

@@ -3,15 +3,21 @@ use Prim.Native.Nat.{ℕ, zero, suc, _+_, _*_, _<_, _≤_}
 use mathlib.Core.Path.{_≡_, refl, sym, ap, _∙_}
 use mathlib.Core.Bool.{Bool, true, false, _&&_}
 use mathlib.Core.List.{List, [], _∷_, map}
-use native.Mathlib.Nat.{zero-add}
+use native.Mathlib.Nat.{min-le-left, min-le-right, zero-add}
 use native.Mathlib.Omega.{arith}
 use borrow.Author.Tests.{eq-eqb, eqb-false, eqb-true, leb-true, ltb-true, ne-eqb}
 use lib.Dec.{eqb, leb, ltb}
-use lib.ListN.{getD, length, drop, drop-of-length-le, length-map, take}
-use lib.Seq.{drop-cons, length-take-le, slice, slice-cons, slice-empty}
+use lib.ListN.{getD, length, drop, drop-of-length-le, length-map, length-take, take}
+use lib.Seq.{drop-cons, getD-take, length-take-le, slice}
 use Rattle.operand.specs.Words.{fixedWords, place, same}
 use Rattle.operand.specs.Read.{namesAt, packed, packedWords, packing, placeOf, wordAt}
 use Rattle.operand.proofs.Texts.{both, case}
+
+pub take-few : (n : ℕ) (s : List ℕ) → length (take n s) ≤ n
+take-few n s = rw length-take (min-le-left n (length s))
+
+pub take-short : (n : ℕ) (s : List ℕ) → length (take n s) ≤ length s
+take-short n s = rw length-take (min-le-right n (length s))
 
 module _ (list : List ℕ) (i x : ℕ) where
   pub place-past : length list ≤ i → placeOf (drop i list) x ≡ 0
@@ -59,19 +65,26 @@ same-packed (c ∷ v) (d ∷ w) p q =
 
 -- the place of a label, by the places where the labels' words start
 module _ (text starts : List ℕ) (count : ℕ) (w : List ℕ) where
-  pub find-start : place (namesAt text starts count) w ≡ 0 + place (map (wordAt text) (slice 0 count starts)) w
+  abbrev pub left : ℕ → ℕ
+  left i = place (map (wordAt text) (slice i count starts)) w
+
+  pub find-start : place (namesAt text starts count) w ≡ 0 + left 0
   find-start = rw zero-add refl
 
-  pub find-past : place (map (wordAt text) (slice count count starts)) w ≡ 0
-  find-past = rw (slice-empty count starts) refl
+  pub find-past : (i : ℕ) → length (take count starts) ≤ i → left i ≡ 0
+  find-past i h = rw (drop-of-length-le (take count starts) h) refl
 
-  module _ (i : ℕ) (below : i < count) (room : count ≤ length starts) where
-    pub find-here : same (wordAt text (getD starts i 0)) w ≡ true → place (map (wordAt text) (slice i count starts)) w ≡ 0
-    find-here e = rw (slice-cons i count starts 0 below room, e) refl
+  module _ (i : ℕ) (below : i < length (take count starts)) where
+    one-left : slice i count starts ≡ getD starts i 0 ∷ slice (suc i) count starts
+    one-left =
+        drop-cons (take count starts) i 0 below
+        ∙ ap (λ (n : ℕ). n ∷ slice (suc i) count starts) (getD-take count starts i 0 (omega (arith, take-few count starts)))
 
-    pub find-on : same (wordAt text (getD starts i 0)) w ≡ false
-        → place (map (wordAt text) (slice i count starts)) w ≡ suc (place (map (wordAt text) (slice (suc i) count starts)) w)
-    find-on e = rw (slice-cons i count starts 0 below room, e) refl
+    pub find-here : same (wordAt text (getD starts i 0)) w ≡ true → left i ≡ 0
+    find-here e = rw (one-left, e) refl
+
+    pub find-on : same (wordAt text (getD starts i 0)) w ≡ false → left i ≡ suc (left (suc i))
+    find-on e = rw (one-left, e) refl
 
 -- the characters of each word are bytes and not 0, and there are up to five; as tests, which antt computes over the fixed words
 abbrev pub characters : List ℕ → Bool
@@ -132,5 +145,8 @@ fixed-place w h = case (ltb 5 (length w))
     (λ e. rw e (none-packed ∙ sym fixed-count ∙ sym (place-long fixedWords w fixed-short (ltb-true 5 (length w) e))))
     (λ e. rw e (sym (place-short fixedWords w fixed-short h)))
 
+pub names-length : (text starts : List ℕ) (count : ℕ) → length (namesAt text starts count) ≡ length (take count starts)
+names-length text starts count = length-map (take count starts) (wordAt text)
+
 pub names-count : (text starts : List ℕ) (count : ℕ) → count ≤ length starts → length (namesAt text starts count) ≡ count
-names-count text starts count h = length-map (take count starts) (wordAt text) ∙ length-take-le count starts h
+names-count text starts count h = names-length text starts count ∙ length-take-le count starts h

@@ -88,9 +88,6 @@ module _ (text : List ℕ) (at : ℕ) where
     pub at-lf : getD text at 0 ≡ LF → tokensAt text at ≡ []
     at-lf e = rw (drop-cons text at 0 within, e) refl
 
-    pub at-space : getD text at 0 ≡ code " " → tokensAt text at ≡ tokensAt text (suc at)
-    at-space e = rw (drop-cons text at 0 within, e) refl
-
     pub at-sign : (getD text at 0 ≡ LF → ⊥) → eqb (getD text at 0) (code " ") ≡ false → inWord (getD text at 0) ≡ false
         → tokensAt text at ≡ mark (getD text at 0) ∷ tokensAt text (suc at)
     at-sign l s w = rw (drop-cons text at 0 within, ne-eqb (getD text at 0) LF l, s, w) refl

@@ -12,9 +12,10 @@ use Rattle.isa.specs.Choice.{pick}
 use Rattle.mnemonic.specs.Spelling.{Token, letters, mark, operand}
 use Rattle.operand.specs.Text.{LF, inWord, isDigit, tokens}
 use Rattle.operand.specs.Words.{first, fixedWords, isFixed, place}
-use Rattle.operand.specs.Operand.{Term, label, before, deepest, followed, isMissing, minus, missing, plus, valueOf, wanted}
+use Rattle.operand.specs.Operand.{Term, label, before, deepest, followed, isMissing, minus, missing, operandOf, plus, valueOf, wanted}
 use Rattle.operand.specs.declared.tokens.Lexeme.{Lexeme}
 use Rattle.operand.specs.declared.operands.Sum.{Sum}
+use Rattle.operand.specs.declared.operands.Value.{Value}
 
 -- a line from a position on: up to its LF
 abbrev pub upToLf : List ℕ → List ℕ
@@ -32,11 +33,13 @@ run (c ∷ s) = pick (inWord c) (c ∷ run s) []
 abbrev pub wordAt : List ℕ → ℕ → List ℕ
 wordAt text at = run (drop at text)
 
-pub record Skipped (text : List ℕ) (at r : ℕ) : Type 0 where
-  pub from : at ≤ r
-  pub within : r ≤ length text
-  pub same : tokensAt text r ≡ tokensAt text at
-  pub stops : r < length text → eqb (getD text r 0) (code " ") ≡ false
+-- how many spaces a text starts with
+abbrev pub spaces : List ℕ → ℕ
+spaces [] = zero
+spaces (c ∷ s) = pick (eqb c (code " ")) (suc (spaces s)) zero
+
+abbrev pub pastSpaces : List ℕ → ℕ → ℕ
+pastSpaces text at = at + spaces (drop at text)
 
 -- a word as a number, its first character the lowest
 abbrev pub packed : List ℕ → ℕ
@@ -68,6 +71,15 @@ kindOf (letters w) = wordKind w
 kindOf (mark c) = signKind c
 kindOf (operand n v) = 0
 
+-- the next token: past the spaces stands the end of the line, which is also past the end of the text, a word or a sign
+abbrev pub lexemeFrom : List ℕ → ℕ → Lexeme
+lexemeFrom text at = pick (eqb (getD text at LF) LF) (record { kind = 1; start = at; next = at })
+    (pick (inWord (getD text at LF)) (record { kind = wordKind (wordAt text at); start = at; next = at + length (wordAt text at) })
+    (record { kind = signKind (getD text at LF); start = at; next = at + 1 }))
+
+abbrev pub lexemeAt : List ℕ → ℕ → Lexeme
+lexemeAt text at = lexemeFrom text (pastSpaces text at)
+
 -- what the next token is, of these
 pub data Next (text : List ℕ) (ts : List Token) (r : Lexeme) : Type 0 where
   ended : ts ≡ [] → r .kind ≡ 1 → getD text (r .next) LF ≡ LF → Next text ts r
@@ -90,11 +102,6 @@ counted (some v) = pick (leb v 65535) v 65536
 -- the labels' words, by the places where they start
 abbrev pub namesAt : List ℕ → List ℕ → ℕ → List (List ℕ)
 namesAt text starts count = map (wordAt text) (take count starts)
-
--- the first places are filled, and are places of the text
-pub record Held (text starts : List ℕ) (count : ℕ) : Type 0 where
-  pub room : count ≤ length starts
-  pub places : (k : ℕ) → k < count → getD starts k 0 ≤ length text
 
 abbrev pub befores : List Term → Option (List Term) → Option (List Term)
 befores [] rest = rest
@@ -135,6 +142,16 @@ pub data OperandRead (text : List ℕ) (names : List (List ℕ)) (addresses : Li
       → ((outer : List Bool) → length outer + depth ≡ deepest
       → wanted (tokensAt text at) taken taken outer ≡ befores terms (followed (tokensAt text (r .next)) taken outer))
       → OperandRead text names addresses at depth taken r
+
+-- the operand of a line from a position on; none is read of a text of more than 65,535 bytes
+abbrev pub operandAt : List ℕ → ℕ → Option (List Term)
+operandAt text at = pick (leb (length text) 65535) (operandOf (tokensAt text at)) none
+
+-- what it counts, nothing where there is none
+abbrev pub valued : List (List ℕ) → List ℕ → Option (List Term) → Value
+valued names addresses none = record { readable = false; missing = false; plus = 0; minus = 0 }
+valued names addresses (some terms) =
+    record { readable = true; missing = missing names terms; plus = plus names addresses terms; minus = minus names addresses terms }
 
 pub record Single (value : ℕ) (missed taken : Bool) (after : ℕ) (r : Sum) : Type 0 where
   pub readable : r .readable ≡ true

@@ -4,7 +4,7 @@ ghost use Prim.Native.Nat.{_+_, _≤_};
 ghost use lib.ListN.{length, getD};
 ghost use Rattle.operand.specs.Text.{inWord, isDigit};
 ghost use Rattle.operand.specs.Words.{same};
-ghost use Rattle.operand.specs.Read.{Skipped, wordAt};
+ghost use Rattle.operand.specs.Read.{pastSpaces, wordAt};
 
 pub(crate) fn is_digit(c: u8) -> bool
     ensures { λ r. ⌜ r ≡ isDigit c ⌝ }
@@ -55,8 +55,7 @@ pub(crate) fn word_end(text: &[u8], at: usize) -> usize
 
 // Past the spaces that stand here.
 pub(crate) fn skip(text: &[u8], at: usize) -> usize
-    requires { ⌜ at ≤ length (now text) ⌝ }
-    ensures { λ r. ⌜ Skipped (now (text .entry)) at r ⌝ }
+    ensures { λ r. ⌜ r ≡ pastSpaces (now (text .entry)) at ⌝ }
 {
     let mut i = at;
     while i < text.len() {
@@ -70,7 +69,6 @@ pub(crate) fn skip(text: &[u8], at: usize) -> usize
 
 // Whether the words that start at two places are the same.
 pub(crate) fn same(text: &[u8], a: usize, b: usize) -> bool
-    requires { ⌜ (a ≤ length (now text)) × (b ≤ length (now text)) ⌝ }
     ensures { λ r. ⌜ r ≡ same (wordAt (now (text .entry)) a) (wordAt (now (text .entry)) b) ⌝ }
 {
     let mut i = a;

@@ -1,25 +1,43 @@
-// Operands: "sums and differences of operands, with parentheses up to 16 deep". The operand reader and the parenthesis reader call each other.
+// Operands: "sums and differences of operands, with parentheses up to 16 deep". The reader of sums and the reader of parentheses call each other.
 ghost use mathlib.Core.Path.{_≡_};
 ghost use mathlib.Core.Bool.{false, not, _||_};
+ghost use mathlib.Core.List.{[]};
+ghost use mathlib.Core.Option.{none};
 ghost use Prim.Native.Nat.{_≤_};
-ghost use lib.ListN.{length};
+ghost use lib.ListN.{getD, length};
 ghost use lib.Dec.{eqb};
 ghost use Rattle.isa.specs.Choice.{pick};
-ghost use Rattle.operand.specs.Read.{Held, Lexed, OperandRead, Named, PartRead, Single, namesAt};
+ghost use Rattle.operand.specs.Read.{Lexed, OperandRead, Named, PartRead, Single, namesAt, operandAt, valued};
 use crate::labels::find;
+use crate::labels::present;
 use crate::numbers::number;
+use crate::tokens::END;
 use crate::tokens::LABEL;
 use crate::tokens::Lexeme;
 use crate::tokens::NUMBER;
 use crate::tokens::token;
 
-// What an operand counts: what is added and what is taken away, whether one of its labels is missing, and what follows it.
-pub struct Sum {
+// "parentheses up to 16 deep"
+const DEEPEST: u8 = 16;
+
+// The bytes of the longest text that is assembled: what an operand counts in one is far below a u64's end.
+const LONGEST: usize = 65535;
+
+// What an operand counts: what is added and what is taken away, and whether one of its labels is missing; nothing where it cannot be read.
+pub struct Value {
     pub readable: bool,
     pub missing: bool,
     pub plus: u64,
     pub minus: u64,
-    pub next: usize,
+}
+
+// The same of a part of one, and what follows it.
+struct Sum {
+    readable: bool,
+    missing: bool,
+    plus: u64,
+    minus: u64,
+    next: usize,
 }
 
 fn unreadable(next: usize) -> Sum
@@ -56,6 +74,16 @@ fn single(value: u64, missing: bool, taken: bool, next: usize) -> Sum
     }
 }
 
+// A number of a list, 0 past its end.
+fn element(list: &[u16], k: usize) -> u64
+    ensures { λ r. ⌜ r ≡ getD (now (list .entry)) k 0 ⌝ }
+{
+    if k < list.len() {
+        return list[k] as u64;
+    }
+    0
+}
+
 // A label, with the address that it has.
 fn named(
     text: &[u8],
@@ -65,14 +93,13 @@ fn named(
     addresses: &[u16],
     count: usize,
 ) -> Sum
-    requires { ⌜ (word .start ≤ length (now text)) × Held (now text) (now starts) count × (count ≤ length (now addresses)) ⌝ }
     ensures { λ r. ⌜ Named (now (text .entry)) (namesAt (now (text .entry)) (now (starts .entry)) count) (now (addresses .entry)) word taken r ⌝ }
 {
     let start = word.start;
     let next = word.next;
     let k = find(text, starts, count, start);
-    if k < count {
-        return single(addresses[k] as u64, false, taken, next);
+    if k < present(starts, count) {
+        return single(element(addresses, k), false, taken, next);
     }
     single(0, true, taken, next)
 }
@@ -88,7 +115,7 @@ fn term(
     addresses: &[u16],
     count: usize,
 ) -> Sum
-    requires { ⌜ Lexed (now text) at word × Held (now text) (now starts) count × (count ≤ length (now addresses)) ⌝ }
+    requires { ⌜ Lexed (now text) at word ⌝ }
     requires { ⌜ eqb (word .kind) 40 ≡ false ⌝ }
     ensures { λ r. ⌜ PartRead (now (text .entry)) (namesAt (now (text .entry)) (now (starts .entry)) count) (now (addresses .entry)) at depth taken r ⌝ }
 {
@@ -147,8 +174,7 @@ fn parenthesis(
     addresses: &[u16],
     count: usize,
 ) -> Sum
-    requires { ⌜ (at ≤ length (now text)) × (length (now text) ≤ 65535) × (depth ≤ 16) × Held (now text) (now starts) count
-        × (count ≤ length (now addresses)) ⌝ }
+    requires { ⌜ (at ≤ length (now text)) × (length (now text) ≤ 65535) × (depth ≤ 16) ⌝ }
     ensures { λ r. ⌜ PartRead (now (text .entry)) (namesAt (now (text .entry)) (now (starts .entry)) count) (now (addresses .entry)) at depth minus r ⌝ }
 {
     let open = token(text, at);
@@ -160,7 +186,7 @@ fn parenthesis(
     if depth == 0 {
         return unreadable(at);
     }
-    let inner = operand(text, inside, depth - 1, minus, starts, addresses, count);
+    let inner = joined(text, inside, depth - 1, minus, starts, addresses, count);
     let after = inner.next;
     if !inner.readable {
         return unreadable(at);
@@ -184,7 +210,7 @@ fn parenthesis(
 }
 
 // Sums and differences; all of it is taken away if `minus`.
-pub fn operand(
+fn joined(
     text: &[u8],
     at: usize,
     depth: u8,
@@ -193,8 +219,7 @@ pub fn operand(
     addresses: &[u16],
     count: usize,
 ) -> Sum
-    requires { ⌜ (at ≤ length (now text)) × (length (now text) ≤ 65535) × (depth ≤ 16) × Held (now text) (now starts) count
-        × (count ≤ length (now addresses)) ⌝ }
+    requires { ⌜ (at ≤ length (now text)) × (length (now text) ≤ 65535) × (depth ≤ 16) ⌝ }
     ensures { λ r. ⌜ OperandRead (now (text .entry)) (namesAt (now (text .entry)) (now (starts .entry)) count) (now (addresses .entry))
         at depth minus r ⌝ }
 {
@@ -225,5 +250,47 @@ pub fn operand(
         }
         taken = turned(kind, minus);
         i = sign.next;
+    }
+}
+
+fn nothing() -> Value
+    ensures { λ r. ⌜ r ≡ valued [] [] none ⌝ }
+{
+    Value {
+        readable: false,
+        missing: false,
+        plus: 0,
+        minus: 0,
+    }
+}
+
+// The operand from here to the end of its line.
+pub fn operand(text: &[u8], at: usize, starts: &[u16], addresses: &[u16], count: usize) -> Value
+    ensures { λ r. ⌜ r ≡ valued (namesAt (now (text .entry)) (now (starts .entry)) count) (now (addresses .entry)) (operandAt (now (text .entry)) at) ⌝ }
+{
+    if text.len() > LONGEST {
+        return nothing();
+    }
+    if at > text.len() {
+        return nothing();
+    }
+    let o = joined(text, at, DEEPEST, false, starts, addresses, count);
+    if !o.readable {
+        return nothing();
+    }
+    let after = o.next;
+    let end = token(text, after);
+    let last = end.kind;
+    if last != END {
+        return nothing();
+    }
+    let missing = o.missing;
+    let plus = o.plus;
+    let minus = o.minus;
+    Value {
+        readable: true,
+        missing,
+        plus,
+        minus,
     }
 }

@@ -4,7 +4,7 @@ ghost use mathlib.Core.Bool.{true};
 ghost use Prim.Native.Nat.{_+_, _≤_, _<_};
 ghost use lib.ListN.{getD, length};
 ghost use Rattle.operand.specs.Text.{inWord};
-ghost use Rattle.operand.specs.Read.{Lexed, packedWords, packing, placeOf, signKind, wordAt, wordKind};
+ghost use Rattle.operand.specs.Read.{lexemeAt, packedWords, packing, placeOf, signKind, wordAt, wordKind};
 use crate::characters::character;
 use crate::characters::in_word;
 use crate::characters::is_digit;
@@ -170,13 +170,12 @@ fn sign_kind(c: u8) -> u8
     c
 }
 
-// The next token of a line.
+// The next token of a line. Past the end of the text a line ends.
 pub fn token(text: &[u8], at: usize) -> Lexeme
-    requires { ⌜ at ≤ length (now text) ⌝ }
-    ensures { λ r. ⌜ Lexed (now (text .entry)) at r ⌝ }
+    ensures { λ r. ⌜ r ≡ lexemeAt (now (text .entry)) at ⌝ }
 {
     let start = skip(text, at);
-    if start == text.len() {
+    if start >= text.len() {
         return Lexeme {
             kind: END,
             start,

@@ -17,4 +17,4 @@ put-targets-spec =
     tie.close
     (tie.spec
     Inv-loop μ-loop (λ c. tt) (λ c. search needs) (λ c. search needs)
-    (λ c κs. (c .before .before .before .before .before .pre, c .before .before .loop-test .taken, omega arith, omega arith)) (λ c. search needs) (λ c. search needs) (λ c. tt) (λ c. search needs))
+    (λ c κs. search needs) (λ c. search needs) (λ c. search needs) (λ c. tt) (λ c. search needs))

@@ -13,5 +13,5 @@ put-wait-spec =
     tie.close
     (tie.spec
     (λ c κs. search needs) (λ c. let h = within c in omega arith) (λ c. search needs) (λ c. search needs)
-    (λ c κs. let h = within c in (c .before .before .pre, omega arith, omega arith, omega arith)) (λ c. search needs) (λ c κs. search needs)
+    (λ c κs. search needs) (λ c. search needs) (λ c κs. search needs)
     (λ c κs. search needs) (λ c. search needs) (λ c κs. search needs) (λ c. search needs) (λ c. search needs) (λ c κs. search needs) (λ c. search needs))

@@ -4,6 +4,7 @@ use mathlib.Core.Path.{refl, sym, ap, subst, _∙_}
 use native.Mathlib.Omega.{arith}
 use borrow.Author.Needs.{needs}
 use Rattle.operand.specs.Read.{namesAt, tokensAt}
+use Rattle.operand.proofs.Lexing.{lexed}
 use Rattle.assembler.specs.Statement.{Statement}
 use Rattle.assembler.specs.Read.{Shows, bodied, empty, labelIn}
 use Rattle.assembler.proofs.Keys.{keys-most}
@@ -13,18 +14,15 @@ use Rattle.assembler.proofs.lines.read_line.Tie as tie
 
 returns : tie.Need-returns
 returns c = let s = c .before .before .before .before .before in
-    empty (blank-line (s .args .text .now) (s .args .at) (c .before .token .ensures) (c .if1 .taken)) refl refl refl refl
+    empty (blank-line (s .args .text .now) (s .args .at) (lexed (s .args .text .now) _ (s .pre .0) (c .before .token .ensures)) (c .if1 .taken)) refl refl refl refl
 
 body-requires : tie.Need-body-requires
 body-requires c κs = let s = c .before .before .before .before .before .before .before .before in (
-  (
-    headed-within (c .before .heading .ensures),
-    s .pre .0 .1,
-    omega
-        (arith, c .form-of .ensures, keys-most (c .before .heading .result .key)),
-    c .before .before .labelling .ensures .place,
-  ),
-  (s .pre .1 .0, s .pre .1 .1),
+  headed-within (c .before .heading .ensures),
+  s .pre .1,
+  omega
+      (arith, c .form-of .ensures, keys-most (c .before .heading .result .key)),
+  c .before .before .labelling .ensures .place,
 )
 
 returns-2 : tie.Need-returns-2
@@ -33,7 +31,7 @@ returns-2 c = let s = c .before .before .before .before .before .before .before 
     let name = c .before .before .before .labelling in
     let h = c .before .before .heading in
     let e = line-body text (tokensAt text (s .args .at)) (name .result) (h .result)
-    (not-nothing (c .before .before .before .before .before .token .ensures .next) (c .before .before .before .before .if1 .left)) (name .ensures)
+    (not-nothing (lexed text _ (s .pre .0) (c .before .before .before .before .before .token .ensures) .next) (c .before .before .before .before .if1 .left)) (name .ensures)
     (h .ensures)
     ∙ ap (λ (n : ℕ). bodied n (labelIn text (name .result .present) (name .result .start)) (tokensAt text (h .result .next)))
     (sym (c .before .form-of .ensures)) in
@@ -44,5 +42,5 @@ returns-2 c = let s = c .before .before .before .before .before .before .before 
 pub read-line-spec : {M : Type 1} → statement M
 read-line-spec =
     tie.close
-    (tie.spec (λ c κs. omega arith) returns (λ c κs. omega arith) (λ c κs. c .labelling .ensures .within)
+    (tie.spec (λ c κs. search needs) returns (λ c κs. omega arith) (λ c κs. c .labelling .ensures .within)
     (λ c κs. search needs) body-requires returns-2)

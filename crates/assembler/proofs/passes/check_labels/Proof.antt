@@ -5,7 +5,7 @@ use native.Mathlib.Omega.{arith}
 use lib.ListN.{length}
 use Rattle.assembler.proofs.Checking.{Checking, check-on, checked, checks, is-again, is-missing}
 use Rattle.assembler.proofs.Splitting.{end-within}
-use Rattle.assembler.proofs.Walking.{shows-place, walk-few, walk-readable, walk-table}
+use Rattle.assembler.proofs.Walking.{walk-few, walk-held}
 use Rattle.assembler.proofs.passes.check_labels.Statement.{statement}
 use Rattle.assembler.proofs.passes.check_labels.Tie as tie
 
@@ -20,7 +20,7 @@ loop-holds c = let s = c .before .before .before in checks (s .args .text .now) 
 
 read-line-requires : tie.Need-read-line-requires Inv-loop μ-loop
 read-line-requires c κs = let s = c .before .before .before .before in
-    ((c .loop .inv .walk .within, s .pre .short), (walk-table (c .loop .inv .walk) (s .pre), s .pre .table))
+    (c .loop .inv .walk .within, s .pre .short)
 
 returns : tie.Need-returns Inv-loop μ-loop
 returns c = let s = c .before .before .before .before .before .before in is-missing (s .pre) (c .before .before .loop .inv)
@@ -28,10 +28,7 @@ returns c = let s = c .before .before .before .before .before .before in is-miss
 
 defined-requires : tie.Need-defined-requires Inv-loop μ-loop
 defined-requires c κs = let s = c .before .before .before .before .before .before in
-    let w = c .before .before .loop .inv .walk in
-    let x = c .before .read-line .ensures in
-    let t = walk-table w (s .pre) in
-    (record { held = t .held; room = t .held .room }, λ l. shows-place x (walk-readable w x) l .0)
+    walk-held (c .before .before .loop .inv .walk) (s .pre)
 
 returns-2 : tie.Need-returns-2 Inv-loop μ-loop
 returns-2 c = let s = c .before .before .before .before .before .before .before .before in
@@ -41,7 +38,7 @@ returns-2 c = let s = c .before .before .before .before .before .before .before 
 counted-requires : tie.Need-counted-requires Inv-loop μ-loop
 counted-requires c κs = let s = c .before .before .before .before .before .before .before .before in
     let w = c .before .before .before .before .loop .inv .walk in
-    omega (arith, w .few, walk-few w (s .pre), s .pre .table .room, s .pre .most)
+    omega (arith, w .few, walk-few w (s .pre), s .pre .room, s .pre .most)
 
 returns-3 : tie.Need-returns-3 Inv-loop μ-loop
 returns-3 c = let s = c .before .before .before .before .before .before .before .before .before .before .before in

@@ -10,7 +10,7 @@ use Rattle.assembler.specs.Program.{end, misfit, next, program, start}
 use Rattle.assembler.specs.Shapes.{sizeIn}
 use Rattle.assembler.proofs.Settling.{Valuing, goes, going-most, going-on, misfit-is}
 use Rattle.assembler.proofs.Splitting.{end-within}
-use Rattle.assembler.proofs.Walking.{walk-clear, walk-few, walk-found, walk-past, walk-table}
+use Rattle.assembler.proofs.Walking.{walk-clear, walk-few, walk-found, walk-past}
 use Rattle.assembler.proofs.passes.check_values.Statement.{statement}
 use Rattle.assembler.proofs.passes.check_values.Tie as tie
 
@@ -26,7 +26,7 @@ loop-holds c = record { s = start; going = goes (c .before .before .before .pre)
 read-line-requires : tie.Need-read-line-requires Inv-loop μ-loop
 read-line-requires c κs = let s = c .before .before .before .before in
     let w = c .loop .inv .going .walk in
-    ((w .within, s .pre .settled .short), (walk-table w (s .pre .settled), s .pre .settled .table))
+    (w .within, s .pre .settled .short)
 
 misfits-requires : tie.Need-misfits-requires Inv-loop μ-loop
 misfits-requires c κs = let s = c .before .before .before .before .before .before .before .before in let m = going-most (s .pre)
@@ -49,7 +49,7 @@ counted-requires c κs = let s = c .before .before .before .before .before .befo
       arith,
       walk-few (c .before .before .before .before .before .before .loop .inv .going .walk)
           (s .pre .settled),
-      s .pre .settled .table .room,
+      s .pre .settled .room,
       s .pre .settled .most,
     )
 

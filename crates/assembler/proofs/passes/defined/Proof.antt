@@ -9,16 +9,13 @@ use Rattle.operand.proofs.Places.{names-count}
 use Rattle.assembler.proofs.passes.defined.Statement.{statement}
 use Rattle.assembler.proofs.passes.defined.Tie as tie
 
-find-requires : tie.Need-find-requires
-find-requires c κs = let s = c .before .before .before in (s .pre .0 .held, s .pre .1 (c .if1 .taken))
-
 returns : tie.Need-returns
 returns c = let s = c .before .before .before .before in
     let names = namesAt (s .args .text .now) (s .args .starts .now) (s .args .count) in
     rw (c .before .if1 .taken)
     (ap (λ (k : ℕ). ltb k (s .args .count)) (c .find .ensures)
     ∙ ap (λ (n : ℕ). ltb (place names (wordAt (s .args .text .now) (s .args .label))) n)
-    (sym (names-count (s .args .text .now) (s .args .starts .now) (s .args .count) (s .pre .0 .held .room))))
+    (sym (names-count (s .args .text .now) (s .args .starts .now) (s .args .count) (s .pre))))
 
 pub defined-spec : {M : Type 1} → statement M
-defined-spec = tie.close (tie.spec find-requires returns (λ c. search needs))
+defined-spec = tie.close (tie.spec (λ c κs. search needs) returns (λ c. search needs))

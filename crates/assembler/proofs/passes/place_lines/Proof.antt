@@ -8,7 +8,7 @@ use lib.ListN.{length, length-replicate}
 use Rattle.assembler.specs.Shapes.{sizeIn}
 use Rattle.assembler.proofs.Placing.{Placing, crowded, end-most, here-most, label-room, place-on, placed, places, same-room, stray}
 use Rattle.assembler.proofs.Splitting.{end-within}
-use Rattle.assembler.proofs.Walking.{walk-few, walk-table}
+use Rattle.assembler.proofs.Walking.{walk-few}
 use Rattle.assembler.proofs.passes.place_lines.Statement.{statement}
 use Rattle.assembler.proofs.passes.place_lines.Tie as tie
 
@@ -24,11 +24,7 @@ loop-holds c = let s = c .before .before .before .before in
     (places (s .args .text .now) (s .args .starts .now) (s .args .addresses .now) (s .args .used .now) (s .args .all) (s .pre .0) (s .pre .1), refl)
 
 read-line-requires : tie.Need-read-line-requires Inv-loop μ-loop
-read-line-requires c κs = let g = c .before .loop .inv .0 in
-    let t = walk-table (g .walk) (g .settled) in (
-      (g .walk .within, g .settled .short),
-      (t, record { held = record { room = omega arith; places = λ k h. absurd (omega arith) }; room = omega arith }),
-    )
+read-line-requires c κs = let g = c .before .loop .inv .0 in (g .walk .within, g .settled .short)
 
 same-length : tie.Need-same-length Inv-loop μ-loop
 same-length c = c .before .before .before .before .loop .inv .1
@@ -81,7 +77,7 @@ note-requires c κs =
     (c .before .before .before .before .before .before .address-of .result) (c .before .before .before .before .size-of .result) (c .before .before .before .before .before .before .address-of .ensures)
     (c .before .before .before .before .size-of .ensures ∙ ap sizeIn (c .before .before .before .before .before .shape-of .ensures))
     (sym (c .before .before .free .ensures) ∙ not-false _ (c .before .if2 .left)) in
-    (room, omega (arith, walk-few (g .walk) (g .settled), g .settled .table .room, g .settled .most))
+    (room, omega (arith, walk-few (g .walk) (g .settled), g .settled .room, g .settled .most))
 
 add-store : tie.Need-add-store Inv-loop μ-loop
 add-store c = omega (

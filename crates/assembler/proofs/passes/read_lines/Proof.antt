@@ -4,7 +4,6 @@ use mathlib.Core.Path.{sym, _∙_}
 use native.Mathlib.Omega.{arith}
 use borrow.Author.Tests.{not-false, not-true}
 use lib.ListN.{length}
-use Rattle.assembler.specs.Read.{Tabled}
 use Rattle.assembler.proofs.Collecting.{Reading, begin, collected, label-place, read-more, unreadable-line}
 use Rattle.assembler.proofs.Splitting.{end-within}
 use Rattle.assembler.proofs.passes.read_lines.Statement.{statement}
@@ -20,11 +19,7 @@ loop-holds : tie.Need-loop-holds Inv-loop μ-loop
 loop-holds c = let s = c .before .before .before in begin (s .args .text .now) (s .args .starts .now) (s .pre .1)
 
 read-line-requires : tie.Need-read-line-requires Inv-loop μ-loop
-read-line-requires c κs =
-    let s = c .before .before .before .before in
-    let t : Tabled (s .args .text .now) (s .args .none .now) (s .args .none .now) 0
-    = record { held = record { room = omega arith; places = λ k h. absurd (omega arith) }; room = omega arith } in
-    ((c .loop .inv .within, c .before .before .before .before .pre .0), (t, t))
+read-line-requires c κs = (c .loop .inv .within, c .before .before .before .before .pre .0)
 
 same-length : tie.Need-same-length Inv-loop μ-loop
 same-length c = c .before .before .before .loop .inv .room ∙ sym (c .before .before .before .before .before .before .before .pre .1)

@@ -10,7 +10,7 @@ use Rattle.assembler.specs.Program.{end, misfit, next, program, put, sta
 use Rattle.assembler.specs.Shapes.{sizeIn}
 use Rattle.assembler.proofs.Settling.{Writing, goes, going-most, going-on, put-last, put-on}
 use Rattle.assembler.proofs.Splitting.{end-within}
-use Rattle.assembler.proofs.Walking.{walk-few, walk-none, walk-past, walk-table}
+use Rattle.assembler.proofs.Walking.{walk-few, walk-none, walk-past}
 use Rattle.assembler.proofs.passes.write_lines.Statement.{statement}
 use Rattle.assembler.proofs.passes.write_lines.Tie as tie
 
@@ -27,7 +27,7 @@ loop-holds c = (record { s = start; number = 1; going = goes (c .before .before 
 read-line-requires : tie.Need-read-line-requires Inv-loop μ-loop
 read-line-requires c κs = let s = c .before .before .before .before .before in
     let w = c .loop .inv .0 .going .walk in
-    ((w .within, s .pre .0 .settled .short), (walk-table w (s .pre .0 .settled), s .pre .0 .settled .table))
+    (w .within, s .pre .0 .settled .short)
 
 add-store : tie.Need-add-store Inv-loop μ-loop
 add-store c = let s = c .before .before .before .before .before .before .before .before .before .before .before .before .before .before .before .before in omega (arith, going-most (s .pre .0) (c .before .before .before .before .before .before .before .before .before .before .before .loop .inv .0 .going) (c .before .before .before .before .before .before .before .before .before .before .read-line .ensures) (c .before .before .before .before .before .before .before .before .before .address-of .result) (c .before .before .before .before .before .bytes-of .result .size) (c .before .before .before .before .before .before .before .before .before .address-of .ensures) (c .before .before .before .before .before .bytes-of .ensures .1 ∙ ap sizeIn (c .before .before .before .before .before .before .before .before .shape-of .ensures)) .0)
@@ -39,7 +39,7 @@ counted-requires c κs = let s = c .before .before .before .before .before .befo
       walk-few
           (c .before .before .before .before .before .before .before .before .before .before .before .before .before .before .loop .inv .0 .going .walk)
           (s .pre .0 .settled),
-      s .pre .0 .settled .table .room,
+      s .pre .0 .settled .room,
       s .pre .0 .settled .most,
     )
 

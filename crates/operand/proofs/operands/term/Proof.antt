@@ -18,7 +18,7 @@ returns c = let s = c .before .before .before .before .before in
     let names = namesAt text (s .args .starts .now) (s .args .count) in
     let addresses = s .args .addresses .now in
     let w = wordAt text (s .args .word .start) in
-    let lexed = s .pre .0 .0 in
+    let lexed = s .pre .0 in
     let is = as-label (lexed .next) (c .before .if1 .taken) in
     let moved = lexed .moves (λ e. omega (arith, c .before .if1 .taken)) in
     good (record { taken = s .args .taken; part = label w } ∷ []) (c .named .ensures .readable)
@@ -32,13 +32,13 @@ returns c = let s = c .before .before .before .before .before in
 returns-2 : tie.Need-returns-2
 returns-2 c = let s = c .before .before .before .before .before .before in
     bad (c .unreadable .ensures)
-    (λ here outer h. as-none (s .pre .0 .0 .next) (c .before .before .if1 .left) (c .before .if2 .taken) (s .pre .1) (s .args .taken) here outer)
+    (λ here outer h. as-none (s .pre .0 .next) (c .before .before .if1 .left) (c .before .if2 .taken) (s .pre .1) (s .args .taken) here outer)
 
 -- a number over 65,535, or none
 returns-3 : tie.Need-returns-3
 returns-3 c = let s = c .before .before .before .before .before .before .before .before in
     let w = wordAt (s .args .text .now) (s .args .word .start) in
-    let is = as-number (s .pre .0 .0 .next) (c .before .before .before .if2 .left) in
+    let is = as-number (s .pre .0 .next) (c .before .before .before .if2 .left) in
     let e = c .before .before .number .ensures in
     bad (c .unreadable2 .ensures) (λ here outer h. rw (is .0, is .1, no-number w (omega arith)) refl)
 
@@ -48,7 +48,7 @@ returns-4 c = let s = c .before .before .before .before .before .before .before 
     let names = namesAt text (s .args .starts .now) (s .args .count) in
     let addresses = s .args .addresses .now in
     let w = wordAt text (s .args .word .start) in
-    let lexed = s .pre .0 .0 in
+    let lexed = s .pre .0 in
     let is = as-number (lexed .next) (c .before .before .before .if2 .left) in
     let e = c .before .before .number .ensures in
     let moved = lexed .moves (λ q. omega (arith, c .before .before .before .if2 .left)) in
@@ -61,14 +61,10 @@ returns-4 c = let s = c .before .before .before .before .before .before .before 
 
 number-requires : tie.Need-number-requires
 number-requires c κs = let s = c .before .before .before .before .before in
-    let is = as-number (s .pre .0 .0 .next) (c .if2 .left) in ((is .3, is .4), is .2)
-
-named-requires : tie.Need-named-requires
-named-requires c κs = let s = c .before .before .before .before in
-    (omega (arith, s .pre .0 .0 .starts, s .pre .0 .0 .within), s .pre .0 .1, s .pre .0 .2)
+    let is = as-number (s .pre .0 .next) (c .if2 .left) in ((is .3, is .4), is .2)
 
 pub term-spec : {M : Type 1} → statement M
 term-spec =
     tie.close
-    (tie.spec named-requires returns (λ c κs. search needs) returns-2 number-requires (λ c κs. search needs) returns-3 (λ c. search needs)
+    (tie.spec (λ c κs. search needs) returns (λ c κs. search needs) returns-2 number-requires (λ c κs. search needs) returns-3 (λ c. search needs)
     (λ c κs. search needs) returns-4)
