@@ -72,9 +72,9 @@ def branch(code, names):
 
 
 def readers(code, names):
-    (operand, sums), (parenthesis, inner) = code.function('operand'), code.function('parenthesis')
-    return (names == ['operand', 'parenthesis'] and 'depth: u8' in operand and 'depth: u8' in parenthesis
-            and 'parenthesis(text,' in sums and re.search(r'\boperand\(text, \w+, depth - 1,', inner) is not None)
+    (joined, sums), (parenthesis, inner) = code.function('joined'), code.function('parenthesis')
+    return (names == ['joined', 'parenthesis'] and 'depth: u8' in joined and 'depth: u8' in parenthesis
+            and 'parenthesis(text,' in sums and re.search(r'\bjoined\(text, \w+, depth - 1,', inner) is not None)
 
 
 def addresses(code, names):

@@ -146,103 +146,103 @@ pub(crate) fn first_of(form: usize) -> u8
     ensures { λ r. ⌜ r ≡ getD firsts form 0 ⌝ }
 {
     let list = [
-        0x00,
-        0x09,
-        0x08,
-        0x0b,
-        0x0a,
-        0x40,
-        0x41,
-        0x36,
-        0x1a,
-        0x1c,
-        0x1b,
-        0x1d,
-        0x1f,
-        0x1e,
-        0x42,
-        0x44,
-        0x43,
-        0x31,
-        0x10,
-        0x12,
-        0x14,
-        0x16,
-        0x18,
-        0x0c,
-        0x0e,
-        0x3f,
-        0x11,
-        0x13,
-        0x15,
-        0x17,
-        0x19,
-        0x0d,
-        0x0f,
-        0x21,
-        0x23,
-        0x25,
-        0x27,
-        0x29,
-        0x20,
-        0x22,
-        0x24,
-        0x26,
-        0x28,
-        0x04,
-        0x06,
-        0x05,
-        0x07,
-        0x70,
-        0x50,
-        0x60,
-        0x46,
-        0x01,
-        0x03,
-        0x00,
-        0x02,
-        0x32,
-        0x33,
-        0x34,
-        0x30,
-        0xe0,
-        0xc0,
-        0xc8,
-        0xd0,
-        0x80,
-        0x88,
-        0x90,
-        0x98,
-        0xb0,
-        0xb8,
-        0xa0,
-        0xa8,
-        0xd8,
-        0xf0,
-        0x2e,
-        0x2f,
-        0x2a,
-        0x2b,
-        0x2c,
-        0x2d,
-        0x3e,
-        0x47,
-        0x38,
-        0x39,
-        0x3a,
-        0x3b,
-        0x3c,
-        0x3d,
-        0x4c,
-        0x4e,
-        0x4d,
-        0x4f,
-        0x45,
-        0x4b,
-        0x48,
-        0x49,
-        0x4a,
-        0x37,
+        0x00, // ORG
+        0x09, // ADD A,[R1R0]
+        0x08, // ADC A,[R1R0]
+        0x0b, // SUB A,[R1R0]
+        0x0a, // SBC A,[R1R0]
+        0x40, // ADD A,XH
+        0x41, // SUB A,XH
+        0x36, // DAA
+        0x1a, // AND A,[R1R0]
+        0x1c, // OR A,[R1R0]
+        0x1b, // XOR A,[R1R0]
+        0x1d, // AND [R1R0],A
+        0x1f, // OR [R1R0],A
+        0x1e, // XOR [R1R0],A
+        0x42, // AND A,XH
+        0x44, // OR A,XH
+        0x43, // XOR A,XH
+        0x31, // INC A
+        0x10, // INC R0
+        0x12, // INC R1
+        0x14, // INC R2
+        0x16, // INC R3
+        0x18, // INC R4
+        0x0c, // INC [R1R0]
+        0x0e, // INC [R3R2]
+        0x3f, // DEC A
+        0x11, // DEC R0
+        0x13, // DEC R1
+        0x15, // DEC R2
+        0x17, // DEC R3
+        0x19, // DEC R4
+        0x0d, // DEC [R1R0]
+        0x0f, // DEC [R3R2]
+        0x21, // MOV A,R0
+        0x23, // MOV A,R1
+        0x25, // MOV A,R2
+        0x27, // MOV A,R3
+        0x29, // MOV A,R4
+        0x20, // MOV R0,A
+        0x22, // MOV R1,A
+        0x24, // MOV R2,A
+        0x26, // MOV R3,A
+        0x28, // MOV R4,A
+        0x04, // MOV A,[R1R0]
+        0x06, // MOV A,[R3R2]
+        0x05, // MOV [R1R0],A
+        0x07, // MOV [R3R2],A
+        0x70, // MOV A,XH
+        0x50, // MOV R1R0,XXH
+        0x60, // MOV R3R2,XXH
+        0x46, // MOV R4,XH
+        0x01, // RL A
+        0x03, // RLC A
+        0x00, // RR A
+        0x02, // RRC A
+        0x32, // IN A,PM
+        0x33, // IN A,PS
+        0x34, // IN A,PP
+        0x30, // OUT PA,A
+        0xe0, // JMP addr
+        0xc0, // JC addr
+        0xc8, // JNC addr
+        0xd0, // JTMR addr
+        0x80, // JA0 addr
+        0x88, // JA1 addr
+        0x90, // JA2 addr
+        0x98, // JA3 addr
+        0xb0, // JZ A,addr
+        0xb8, // JNZ A,addr
+        0xa0, // JNZ R0,addr
+        0xa8, // JNZ R1,addr
+        0xd8, // JNZ R4,addr
+        0xf0, // CALL addr
+        0x2e, // RET
+        0x2f, // RETI
+        0x2a, // CLC
+        0x2b, // STC
+        0x2c, // EI
+        0x2d, // DI
+        0x3e, // NOP
+        0x47, // TIMER XXH
+        0x38, // TIMER ON
+        0x39, // TIMER OFF
+        0x3a, // MOV A,TMRL
+        0x3b, // MOV A,TMRH
+        0x3c, // MOV TMRL,A
+        0x3d, // MOV TMRH,A
+        0x4c, // READ R4A
+        0x4e, // READ MR0A
+        0x4d, // READF R4A
+        0x4f, // READF MR0A
+        0x45, // SOUND XH
+        0x4b, // SOUND A
+        0x48, // SOUND ONE
+        0x49, // SOUND LOOP
+        0x4a, // SOUND OFF
+        0x37, // HALT
     ];
     if form < NONE {
         return list[form];
@@ -254,103 +254,103 @@ pub(crate) fn shape_of(form: usize) -> u8
     ensures { λ r. ⌜ r ≡ getD shapes form 0 ⌝ }
 {
     let list = [
-        0,
-        1,
-        1,
-        1,
-        1,
-        4,
-        4,
-        1,
-        1,
-        1,
-        1,
-        1,
-        1,
-        1,
-        4,
-        4,
-        4,
-        1,
-        1,
-        1,
-        1,
-        1,
-        1,
-        1,
-        1,
-        1,
-        1,
-        1,
-        1,
-        1,
-        1,
-        1,
-        1,
-        1,
-        1,
-        1,
-        1,
-        1,
-        1,
-        1,
-        1,
-        1,
-        1,
-        1,
-        1,
-        1,
-        1,
-        3,
-        5,
-        5,
-        4,
-        1,
-        1,
-        1,
-        1,
-        1,
-        1,
-        1,
-        1,
-        8,
-        7,
-        7,
-        7,
-        7,
-        7,
-        7,
-        7,
-        7,
-        7,
-        7,
-        7,
-        7,
-        8,
-        1,
-        1,
-        1,
-        1,
-        1,
-        1,
-        1,
-        6,
-        1,
-        1,
-        1,
-        1,
-        1,
-        1,
-        1,
-        1,
-        1,
-        1,
-        4,
-        1,
-        1,
-        1,
-        1,
-        2,
+        EMPTY, // ORG
+        PLAIN, // ADD A,[R1R0]
+        PLAIN, // ADC A,[R1R0]
+        PLAIN, // SUB A,[R1R0]
+        PLAIN, // SBC A,[R1R0]
+        NIBBLE, // ADD A,XH
+        NIBBLE, // SUB A,XH
+        PLAIN, // DAA
+        PLAIN, // AND A,[R1R0]
+        PLAIN, // OR A,[R1R0]
+        PLAIN, // XOR A,[R1R0]
+        PLAIN, // AND [R1R0],A
+        PLAIN, // OR [R1R0],A
+        PLAIN, // XOR [R1R0],A
+        NIBBLE, // AND A,XH
+        NIBBLE, // OR A,XH
+        NIBBLE, // XOR A,XH
+        PLAIN, // INC A
+        PLAIN, // INC R0
+        PLAIN, // INC R1
+        PLAIN, // INC R2
+        PLAIN, // INC R3
+        PLAIN, // INC R4
+        PLAIN, // INC [R1R0]
+        PLAIN, // INC [R3R2]
+        PLAIN, // DEC A
+        PLAIN, // DEC R0
+        PLAIN, // DEC R1
+        PLAIN, // DEC R2
+        PLAIN, // DEC R3
+        PLAIN, // DEC R4
+        PLAIN, // DEC [R1R0]
+        PLAIN, // DEC [R3R2]
+        PLAIN, // MOV A,R0
+        PLAIN, // MOV A,R1
+        PLAIN, // MOV A,R2
+        PLAIN, // MOV A,R3
+        PLAIN, // MOV A,R4
+        PLAIN, // MOV R0,A
+        PLAIN, // MOV R1,A
+        PLAIN, // MOV R2,A
+        PLAIN, // MOV R3,A
+        PLAIN, // MOV R4,A
+        PLAIN, // MOV A,[R1R0]
+        PLAIN, // MOV A,[R3R2]
+        PLAIN, // MOV [R1R0],A
+        PLAIN, // MOV [R3R2],A
+        WITHIN, // MOV A,XH
+        PAIR, // MOV R1R0,XXH
+        PAIR, // MOV R3R2,XXH
+        NIBBLE, // MOV R4,XH
+        PLAIN, // RL A
+        PLAIN, // RLC A
+        PLAIN, // RR A
+        PLAIN, // RRC A
+        PLAIN, // IN A,PM
+        PLAIN, // IN A,PS
+        PLAIN, // IN A,PP
+        PLAIN, // OUT PA,A
+        ADDRESS, // JMP addr
+        BRANCH, // JC addr
+        BRANCH, // JNC addr
+        BRANCH, // JTMR addr
+        BRANCH, // JA0 addr
+        BRANCH, // JA1 addr
+        BRANCH, // JA2 addr
+        BRANCH, // JA3 addr
+        BRANCH, // JZ A,addr
+        BRANCH, // JNZ A,addr
+        BRANCH, // JNZ R0,addr
+        BRANCH, // JNZ R1,addr
+        BRANCH, // JNZ R4,addr
+        ADDRESS, // CALL addr
+        PLAIN, // RET
+        PLAIN, // RETI
+        PLAIN, // CLC
+        PLAIN, // STC
+        PLAIN, // EI
+        PLAIN, // DI
+        PLAIN, // NOP
+        BYTE, // TIMER XXH
+        PLAIN, // TIMER ON
+        PLAIN, // TIMER OFF
+        PLAIN, // MOV A,TMRL
+        PLAIN, // MOV A,TMRH
+        PLAIN, // MOV TMRL,A
+        PLAIN, // MOV TMRH,A
+        PLAIN, // READ R4A
+        PLAIN, // READ MR0A
+        PLAIN, // READF R4A
+        PLAIN, // READF MR0A
+        NIBBLE, // SOUND XH
+        PLAIN, // SOUND A
+        PLAIN, // SOUND ONE
+        PLAIN, // SOUND LOOP
+        PLAIN, // SOUND OFF
+        HALT, // HALT
     ];
     if form < NONE {
         return list[form];
