@@ -1,7 +1,8 @@
-// What `panel` and `readings` share: runs mask.bin and script.bin, and prints after each record the report or what an operator sees; or one line
-// `refused N at P`. What is printed is decided by the proved functions of `script`, `glass` and `machine_glass`; here files are read and lines
+// What `panel` and `readings` share: runs a mask and a script, and prints after each record the report or what an operator sees; or one line
+// `refused N at P`. What is printed is decided by the proved functions of `script`, `glass` and `machine_glass`; here lines
 // are written.
-use files::read_file;
+ghost use mathlib.Core.Path.{_≡_};
+ghost use Rattle.script.specs.Check.{checked};
 use glass::Seen;
 use glass::text::text;
 use libc::STDOUT_FILENO;
@@ -90,20 +91,15 @@ fn put_records(mask: &[u8], script: &[u8], shown: Shown) {
     }
 }
 
-fn put_script(mask: &[u8], script: &[u8], shown: Shown) {
+// Runs a script that is not refused. What is printed no contract can say; the answer is the check's.
+pub fn play(mask: &[u8], script: &[u8], shown: Shown) -> Checked
+    ensures { λ r. ⌜ r ≡ checked (now (mask .entry)) (now (script .entry)) 3145728 ⌝ }
+{
     let answer = check_script(mask, script, ROOM);
     if answer.number != 0 {
         put_refused(answer);
-        return;
+        return answer;
     }
     put_records(mask, script, shown);
-}
-
-// One byte more than each limit is read, so that a longer file is refused.
-pub fn play(shown: Shown) {
-    let mut mask = [0u8; 4097];
-    let mut script = [0u8; 65536];
-    let m = read_file(b"mask.bin", &mut mask);
-    let s = read_file(b"script.bin", &mut script);
-    put_script(&mask[..m], &script[..s], shown);
+    answer
 }

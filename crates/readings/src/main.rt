@@ -1,8 +1,14 @@
 // `readings`: runs mask.bin and script.bin as `panel` does, and prints for each record what an operator sees: `dark`, a number, or
 // `unreadable at digit K`; or one line `refused N at P`.
+use files::read_file;
 use player::Shown;
 use player::play;
 
+// One byte more than each limit is read, so that a longer file is refused.
 fn main() {
-    play(Shown::Readings);
+    let mut mask = [0u8; 4097];
+    let mut script = [0u8; 65536];
+    let m = read_file(b"mask.bin", &mut mask);
+    let s = read_file(b"script.bin", &mut script);
+    play(&mask[..m], &script[..s], Shown::Readings);
 }
