@@ -1,7 +1,7 @@
 /*
  * Calls each function of both libraries on a stack of its own, step by step, and writes what that stack holds from time to time and at the
  * end, a file a call, into the folder of its argument. A constant that is built on the stack stands in no section, and may be overwritten
- * before the call returns: tools/find_list.py looks for it here. x86-64 Linux, as the archives are.
+ * before the call returns: tools/gate/find_list.py looks for it here. x86-64 Linux, as the archives are.
  */
 #define _GNU_SOURCE
 #include <fcntl.h>

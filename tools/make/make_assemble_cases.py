@@ -5,13 +5,10 @@ is written, where the text is accepted; a file `missing` says that source.asm is
 below are typed by hand and held to the reference model.
 """
 
-import pathlib
-
-import paths  # noqa: F401
+from paths import ROOT
 import assembler
 import stored
 
-ROOT = pathlib.Path(__file__).resolve().parent.parent
 CASES = ROOT / 'tests' / 'assemble'
 LONGEST = 65535
 
@@ -119,7 +116,7 @@ def expected(text, answer):
 def readme():
     head = ('# Stored cases of `assemble`\n\nEach folder is one case: `source.asm`, what the program must print, `expected`, and, where the '
             'text is accepted, what it\nmust write, `mask.bin`. A file `missing` says that source.asm is left out. '
-            '`tools/make_assemble_cases.py` makes them all,\nthis page too; `tools/assembler_differential.py` runs them.\n')
+            '`tools/make/make_assemble_cases.py` makes them all,\nthis page too; `tools/compare/assembler_differential.py` runs them.\n')
     return stored.page(head, ((name, guards) for name, _, _, guards in cases()))
 
 

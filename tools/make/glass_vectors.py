@@ -7,16 +7,15 @@ cases meet is counted and must be enough.
 
 import collections
 import itertools
-import pathlib
 
-import paths  # noqa: F401
+from paths import ROOT
 import glass
 import stored
 from glass import DARK, Number
 from isa_table import Refused
 from panel_input import two
 
-CRATE = pathlib.Path(__file__).resolve().parent.parent / 'crates' / 'glass_main'
+CRATE = ROOT / 'crates' / 'glass_main'
 
 ROOM = 9            # the longest picture of a case
 KEPT = b'\xff'      # each byte of a picture before a reading is drawn on it

@@ -6,16 +6,15 @@ throughout, and for the stored masks. Each case has two lines: its name with the
 and its marks: the first two, and each that is not the one two addresses before it.
 """
 
-import os
 import random
 
-import paths  # noqa: F401
+from paths import ROOT
 import isa_table
 import reference
 from reference import MASK
 from stored import write_files
 
-FOLDER = os.path.join(os.path.dirname(os.path.abspath(__file__)), '..', 'crates', 'checker_main')
+CRATE = ROOT / 'crates' / 'checker_main'
 KEPT = bytes([255])         # what the mark bytes hold before the checker writes them
 
 NOP, RET, RETI, EI, DI = 0x3E, 0x2E, 0x2F, 0x2C, 0x2D
@@ -221,8 +220,8 @@ def files():
     stored = masks()
     assert len(stored) <= 60 and all(len(one) == MASK for one in stored)
     out = fixed_lines() + stored_lines(stored)
-    return {os.path.join(FOLDER, 'data', 'masks.bin'): masks_file(stored),
-            os.path.join(FOLDER, 'stdout'): ('\n'.join(out) + '\n').encode('ascii')}
+    return {CRATE / 'data' / 'masks.bin': masks_file(stored),
+            CRATE / 'stdout': ('\n'.join(out) + '\n').encode('ascii')}
 
 
 if __name__ == '__main__':

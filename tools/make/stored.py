@@ -1,7 +1,5 @@
 """What the makers of stored files share: lines, the page of a folder of cases, the files of a case, and writing them all."""
 
-import pathlib
-
 
 def printed(lines):
     return ''.join(line + '\n' for line in lines).encode()
@@ -22,5 +20,5 @@ def case_files(folder, files):
 def write_files(files):
     """Writes a dict from paths to bytes."""
     for path, content in files.items():
-        pathlib.Path(path).parent.mkdir(parents=True, exist_ok=True)
-        pathlib.Path(path).write_bytes(content)
+        path.parent.mkdir(parents=True, exist_ok=True)
+        path.write_bytes(content)

@@ -17,9 +17,7 @@ bar, and at -1.00 nothing is left. A press of the button, PM bit 0, puts it to s
 wakes it; the edge that wakes it lets out nothing.
 """
 
-import pathlib
-
-import paths  # noqa: F401
+from paths import ROOT
 import assembler
 import glass
 import reference
@@ -27,7 +25,7 @@ import stored
 from make_checkmask_cases import shortest_ways
 from panel_input import assemble, int_pin, pins, power_on, run
 
-FOLDER = pathlib.Path(__file__).resolve().parent.parent / 'demo'
+FOLDER = ROOT / 'demo'
 PUMP = FOLDER / 'pump.asm'
 GAUGE = FOLDER / 'gauge.asm'
 

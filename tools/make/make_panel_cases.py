@@ -6,14 +6,11 @@ folder has the name of the file that is left out. What is expected comes from th
 model; the answers below, where document 01 decides them alone, are typed by hand and held to it.
 """
 
-import pathlib
-
-import paths  # noqa: F401
+from paths import ROOT
 import reference
 import stored
 from panel_input import (assemble, int_pin, pins, power_on, record, res, run, tmclk)
 
-ROOT = pathlib.Path(__file__).resolve().parent.parent
 CRATE = ROOT / 'crates' / 'panel'
 CASES = ROOT / 'tests' / 'panel'
 
@@ -326,7 +323,8 @@ def readme():
     names = [case[0] for case in cases()]
     assert names == list(GUARDS), 'a case without what it guards, or the other way round'
     head = ('# Stored cases of `panel`\n\nEach folder is one case: `mask.bin`, `script.bin` and what the program must print, `expected`. A file '
-            '`missing` names\na file that is left out. `tools/make_panel_cases.py` makes them all, this page too; `tools/differential.py` runs them.\n'
+            '`missing` names\na file that is left out. `tools/make/make_panel_cases.py` makes them all, this page too; '
+            '`tools/compare/differential.py` runs them.\n'
             '`docs/SCRIPT.md` has the format.\n')
     return stored.page(head, GUARDS.items())
 

@@ -50,7 +50,7 @@ def stored_cases(program, names):
 
 
 def demonstrations():
-    """How many ran: through ./panel, ./readings and ./checkmask. tools/command_tests.py has the rest of the commands."""
+    """How many ran: through ./panel, ./readings and ./checkmask. tools/gate/command_tests.py has the rest of the commands."""
     demo = ROOT / 'demo'
     compare('demo', [ROOT / 'panel', demo / 'mask.bin', demo / 'script.bin'], {}, (demo / 'expected').read_bytes())
     compare('demo/pump.bin', [ROOT / 'panel', demo / 'pump.bin', demo / 'pump_script.bin'], {}, (demo / 'pump_expected').read_bytes())

@@ -2,24 +2,25 @@
 """Counts the instructions of a step of Run, and fails where one takes more than docs/PERFORMANCE.md says, and three tenths on top. A plain
 engine's are printed beside them.
 
-usage: tools/step_instructions.py BENCH        BENCH: the bench's program, linked to the proved library
+usage: tools/gate/step_instructions.py BENCH        BENCH: the bench's program, linked to the proved library
 
 The compiler lays the engine's loop out well or badly for reasons far from what was changed: only counting shows it. Counts are valgrind's, the
 same on every run whatever else the machine does. Where valgrind is not installed nothing is counted, and that is said."""
-import os
 import re
 import shutil
 import subprocess
 import sys
 
-DOCUMENT = os.path.join(os.path.dirname(os.path.abspath(__file__)), "..", "docs", "PERFORMANCE.md")
+from paths import ROOT
+
+DOCUMENT = ROOT / "docs" / "PERFORMANCE.md"
 STEPS = 10000
 SLACK = 1.3
 
 
 def figures():
     """The rows `| Run, MASK, a step | .. | FIGURE |` of the table of what is held: the library's figure is the last."""
-    text = open(DOCUMENT, encoding="utf-8").read()
+    text = DOCUMENT.read_text(encoding="utf-8")
     part = text.split("## Instructions of a step", 1)[1].split("\n## ", 1)[0]
     rows = re.findall(r"^\| Run, ([a-z ]+), a step \|.*\| ([0-9.]+) \|$", part, re.M)
     return {name: float(figure) for name, figure in rows}

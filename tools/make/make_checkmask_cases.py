@@ -6,14 +6,11 @@ is the only shortest one, so that what is printed is decided. The lines below, w
 masks that pass, are typed by hand and held to the reference model.
 """
 
-import pathlib
-
-import paths  # noqa: F401
+from paths import ROOT
 import reference
 import stored
 from panel_input import assemble
 
-ROOT = pathlib.Path(__file__).resolve().parent.parent
 CRATE = ROOT / 'crates' / 'checkmask'
 CASES = ROOT / 'tests' / 'checkmask'
 
@@ -283,8 +280,9 @@ def expected(image, lines):
 
 def readme():
     head = ('# Stored cases of `checkmask`\n\nEach folder is one case: `mask.bin` and what the program must print, `expected`. A file `missing` says '
-            'that mask.bin is left out.\n`tools/make_checkmask_cases.py` makes them all, this page too; `tools/differential.py` runs them. Those of a '
-            'mask that passes are named `bound-..`,\nafter what decides how long an edge is held.\n')
+            'that mask.bin is left out.\n`tools/make/make_checkmask_cases.py` makes them all, this page too; '
+            '`tools/compare/differential.py` runs them.\n'
+            'Those of a mask that passes are named `bound-..`, after what decides how long an edge is held.\n')
     return stored.page(head, ((name, guards) for name, _, _, guards in cases()))
 
 

@@ -1,8 +1,8 @@
 """Finds a list of the 256 lengths or cycles by first byte: document 02, wish 3, wants none for a linker to place.
 
-    python3 tools/find_list.py FILE..           archives and object files: every section that a linker places; programs: their sections
-    python3 tools/find_list.py --memory FILE..  bytes as they are, such as a stack that a call left
-    python3 tools/find_list.py --forms          shows that it finds such a list in each form, and nothing else
+    python3 tools/gate/find_list.py FILE..           archives and object files: every section that a linker places; programs: their sections
+    python3 tools/gate/find_list.py --memory FILE..  bytes as they are, such as a stack that a call left
+    python3 tools/gate/find_list.py --forms          shows that it finds such a list in each form, and nothing else
 
 A list has entries in a row, of one, two, four or eight bytes, that are equal where lengths are, or cycles, or both, and different
 where these differ: so packed and scaled entries are found, and a table of jumps by length. It is found by the part from 36h to 70h,

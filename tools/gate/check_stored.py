@@ -6,12 +6,10 @@ and is not made.
 
 import contextlib
 import io
-import os
-import pathlib
 import re
 import sys
 
-import paths  # noqa: F401
+from paths import ROOT
 import checker_cases
 import glass_vectors
 import isa_table
@@ -23,12 +21,10 @@ import make_readings_cases
 import reference
 import vectors
 
-ROOT = pathlib.Path(__file__).resolve().parent.parent
-
 # Folders whose files are all made.
 MADE = [make_panel_cases.CASES, make_checkmask_cases.CASES, make_assemble_cases.CASES, make_readings_cases.CASES, make_demo.FOLDER,
         make_panel_cases.CRATE / 'data', make_checkmask_cases.CRATE / 'data', make_readings_cases.CRATE / 'data',
-        ROOT / 'crates' / 'machine_main' / 'data', ROOT / 'crates' / 'checker_main' / 'data', glass_vectors.CRATE / 'data']
+        vectors.CRATE / 'data', checker_cases.CRATE / 'data', glass_vectors.CRATE / 'data']
 
 
 def made():
@@ -36,8 +32,7 @@ def made():
     for maker in (make_panel_cases, make_checkmask_cases, make_assemble_cases, make_readings_cases, make_demo, checker_cases, glass_vectors,
                   vectors):
         with contextlib.redirect_stdout(io.StringIO()):     # some say what they meet
-            files = maker.files()
-        result.update((pathlib.Path(os.path.abspath(path)), content) for path, content in files.items())
+            result |= maker.files()
     return result
 
 

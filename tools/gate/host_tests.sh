@@ -6,8 +6,8 @@
 # (from the top of the repository, or absolute). With --all every pair of a small
 # mask is asked for its bound, and not a sample of those that it does not reach.
 set -euo pipefail
-case "$*" in '') whole='' ;; --all) whole=--whole ;; *) echo "usage: tools/host_tests.sh [--all]" >&2 && exit 2 ;; esac
-cd "$(dirname "$0")/.."
+case "$*" in '') whole='' ;; --all) whole=--whole ;; *) echo "usage: tools/gate/host_tests.sh [--all]" >&2 && exit 2 ;; esac
+cd "$(dirname "$0")/../.."
 
 lib=${HT1130_LIB_DIR:-target/staticlib}
 for name in ht1130 ht1130_tools; do
@@ -43,22 +43,22 @@ for name in ht1130 ht1130_tools; do
 done
 
 say "archives: no list of lengths and cycles, in a section or on the stack of a call"
-python3 tools/find_list.py --forms
+python3 tools/gate/find_list.py --forms
 for name in ht1130 ht1130_tools; do
-    python3 tools/find_list.py "$HT1130_LIB_DIR/lib$name.a"
+    python3 tools/gate/find_list.py "$HT1130_LIB_DIR/lib$name.a"
     # nor a place to fill one in: nothing that can be written
     readelf -SW "$HT1130_LIB_DIR/lib$name.a" | awk '/ +WA/ { print; bad = 1 } END { exit bad }'
 done
-gcc -std=c11 -O2 -Wall -Wextra -Werror -I include -o "$work/call_stacks" tools/call_stacks.c \
+gcc -std=c11 -O2 -Wall -Wextra -Werror -I include -o "$work/call_stacks" tools/gate/call_stacks.c \
     "$HT1130_LIB_DIR/libht1130.a" "$HT1130_LIB_DIR/libht1130_tools.a"
 rm -rf "$work/stacks"
 mkdir "$work/stacks"
 "$work/call_stacks" "$work/stacks"
 # the control has one, and it must be found
-python3 tools/find_list.py --memory "$work/stacks/control.stack" > "$work/control.out" || true
+python3 tools/gate/find_list.py --memory "$work/stacks/control.stack" > "$work/control.out" || true
 grep -q ': lengths, entries of width 1$' "$work/control.out"
 rm "$work/stacks/control.stack"
-python3 tools/find_list.py --memory "$work"/stacks/*.stack
+python3 tools/gate/find_list.py --memory "$work"/stacks/*.stack
 
 say "examples/segments.c"
 gcc -std=c11 -O2 -Wall -Wextra -Werror -I include -o "$work/segments" examples/segments.c "$HT1130_LIB_DIR/libht1130.a" "$HT1130_LIB_DIR/libht1130_tools.a"
@@ -106,6 +106,6 @@ cargo_in bench build --offline --release --quiet
 target/cargo/release/bench diff --seed 1130 $whole
 
 say "the instructions of a step, held to what docs/PERFORMANCE.md says"
-python3 tools/step_instructions.py target/cargo/release/bench
+python3 tools/gate/step_instructions.py target/cargo/release/bench
 
 say "host tests passed"

@@ -1,6 +1,6 @@
 #!/usr/bin/env python3
-"""Tests of tools/wrong_lock.py: what the hash goes by, what fails of a record, and that the four parts are all runs, each once; and of
-tools/edit_names.py: which names of an edit are in sight."""
+"""Tests of wrong_lock.py: what the hash goes by, what fails of a record, and that the four parts are all runs, each once; and of
+edit_names.py: which names of an edit are in sight."""
 
 import os
 import shutil

@@ -13,16 +13,15 @@ made for. Always writes the same bytes.
 import random
 from collections import Counter
 from dataclasses import replace
-from pathlib import Path
 
-import paths  # noqa: F401
+from paths import ROOT
 import isa_table as isa
 import reference as ref
 import stored
 from isa_table import Refused
 from reference import Options
 
-CRATE = Path(__file__).resolve().parent.parent / 'crates' / 'machine_main'
+CRATE = ROOT / 'crates' / 'machine_main'
 NOP = 0x3E
 IMAGE_ROOM = 168            # bytes of an image in the file
 POWER_ON, RUN, PINS, INT, TMCLK, RES, STEP, SET_CPU, SET_NIBBLE, SET_GAP, QUERY = range(1, 12)

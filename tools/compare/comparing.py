@@ -7,9 +7,8 @@ import subprocess
 import sys
 import tempfile
 
-import paths
+from paths import ROOT
 
-ROOT = paths.ROOT
 BIN = ROOT / 'target' / 'bin'
 SAVED = ROOT / 'target' / 'differential'
 SECONDS = 60        # for one run of a program

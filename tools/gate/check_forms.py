@@ -5,11 +5,11 @@ Proofs do not ask for a form, so a change can lose one unseen. Nothing is writte
 does not have it. So that no test passes on everything, each is tried on the code with the shape taken away, and must fail there.
 """
 
-import pathlib
 import re
 import sys
 
-ROOT = pathlib.Path(__file__).resolve().parent.parent
+from paths import ROOT
+
 DOCUMENT = ROOT / 'docs' / 'DECISIONS.md'
 
 

@@ -5,16 +5,13 @@ tests/readings is one more, as in tests/panel. What is expected comes from the m
 are typed by hand and held to them.
 """
 
-import pathlib
-
-import paths  # noqa: F401
+from paths import ROOT
 import glass
 import reference
 import stored
 from make_panel_cases import LONGEST, START, padded
 from panel_input import int_pin, pins, power_on, record, res, run, tmclk, write
 
-ROOT = pathlib.Path(__file__).resolve().parent.parent
 CRATE = ROOT / 'crates' / 'readings'
 CASES = ROOT / 'tests' / 'readings'
 
@@ -202,8 +199,8 @@ def readme():
     names = [case[0] for case in cases()]
     assert names == list(GUARDS), 'a case without what it guards, or the other way round'
     head = ('# Stored cases of `readings`\n\nEach folder is one case: `mask.bin`, `script.bin` and what the program must print, `expected`. A file '
-            '`missing` names\na file that is left out. `tools/make_readings_cases.py` makes them all, this page too; '
-            '`tools/differential.py` runs them.\n`docs/SCRIPT.md` has the format.\n')
+            '`missing` names\na file that is left out. `tools/make/make_readings_cases.py` makes them all, this page too; '
+            '`tools/compare/differential.py` runs them.\n`docs/SCRIPT.md` has the format.\n')
     return stored.page(head, GUARDS.items())
 
 

@@ -18,9 +18,8 @@ import sys
 import tempfile
 import time
 
-import paths
+from paths import ROOT
 
-ROOT = paths.ROOT
 DEMO = ROOT / 'demo'
 STORED = ROOT / 'tests'
 LIST = ROOT / 'rust' / 'ht1130' / 'src' / 'refusals.txt'
