@@ -53,7 +53,8 @@ def wrapping(code, names):
 
 def longest(code, names):
     signature, body = code.function('longest')
-    return names == ['longest'] and 'left: u16' in signature and len(re.findall(r'\blongest\(.*, left - 1\)', body)) >= 2
+    calls = re.findall(r'\blongest\([^)]*\)', body)
+    return names == ['longest'] and 'left: u16' in signature and len(calls) == 3 and all(call.endswith(', left - 1)') for call in calls)
 
 
 def let_else(code, names):
@@ -61,10 +62,13 @@ def let_else(code, names):
     return names == ['execute'] and bool(re.search(r'let Decoded::Read\(\w+\) = decode\(.*\) else \{\s*self\.status\.fault = 1;', body))
 
 
+METHODS = {'power.rt': ['power_on', 'reset'], 'events.rt': ['apply', 'apply_named', 'step']}
+
+
 def by_value(code, names):
     signatures = [code.function(name)[0] for name in names]
     through = 'apply' not in names or 'Event::Res => self.reset()' in code.function('apply')[1]
-    return bool(names) and through and all(re.search(r'\(\s*mut self\b', s) and '-> Answer' in s for s in signatures)
+    return names == METHODS.get(code.path.name) and through and all(re.search(r'\(\s*mut self\b', s) and '-> Answer' in s for s in signatures)
 
 
 def branch(code, names):
@@ -82,9 +86,15 @@ def addresses(code, names):
 
 
 def lent(code, names):
+    """The record goes out by value, to a method of the machine, and what comes back is stored unless it is refused."""
+    events = Code(None, (code.path.parent / 'events.rt').read_text(encoding='utf-8'))
+
     def thin(name):
         signature, body = code.function(name)
-        return ('machine: &mut Machine' in signature and len(body.split(';')) <= 4 and re.search(r'= \w+\(\*machine,', body)
+        called = re.search(r'= (\w+)\(\*machine,', body)
+        inner = events.function(called.group(1)) if called else ('', '')
+        return ('machine: &mut Machine' in signature and len(body.split(';')) <= 4
+                and 'machine: Machine' in inner[0] and re.search(r'\bmachine\.(power_on|apply_named)\(', inner[1])
                 and re.search(r'if (\w+)\.refusal == 0 \{\s*\*machine = \1\.machine;\s*\}\s*\1\.refusal', body))
     return names == ['ht1130_power_on', 'ht1130_apply'] and all(thin(name) for name in names)
 
@@ -95,7 +105,7 @@ FORMS = [
     ("u32 cycle count advanced by the language's wrapping add", wrapping, 1, ('wrapping_add_u32(self.cycles, ', 'sum(self.cycles, ')),
     ('recursive longest-path walk, the count of remaining pairs as measure', longest, 1, ('left - 1', 'left')),
     ("decoder's answer taken apart by let .. else, the else branch setting the fault", let_else, 1, ('else {\n            self.status.fault = 1', 'else {\n            self.status.fault = 2')),
-    ('method with mut self that hands the machine back, also for reset and events', by_value, 2, ('mut self', 'self')),
+    ('method with mut self that hands the machine back, also for reset and events', by_value, 2, ('mut self', 'self'), ('-> Answer', '-> Machine')),
     ('instruction enum whose branch case holds a condition enum and a target', branch, 1, ('Branch(ProgramAddress, Condition)', 'Branch(ProgramAddress, u8)')),
     ('operand reader and parenthesis reader call each other, remaining depth and text falling', readers, 1, ('depth - 1', 'depth')),
     ("tuple structs for the two address kinds, from the sheet's program counter and data pointer", addresses, 1, ('pub struct DataAddress(pub u8);', 'pub struct DataAddress { pub at: u8 }')),

@@ -18,7 +18,7 @@ use Rattle.isa.specs.declared.Condition.the-variants.{Ja, JnzR0, JnzR1, JnzR4, 
 use Rattle.isa.specs.declared.Instruction.{Instruction}
 use Rattle.isa.specs.declared.Instruction.the-variants as I
 use Rattle.isa.proofs.Exact.{and-left, and-right}
-use Rattle.abi.specs.Forms.{Named, numbersOf, one, when, branchNamed, pairNamed, forms, named}
+use Rattle.abi.specs.Forms.{Named, numbersOf, one, provided, branchNamed, pairNamed, forms, named}
 
 -- a form and an operand a of a byte, an operand b of two
 abbrev pub fitting : Named → Bool
@@ -54,7 +54,7 @@ module _ (low high : ℕ) (h : ltb low 16 && ltb high 16 ≡ true) where
   xx-fits : ltb (16 * high + low) 65536 ≡ true
   xx-fits = lt-ltb (16 * high + low) 65536 (omega (arith, low-below, high-below))
 
-  xx-back : (p : Pointer) → when (ltb (16 * high + low) 256) (one (I.MovPairXX p ((16 * high + low) % 16) ((16 * high + low) / 16))) ≡ one (I.MovPairXX p low high)
+  xx-back : (p : Pointer) → provided (ltb (16 * high + low) 256) (one (I.MovPairXX p ((16 * high + low) % 16) ((16 * high + low) / 16))) ≡ one (I.MovPairXX p low high)
   xx-back p =
       let e : (16 * high + low) % 16 ≡ low = omega (arith, low-below) in
       let f : (16 * high + low) / 16 ≡ high = omega (arith, low-below) in

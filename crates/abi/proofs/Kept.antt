@@ -11,7 +11,7 @@ use Rattle.isa.specs.declared.Pointer.the-variants.{R1R0, R3R2}
 use Rattle.isa.specs.declared.Condition.{Condition}
 use Rattle.isa.specs.declared.Instruction.{Instruction}
 use Rattle.isa.specs.declared.Instruction.the-variants as I
-use Rattle.abi.specs.Forms.{Named, numbers, numbersOf, Meant, one, nothing, listed, when, conditions, branchNamed, pairNamed}
+use Rattle.abi.specs.Forms.{Named, numbers, numbersOf, Meant, one, nothing, listed, provided, conditions, branchNamed, pairNamed}
 use Rattle.abi.specs.Forms.{Form, plain, number, choice, target, pair, branch, meant, having, forms, named, kept}
 
 -- the first n values of a function
@@ -50,7 +50,7 @@ chosen [] f e a i m = absurd (let z : _≡_ {A = ℕ} 0 1 = cc in omega arith)
 chosen (j ∷ is) f e zero i m = cc
 chosen (j ∷ is) f e (suc a) i m = chosen is (λ (k : ℕ). f (suc k)) (cc) a i m
 
-within : (t : Bool) (m : Meant) (i : Instruction) → when t m ≡ one i → m ≡ one i
+within : (t : Bool) (m : Meant) (i : Instruction) → provided t m ≡ one i → m ≡ one i
 within true m i e = e
 within false m i e = absurd (let z : _≡_ {A = ℕ} 0 1 = cc in omega arith)
 

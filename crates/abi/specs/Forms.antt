@@ -129,9 +129,9 @@ pub data Meant : Type 0 where
 abbrev pub listed : List Instruction → ℕ → Meant
 listed is n = getD (map one is) n nothing
 
-abbrev pub when : Bool → Meant → Meant
-when true m = m
-when false m = nothing
+abbrev pub provided : Bool → Meant → Meant
+provided true m = m
+provided false m = nothing
 
 -- the conditions by their numbers
 abbrev pub conditions : List Condition
@@ -142,7 +142,7 @@ branchNamed a b = listed (map (λ (k : Condition). I.Branch (record { 0 = b }) k
 
 -- XX is a byte
 unfoldable pub pairNamed : ℕ → ℕ → Meant
-pairNamed a b = when (ltb b 256) (listed (I.MovPairXX R1R0 (b % 16) (b / 16) ∷ I.MovPairXX R3R2 (b % 16) (b / 16) ∷ []) a)
+pairNamed a b = provided (ltb b 256) (listed (I.MovPairXX R1R0 (b % 16) (b / 16) ∷ I.MovPairXX R3R2 (b % 16) (b / 16) ∷ []) a)
 
 -- a form: its instruction has no operand, a number in a, one of a few by a, a target in b, or both a and b
 pub data Form : Type 0 where

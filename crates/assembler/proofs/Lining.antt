@@ -21,7 +21,7 @@ use Rattle.operand.proofs.Places.{characters}
 use Rattle.operand.proofs.Texts.{both, case, differ, neither, not-letter}
 use Rattle.operand.proofs.TokenKinds.{as-end, as-label, as-sign, sign-is, sign-not}
 use Rattle.operand.proofs.Whole.{short-read}
-use Rattle.assembler.specs.Forms.{digits}
+use Rattle.assembler.specs.Forms.{operandDigits}
 use Rattle.assembler.specs.Statement.{after, afterTwo, before, blank, body, coded, codeOf, labelOf, labelled, leads}
 use Rattle.assembler.specs.Statement.{mnemonic, nothing, operandFor, org, statement}
 use Rattle.assembler.specs.Shapes.{digitsIn, formAt, formKeys, keyOf, leadsIn, shapes}
@@ -323,17 +323,17 @@ module _ (text : List ℕ) (above all : List (List ℕ)) (addresses : List ℕ) 
       b (f ∙ q) v (omega (arith, s))
 
   module _ (form : ℕ) (low : 0 < form) (high : form < 97) where
-    body-is : bodied form own ts ≡ codeOf own (formAt form) (operandFor (digits (formAt form)) ts)
+    body-is : bodied form own ts ≡ codeOf own (formAt form) (operandFor (operandDigits (formAt form)) ts)
     body-is = rw (ne-eqb form 97 (λ q. omega arith), ne-eqb form 0 (λ q. omega arith)) refl
 
-    digits-are : digits (formAt form) ≡ digitsIn (getD shapes form 0)
+    digits-are : operandDigits (formAt form) ≡ digitsIn (getD shapes form 0)
     digits-are = shape-at form low high .digit
 
     pub code-shown : (r : Line) → 0 < digitsIn (getD shapes form 0) → Operanded all addresses ts form name r
         → Shows text above all addresses (bodied form own ts) r
-    code-shown r d (bad e b) = L.broken (body-is ∙ rw (some-digits (digits (formAt form)) ts (omega (arith, digits-are)), e) refl) b
+    code-shown r d (bad e b) = L.broken (body-is ∙ rw (some-digits (operandDigits (formAt form)) ts (omega (arith, digits-are)), e) refl) b
     code-shown r d (good terms e b f p s v) =
-        L.coded terms (body-is ∙ rw (some-digits (digits (formAt form)) ts (omega (arith, digits-are)), e)
+        L.coded terms (body-is ∙ rw (some-digits (operandDigits (formAt form)) ts (omega (arith, digits-are)), e)
         (ap (λ (l : Option (List ℕ)). mnemonic l (formAt form) terms) (own-is r p s) ∙ ap
         (λ (k : ℕ). mnemonic (labelIn text (r .labelled) (r .label)) (formAt k) terms) (sym f)))
         b (omega (arith, f)) (omega (arith, f)) v (omega (arith, s))
@@ -345,12 +345,12 @@ module _ (text : List ℕ) (above all : List (List ℕ)) (addresses : List ℕ) 
         → Shows text above all addresses (bodied form own ts)
         (record { readable = true; form = form; labelled = name .present; label = name .start; missing = false; plus = 0; minus = 0 })
     plain-shown d e =
-        L.coded [] (body-is ∙ rw (no-digits (digits (formAt form)) (digits-are ∙ d), e) refl) refl low high
+        L.coded [] (body-is ∙ rw (no-digits (operandDigits (formAt form)) (digits-are ∙ d), e) refl) refl low high
         (record { added = refl; taken = refl; missed = refl }) place
 
     pub plain-broken : digitsIn (getD shapes form 0) ≡ 0 → nothing ts ≡ none → (r : Line) → r .readable ≡ false → Shows text above all addresses
         (bodied form own ts) r
-    plain-broken d e r b = L.broken (body-is ∙ rw (no-digits (digits (formAt form)) (digits-are ∙ d), e) refl) b
+    plain-broken d e r b = L.broken (body-is ∙ rw (no-digits (operandDigits (formAt form)) (digits-are ∙ d), e) refl) b
 
 -- where a line has not ended something stands
 pub not-nothing : {text : List ℕ} {ts : List Token} {r : Lexeme} → Next text ts r → (r .kind ≡ 1 → ⊥) → nothing ts ≡ none

@@ -12,18 +12,18 @@ use Rattle.isa.specs.Views.{view}
 use Rattle.isa.specs.declared.Instruction.{Instruction}
 use Rattle.isa.specs.declared.Instruction.the-variants as I
 use Rattle.mnemonic.specs.Line.{lineOf}
-use Rattle.assembler.specs.Forms.{always, digits, forms, reaches, size}
+use Rattle.assembler.specs.Forms.{always, operandDigits, forms, reaches, size}
 use Rattle.assembler.specs.Shapes.{bytesIn, digitsIn, firsts, formAt, lowBytes, reachesIn, shapes, sizeIn}
 
 pub record Shaped (f : ℕ → Instruction) (first s : ℕ) : Type 0 where
   pub bytes : (v : ℕ) → bytesOf (f v) ≡ bytesIn s first v
-  pub digit : digits f ≡ digitsIn s
+  pub digit : operandDigits f ≡ digitsIn s
   pub sized : size f ≡ sizeIn s
   pub solid : eqb s 0 ≡ false
   pub reach : (moved v : ℕ) → reaches f moved v ≡ reachesIn s moved v
   pub low : (v : ℕ) → v < 16 ^ digitsIn s → lowBytes (bytesIn s first v) ≡ bytesIn s first v
 
-shaped : {f : ℕ → Instruction} {a s : ℕ} → ((v : ℕ) → bytesOf (f v) ≡ bytesIn s a v) → digits f ≡ digitsIn s → size f ≡ sizeIn s → eqb s 0 ≡ false
+shaped : {f : ℕ → Instruction} {a s : ℕ} → ((v : ℕ) → bytesOf (f v) ≡ bytesIn s a v) → operandDigits f ≡ digitsIn s → size f ≡ sizeIn s → eqb s 0 ≡ false
     → ((moved v : ℕ) → reaches f moved v ≡ reachesIn s moved v) → ((v : ℕ) → v < 16 ^ digitsIn s → lowBytes (bytesIn s a v) ≡ bytesIn s a v)
     → Shaped f a s
 shaped b d z o r l = record { bytes = b; digit = d; sized = z; solid = o; reach = r; low = l }

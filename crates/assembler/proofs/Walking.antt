@@ -22,7 +22,7 @@ use Rattle.operand.proofs.Places.{names-count}
 use Rattle.operand.proofs.Texts.{case, differ}
 use Rattle.assembler.specs.Statement.{Statement, after, before, body, coded, codeOf, equals, formIn, labelled}
 use Rattle.assembler.specs.Statement.{operandFor, orgOf, statement}
-use Rattle.assembler.specs.Forms.{digits, forms}
+use Rattle.assembler.specs.Forms.{operandDigits, forms}
 use Rattle.assembler.specs.Program.{Above, again, end, first, ifLabelled, labelOf, mislabelled, named, next, program, start, unread}
 use Rattle.assembler.specs.Read.{Shows, broken, coded as code, empty, labelIn, origin}
 use Rattle.assembler.specs.Passing.{Settled, lineEnd}
@@ -92,7 +92,7 @@ labels-none-code f (some ts) = refl
 
 labels-none-coded : (ts : List Token) (o : Option (ℕ → Instruction)) → labelOf (coded none ts o) ≡ none
 labels-none-coded ts none = refl
-labels-none-coded ts (some f) = labels-none-code f (operandFor (digits f) ts)
+labels-none-coded ts (some f) = labels-none-code f (operandFor (operandDigits f) ts)
 
 body-none : (ts : List Token) → labelOf (body none ts) ≡ none
 unfolding body

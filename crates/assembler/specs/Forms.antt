@@ -67,8 +67,8 @@ digitsOf (operand n v ∷ ts) = n
 abbrev pub lead : (ℕ → Instruction) → List Token
 lead f = leadOf (lineOf (f 0))
 
-abbrev pub digits : (ℕ → Instruction) → ℕ
-digits f = digitsOf (lineOf (f 0))
+abbrev pub operandDigits : (ℕ → Instruction) → ℕ
+operandDigits f = digitsOf (lineOf (f 0))
 
 -- how many bytes the form takes
 abbrev pub size : (ℕ → Instruction) → ℕ
@@ -76,7 +76,7 @@ size f = length (bytesOf (f 0))
 
 -- how many values its operand can have; one, 0, where it has none
 abbrev pub field : (ℕ → Instruction) → ℕ
-field f = 16 ^ digits f
+field f = 16 ^ operandDigits f
 
 -- "A conditional branch whose target differs in bit 11 from its moved PC does not fit"
 abbrev pub reachesBy : {i : Instruction} → View i → ℕ → ℕ → Bool

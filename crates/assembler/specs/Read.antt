@@ -10,7 +10,7 @@ use Rattle.isa.specs.Choice.{pick}
 use Rattle.mnemonic.specs.Spelling.{Token}
 use Rattle.operand.specs.Operand.{Term, minus, missing, operandOf, plus}
 use Rattle.operand.specs.Read.{tokensAt, wordAt}
-use Rattle.assembler.specs.Forms.{digits}
+use Rattle.assembler.specs.Forms.{operandDigits}
 use Rattle.assembler.specs.Statement.{Statement, unreadable, blank, org, mnemonic, after, afterTwo, before, codeOf, labelOf, labelled}
 use Rattle.assembler.specs.Statement.{operandFor, orgOf}
 use Rattle.assembler.specs.Shapes.{formAt, keyOf}
@@ -49,7 +49,7 @@ pub data Operanded (names : List (List ℕ)) (addresses : List ℕ) (ts : List T
 -- a line of ORG or a form, by its number; 97 is none
 abbrev pub bodied : ℕ → Option (List ℕ) → List Token → Statement
 bodied form l ts = pick
-    (eqb form 97) unreadable (pick (eqb form 0) (orgOf l (operandOf ts)) (codeOf l (formAt form) (operandFor (digits (formAt form)) ts)))
+    (eqb form 97) unreadable (pick (eqb form 0) (orgOf l (operandOf ts)) (codeOf l (formAt form) (operandFor (operandDigits (formAt form)) ts)))
 
 -- a line as it is read, where an ORG's labels are looked up among those above and another line's among all
 pub data Shows (text : List ℕ) (above all : List (List ℕ)) (addresses : List ℕ) (st : Statement) (r : Line) : Type 0 where

@@ -13,7 +13,7 @@ use Rattle.isa.specs.declared.Instruction.{Instruction}
 use Rattle.mnemonic.specs.Spelling.{Token, letters, mark, operand, codes}
 use Rattle.operand.specs.Words.{isFixed, isLabel, same}
 use Rattle.operand.specs.Operand.{Term, operandOf}
-use Rattle.assembler.specs.Forms.{digits, forms, lead}
+use Rattle.assembler.specs.Forms.{operandDigits, forms, lead}
 
 pub data Statement : Type 0 where
   unreadable : Statement
@@ -76,7 +76,7 @@ operandFor (suc n) ts = operandOf ts
 
 abbrev pub coded : Option (List ℕ) → List Token → Option (ℕ → Instruction) → Statement
 coded l ts none = unreadable
-coded l ts (some f) = codeOf l f (operandFor (digits f) ts)
+coded l ts (some f) = codeOf l f (operandFor (operandDigits f) ts)
 
 -- what follows the label
 unfoldable pub body : Option (List ℕ) → List Token → Statement

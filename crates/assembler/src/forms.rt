@@ -131,7 +131,7 @@ pub(crate) fn form_of(key: u64) -> usize
         0xb4b6, // READ MR0A
         0xb7b5, // READF R4A
         0xb7b6, // READF MR0A
-        0xb8, // SOUND XH
+        0xb8, // SOUND n
         0xb881, // SOUND A
         0xb8b9, // SOUND ONE
         0xb8ba, // SOUND LOOP
@@ -237,7 +237,7 @@ pub(crate) fn first_of(form: usize) -> u8
         0x4e, // READ MR0A
         0x4d, // READF R4A
         0x4f, // READF MR0A
-        0x45, // SOUND XH
+        0x45, // SOUND n
         0x4b, // SOUND A
         0x48, // SOUND ONE
         0x49, // SOUND LOOP
@@ -345,7 +345,7 @@ pub(crate) fn shape_of(form: usize) -> u8
         PLAIN, // READ MR0A
         PLAIN, // READF R4A
         PLAIN, // READF MR0A
-        NIBBLE, // SOUND XH
+        NIBBLE, // SOUND n
         PLAIN, // SOUND A
         PLAIN, // SOUND ONE
         PLAIN, // SOUND LOOP

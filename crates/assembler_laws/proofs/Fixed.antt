@@ -23,7 +23,7 @@ use Rattle.isa.proofs.Exact.{and-left, and-right}
 use Rattle.mnemonic.specs.Line.{lineOf}
 use Rattle.mnemonic.specs.Spelling.{Token, letters, mark, operand, codes}
 use Rattle.operand.specs.Words.{fixedWords, same, place, isFixed}
-use Rattle.assembler.specs.Forms.{digits, lead}
+use Rattle.assembler.specs.Forms.{operandDigits, lead}
 use Rattle.assembler.specs.Statement.{leads}
 use Rattle.assembler_laws.specs.Fixed.{Stated, org, mnemonic, FixedExactly}
 use Rattle.assembler_laws.proofs.Each as Each
@@ -109,7 +109,7 @@ word-fixed w ts n v e m = ⊎-elim (λ q. passes leads (letters w) ts e q) (λ q
 line-fixed : (w : List ℕ) (i : Instruction) → inRange i ≡ true → List·Memᴰ (letters w) (lineOf i) → isFixed w ≡ true
 line-fixed w i r m =
     let f = own-case i r .form in
-    word-fixed w (lead f) (digits f) (own-case i r .value) (tested-form f (own-case i r .found) .words .fixed)
+    word-fixed w (lead f) (operandDigits f) (own-case i r .value) (tested-form f (own-case i r .found) .words .fixed)
     (subst (List·Memᴰ (letters w)) (own-line i r) m)
 
 org-fixed : isFixed (codes "ORG") ≡ true

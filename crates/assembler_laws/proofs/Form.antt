@@ -17,7 +17,7 @@ use Rattle.isa.proofs.Exact.{and-both, and-left, and-right}
 use Rattle.mnemonic.specs.Line.{lineOf}
 use Rattle.mnemonic.specs.Spelling.{Token, letters, codes}
 use Rattle.operand.specs.Operand.{Term, operandOf}
-use Rattle.assembler.specs.Forms.{always, forms, lead, digits, size, field, reaches}
+use Rattle.assembler.specs.Forms.{always, forms, lead, operandDigits, size, field, reaches}
 use Rattle.assembler.specs.Statement.{Statement, unreadable, blank, org, mnemonic, before, after, equals, formIn, orgOf, codeOf, operandFor, coded}
 use Rattle.assembler.specs.Statement.{body, labelled, labelOf, afterTwo, statement}
 use Rattle.assembler_laws.specs.Lines.{GoesBy}
@@ -105,7 +105,7 @@ formed-code l (some ts) p = p
 
 formed-coded : (l : Option (List ℕ)) (ts : List Token) (o : Option (ℕ → Instruction)) → OfForm Fits o → Formed (coded l ts o)
 formed-coded l ts none p = tt
-formed-coded l ts (some f) p = formed-code l (operandFor (digits f) ts) p
+formed-coded l ts (some f) p = formed-code l (operandFor (operandDigits f) ts) p
 
 formed-body : (l : Option (List ℕ)) (ts : List Token) → Formed (body l ts)
 unfolding body

@@ -13,7 +13,7 @@ use lib.Seq.{getD-at, take-at}
 use borrow.Author.Tests.{eqb-true, leb-true, ltb-true, le-ltb, le-leb, lt-leb}
 use Rattle.isa.specs.Choice.{pick}
 use Rattle.isa.proofs.Exact.{and-left, and-right, and-both, below, below-at}
-use Rattle.mnemonic.specs.Spelling.{codes, digit, digits, led, number}
+use Rattle.mnemonic.specs.Spelling.{codes, digit, hexDigits, led, number}
 use Rattle.operand.specs.Text.{isDigit, isLetter, inWord}
 use Rattle.operand.specs.Words.{fixedWords, same, place, isFixed, first, isLabel, digitValue, inBase, last, front, numberOf}
 use Rattle.operand.specs.Operand as Operand
@@ -48,13 +48,13 @@ module _ (d : ℕ) (h : d < 16) where
   digit-value : digitValue (digit d) ≡ d
   digit-value = eqb-true (digitValue (digit d)) d (and-right (ltb (digitValue (digit d)) 16) (eqb (digitValue (digit d)) d) values)
 
-digits-hex : (n v : ℕ) → every hex (digits n v) ≡ true
+digits-hex : (n v : ℕ) → every hex (hexDigits n v) ≡ true
 digits-hex zero v = refl
-digits-hex (suc n) v = every-append hex (digits n (v / 16)) (digit (v % 16) ∷ []) (digits-hex n (v / 16)) (digit-hex (v % 16) (omega arith))
+digits-hex (suc n) v = every-append hex (hexDigits n (v / 16)) (digit (v % 16) ∷ []) (digits-hex n (v / 16)) (digit-hex (v % 16) (omega arith))
 
-pub digits-length : (n v : ℕ) → length (digits n v) ≡ n
+pub digits-length : (n v : ℕ) → length (hexDigits n v) ≡ n
 digits-length zero v = refl
-digits-length (suc n) v = length-append (digits n (v / 16)) (digit (v % 16) ∷ []) ∙ ap (λ (k : ℕ). k + 1) (digits-length n (v / 16)) ∙ omega arith
+digits-length (suc n) v = length-append (hexDigits n (v / 16)) (digit (v % 16) ∷ []) ∙ ap (λ (k : ℕ). k + 1) (digits-length n (v / 16)) ∙ omega arith
 
 -- ---- their value
 one-more : (base a : ℕ) (s : List ℕ) (c v : ℕ) → inBase base a s ≡ some v → ltb (digitValue c) base ≡ true
@@ -69,12 +69,12 @@ one-more base a (d ∷ s) c v e h = go (ltb (digitValue d) base) e (one-more bas
     go true q f = f q h
     go false q f = absurd (let z : _≡_ {A = ℕ} 0 1 = cc in omega arith)
 
-digits-value : (n v : ℕ) → v < 16 ^ n → inBase 16 0 (digits n v) ≡ some v
+digits-value : (n v : ℕ) → v < 16 ^ n → inBase 16 0 (hexDigits n v) ≡ some v
 digits-value zero v h = let p : v ≡ 0 = omega arith in rw p refl
 digits-value (suc n) v h =
     let b : v < 16 ^ n * 16 = subst (λ (m : ℕ). v < m) (pow-suc 16 n) h in
     let d : v % 16 < 16 = omega arith in
-    one-more 16 0 (digits n (v / 16)) (digit (v % 16)) (v / 16) (digits-value n (v / 16) (omega arith)) (digit-low (v % 16) d)
+    one-more 16 0 (hexDigits n (v / 16)) (digit (v % 16)) (v / 16) (digits-value n (v / 16) (omega arith)) (digit-low (v % 16) d)
     ∙ ap some (omega (arith, digit-value (v % 16) d))
 
 -- ---- a 0 before a letter
@@ -119,10 +119,10 @@ led-length (c ∷ s) = go (ltb c 65)
     go false = omega arith
 
 pub number-length : (n v : ℕ) → length (number n v) ≤ n + 2
-number-length n v = omega (arith, length-append (led (digits n v)) (codes "H"), led-length (digits n v), digits-length n v)
+number-length n v = omega (arith, length-append (led (hexDigits n v)) (codes "H"), led-length (hexDigits n v), digits-length n v)
 
-led-digits : (n v : ℕ) → Led (led (digits (suc n) v))
-led-digits n v = go (digits (suc n) v) (digits-hex (suc n) v) (digits-length (suc n) v)
+led-digits : (n v : ℕ) → Led (led (hexDigits (suc n) v))
+led-digits n v = go (hexDigits (suc n) v) (digits-hex (suc n) v) (digits-length (suc n) v)
   where
     go : (s : List ℕ) → every hex s ≡ true → length s ≡ suc n → Led (led s)
     go [] e h = absurd (omega arith)
@@ -135,7 +135,7 @@ ended [] l = absurd (false≢true (l .digit-first))
 ended (c ∷ s) l = record { digit-first = l .digit-first; word = every-append inWord (c ∷ s) (codes "H") (l .word) refl }
 
 pub number-led : (n v : ℕ) → Led (number (suc n) v)
-number-led n v = ended (led (digits (suc n) v)) (led-digits n v)
+number-led n v = ended (led (hexDigits (suc n) v)) (led-digits n v)
 
 read-hex : (s : List ℕ) (v : ℕ) → isDigit (first (s ++ codes "H")) ≡ true → inBase 16 0 s ≡ some v → v ≤ 65535 → numberOf (s ++ codes "H") ≡ some v
 unfolding numberOf
@@ -147,7 +147,7 @@ read-hex s v d e h =
 
 pub number-value : (n v : ℕ) → v < 16 ^ suc n → v ≤ 65535 → numberOf (number (suc n) v) ≡ some v
 number-value n v h b =
-    read-hex (led (digits (suc n) v)) v (number-led n v .digit-first) (led-value (digits (suc n) v) ∙ digits-value (suc n) v h) b
+    read-hex (led (hexDigits (suc n) v)) v (number-led n v .digit-first) (led-value (hexDigits (suc n) v) ∙ digits-value (suc n) v h) b
 
 -- ---- no fixed word, no label
 pub same-is : (v w : List ℕ) → same v w ≡ true → v ≡ w

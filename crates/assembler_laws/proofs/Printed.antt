@@ -17,7 +17,7 @@ use Rattle.mnemonic.specs.Placing.{placedAt}
 use Rattle.mnemonic.specs.Spelling.{Token, spelling}
 use Rattle.operand.specs.Text.{LF, tokens}
 use Rattle.operand.specs.Operand.{minus, missing}
-use Rattle.assembler.specs.Forms.{lead, digits, size}
+use Rattle.assembler.specs.Forms.{lead, operandDigits, size}
 use Rattle.assembler.specs.Statement.{Statement, org, mnemonic, statement}
 use Rattle.assembler.specs.Program.{program, written, answerTo, assembled}
 use Rattle.assembler_laws.specs.Printed.{printed, PrintsBack}
@@ -82,7 +82,7 @@ module _ (i : Instruction) (a : ℕ) (fits : a + length (bytesOf i) ≤ 4096) (c
       append-assoc (spelling (org-words ++ spoken 3 a)) (LF ∷ []) (textOf (placedAt (movedBy (length (bytesOf i)) a) i))
       ∙ ap (λ (ts : List Token). spelling (org-words ++ spoken 3 a) ++ (LF ∷ spelling ts)) (c .line)
 
-  program-is : program text ≡ org none (terms 3 a) ∷ mnemonic none f (terms (digits f) v) ∷ []
+  program-is : program text ≡ org none (terms 3 a) ∷ mnemonic none f (terms (operandDigits f) v) ∷ []
   program-is =
       two-lines (org-words ++ spoken 3 a) (line-of f v) (reads-org a) (reads-form f v (good .text))
       ∙ ap₂ (λ (l m : Statement). l ∷ m ∷ []) (org-said 2 a room (omega (arith, room)))
@@ -92,8 +92,8 @@ module _ (i : Instruction) (a : ℕ) (fits : a + length (bytesOf i) ≤ 4096) (c
   text-assembled =
       short-text (org-words ++ spoken 3 a) (line-of f v) (reads-org a) (reads-form f v (good .text))
       ∙ ap answerTo program-is
-      ∙ answer a f (terms (digits f) v) v room (rw sized at fits) (c .low) (rw sized at (c .reach))
-      (plus-terms (digits f) v (c .low)) (minus-terms (digits f) v) (known-terms (digits f) v)
+      ∙ answer a f (terms (operandDigits f) v) v room (rw sized at fits) (c .low) (rw sized at (c .reach))
+      (plus-terms (operandDigits f) v (c .low)) (minus-terms (operandDigits f) v) (known-terms (operandDigits f) v)
 
   pub assembles : assembled (printed a i) ≡ written (sets (replicate 4096 0x3e) a (bytesOf i))
   assembles = ap assembled text-is ∙ text-assembled ∙ ap (λ (j : Instruction). written (sets (replicate 4096 0x3e) a (bytesOf j))) (c .is)

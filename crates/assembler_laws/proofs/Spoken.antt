@@ -18,7 +18,7 @@ use Rattle.operand.specs.Text.{inWord, isLetter, tokens}
 use Rattle.operand.specs.Words.{fixedWords, first, isFixed, isLabel}
 use Rattle.operand.specs.Operand as Operand
 use Rattle.operand.specs.Operand.{Term, operandOf}
-use Rattle.assembler.specs.Forms.{forms, leadOf, lead, digits, field}
+use Rattle.assembler.specs.Forms.{forms, leadOf, lead, operandDigits, field}
 use Rattle.assembler.specs.Statement.{org, mnemonic, leads, before, after, equals, formIn, orgOf, codeOf, operandFor, coded, body, labelled}
 use Rattle.assembler.specs.Statement.{statement}
 use Rattle.assembler_laws.proofs.Each.{every}
@@ -137,13 +137,13 @@ is-worded f w =
     }
 
 pub form-said : (f : ℕ → Instruction) (v : ℕ) → Worded f → formIn forms (lead f) ≡ some f → v < field f → v ≤ 65535
-    → statement (lead f ++ said (digits f) v) ≡ mnemonic none f (terms (digits f) v)
+    → statement (lead f ++ said (operandDigits f) v) ≡ mnemonic none f (terms (operandDigits f) v)
 form-said f v w e h b =
-    bodied (lead f) (said (digits f) v) (w .some-words) (w .fixed)
-    ∙ body-said (lead f) (digits f) v (w .fixed)
-    ∙ ap (λ (t : Bool). pick t (orgOf none (operandOf (said (digits f) v))) (coded none (said (digits f) v) (formIn forms (lead f)))) (w .no-org)
-    ∙ ap (coded none (said (digits f) v)) e
-    ∙ ap (codeOf none f) (operand-for (digits f) v h b)
+    bodied (lead f) (said (operandDigits f) v) (w .some-words) (w .fixed)
+    ∙ body-said (lead f) (operandDigits f) v (w .fixed)
+    ∙ ap (λ (t : Bool). pick t (orgOf none (operandOf (said (operandDigits f) v))) (coded none (said (operandDigits f) v) (formIn forms (lead f)))) (w .no-org)
+    ∙ ap (coded none (said (operandDigits f) v)) e
+    ∙ ap (codeOf none f) (operand-for (operandDigits f) v h b)
 
 -- ---- the printed line
 tight-any : (ts : List Token) (n v w : ℕ) → tight (ts ++ spoken n v) ≡ tight (ts ++ spoken n w)
@@ -173,7 +173,7 @@ heard-lead (operand m x ∷ ts) (suc n) v = refl
 
 -- the line of a form with a value
 abbrev pub line-of : (ℕ → Instruction) → ℕ → List Token
-line-of f v = lead f ++ spoken (digits f) v
+line-of f v = lead f ++ spoken (operandDigits f) v
 
 -- a line that is printed, as it is read
 pub record Reread (ts us : List Token) : Type 0 where
@@ -194,10 +194,10 @@ reads ts e =
       short = omega (arith, spelling-length ts, leb-true (widths ts) 1000 (and-right (spaced ts) (leb (widths ts) 1000) e));
     }
 
-pub reads-form : (f : ℕ → Instruction) (v : ℕ) → spelled (line-of f 0) ≡ true → Reread (line-of f v) (lead f ++ said (digits f) v)
+pub reads-form : (f : ℕ → Instruction) (v : ℕ) → spelled (line-of f 0) ≡ true → Reread (line-of f v) (lead f ++ said (operandDigits f) v)
 reads-form f v e =
-    subst (Reread (line-of f v)) (heard-lead (lineOf (f 0)) (digits f) v)
-    (reads (line-of f v) (rw (spaced-any (lead f) (digits f) v 0, widths-any (lead f) (digits f) v 0) e))
+    subst (Reread (line-of f v)) (heard-lead (lineOf (f 0)) (operandDigits f) v)
+    (reads (line-of f v) (rw (spaced-any (lead f) (operandDigits f) v 0, widths-any (lead f) (operandDigits f) v 0) e))
 
 pub reads-org : (a : ℕ) → Reread (org-words ++ spoken 3 a) (org-words ++ said 3 a)
 unfolding inWord

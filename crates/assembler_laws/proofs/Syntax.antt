@@ -18,7 +18,7 @@ use Rattle.operand.specs.Text.{isLetter}
 use Rattle.operand.specs.Words.{isFixed, isLabel, numberOf, first}
 use Rattle.operand.specs.Operand as Reading
 use Rattle.operand.specs.Operand.{Part, Term, partOf, asNumber, termed, wanted, followed, operandOf}
-use Rattle.assembler.specs.Forms.{forms, leadOf, digitsOf, lead, digits}
+use Rattle.assembler.specs.Forms.{forms, leadOf, digitsOf, lead, operandDigits}
 use Rattle.assembler.specs.Statement as Statement
 use Rattle.assembler.specs.Statement.{Statement, leads, before, after, equal, equals, formIn, orgOf, codeOf, operandFor, coded, body, statement}
 use Rattle.assembler_laws.specs.Grammar.{Has}
@@ -195,7 +195,7 @@ module _ (l : Option (List ℕ)) (ts : List Token) (s : Statement) (n : s ≡ St
       (subst (λ (us : List Token). Body l us (Statement.org l terms)) (ap (λ (us : List Token). us ++ after ts) (sym b) ∙ split ts)
       (Syntax.org (grammatical .sound (after ts) terms p)))
 
-  code-body : (f : ℕ → Instruction) (o : Option (List Term)) → FormOf forms (before ts) f → operandFor (digits f) (after ts) ≡ o → codeOf l f o ≡ s
+  code-body : (f : ℕ → Instruction) (o : Option (List Term)) → FormOf forms (before ts) f → operandFor (operandDigits f) (after ts) ≡ o → codeOf l f o ≡ s
       → Body l ts s
   code-body f none m p e = absurd (n (sym e))
   code-body f (some terms) m p e =
@@ -205,7 +205,7 @@ module _ (l : Option (List ℕ)) (ts : List Token) (s : Statement) (n : s ≡ St
 
   coded-body : (o : Option (ℕ → Instruction)) → formIn forms (before ts) ≡ o → coded l (after ts) o ≡ s → Body l ts s
   coded-body none p e = absurd (n (sym e))
-  coded-body (some f) p e = code-body f (operandFor (digits f) (after ts)) (found-member forms (before ts) f p) refl e
+  coded-body (some f) p e = code-body f (operandFor (operandDigits f) (after ts)) (found-member forms (before ts) f p) refl e
 
   body-sound : body l ts ≡ s → Body l ts s
   unfolding body

@@ -11,7 +11,7 @@ use Rattle.mnemonic.specs.Line.{textOf}
 use Rattle.mnemonic.specs.Spelling.{Token, spelling}
 use Rattle.operand.specs.Text.{tokens}
 use Rattle.operand.specs.Operand.{Term, plus}
-use Rattle.assembler.specs.Forms.{digits}
+use Rattle.assembler.specs.Forms.{operandDigits}
 use Rattle.assembler.specs.Statement.{mnemonic, statement}
 use Rattle.assembler_laws.specs.Unique.{PrintedOnce}
 use Rattle.assembler_laws.proofs.Own.{own-case, own-line}
@@ -25,7 +25,7 @@ module _ (i : Instruction) (r : inRange i ≡ true) where
   abbrev value : ℕ
   value = own-case i r .value
 
-  reads-back : statement (tokens (textOf i)) ≡ mnemonic none form (terms (digits form) value)
+  reads-back : statement (tokens (textOf i)) ≡ mnemonic none form (terms (operandDigits form) value)
   unfolding textOf
   reads-back =
       let t = tested-form form (own-case i r .found) in
@@ -34,8 +34,8 @@ module _ (i : Instruction) (r : inRange i ≡ true) where
       ∙ ap statement (reads-form form value (t .text) .read)
       ∙ form-said form value (t .words) (own-case i r .found) (own-case i r .low) small
 
-  its-value : plus [] [] (terms (digits form) value) ≡ value
-  its-value = plus-terms (digits form) value (own-case i r .low)
+  its-value : plus [] [] (terms (operandDigits form) value) ≡ value
+  its-value = plus-terms (operandDigits form) value (own-case i r .low)
 
 same-parts : (f g : ℕ → Instruction) (v w : ℕ) (xs ys : List Term) → mnemonic none f xs ≡ mnemonic none g ys → plus [] [] xs ≡ v → plus [] [] ys ≡ w
     → f v ≡ g w

@@ -2,6 +2,7 @@
 -- says. Assumes nothing.
 use Prim.Native.Nat.{ℕ, _<_}
 use mathlib.Core.Path.{_≡_}
+use mathlib.Core.Bool.{cond}
 use mathlib.Core.List.{List}
 use lib.Dec.{eqb}
 use lib.ListN.{length}
@@ -10,7 +11,6 @@ use Rattle.isa.specs.declared.decoder.Decoded.the-variants.{Read}
 use Rattle.rom.specs.Fetching.{readAt, cyclesAt, movedFrom}
 use Rattle.checker.specs.Marks.{addresses, levels, Pair, flowAt, onward, unlessForbidden, Reached}
 use Rattle.checker.specs.Verdicts.{Safe}
-use Rattle.checker.specs.Ways.{either}
 use Rattle.checker.specs.declared.flow.Flow.the-variants.{Back}
 use Rattle.bound.specs.Paths.{Endless, Longest}
 use Rattle.bound.specs.declared.bound.Bound.{Bound}
@@ -69,10 +69,10 @@ boundRefusal MaskFails = 15
 -- range)"
 abbrev pub BoundSays : List ℕ → Pair → ℕ → Type 0
 BoundSays mask p n =
-    either (eqb n 0) (Asked mask p)
-    (either (eqb n 1) (length mask ≡ 4096 → ⊥)
-    (either (eqb n 5) ((length mask ≡ 4096) × (InRange p → ⊥))
-    (either (eqb n 15) ((length mask ≡ 4096) × InRange p × (Safe mask → ⊥))
+    cond (eqb n 0) (Asked mask p)
+    (cond (eqb n 1) (length mask ≡ 4096 → ⊥)
+    (cond (eqb n 5) ((length mask ≡ 4096) × (InRange p → ⊥))
+    (cond (eqb n 15) ((length mask ≡ 4096) × InRange p × (Safe mask → ⊥))
     ⊥)))
 
 -- an answer says what its number says, and what it tells of the pair

@@ -2,7 +2,7 @@
 -- is the longest that a program can stay above main. Then the targets of the CALLs that a mask may run. Assumes nothing.
 use Prim.Native.Nat.{ℕ, _+_, _*_, _-_, _<_, _≤_}
 use mathlib.Core.Path.{_≡_}
-use mathlib.Core.Bool.{true, _&&_}
+use mathlib.Core.Bool.{true, cond, _&&_}
 use mathlib.Core.List.{List}
 use lib.Dec.{eqb, ltb}
 use lib.ListN.{length, getD}
@@ -10,7 +10,6 @@ use Rattle.isa.specs.Choice.{pick}
 use Rattle.isa.specs.declared.ProgramAddress.{ProgramAddress}
 use Rattle.checker.specs.Marks.{addresses, levels, pair, flowAt}
 use Rattle.checker.specs.Verdicts.{Safe, isMarked}
-use Rattle.checker.specs.Ways.{either}
 use Rattle.checker.specs.declared.flow.Flow.the-variants.{Sub}
 use Rattle.bound.specs.Bounds.{BoundAnswers}
 use Rattle.bound.specs.declared.bound.Bound.{Bound}
@@ -51,16 +50,16 @@ boundsRefusal MaskFails = 15
 -- what each refusal says
 abbrev pub BoundsRefused : List ℕ → List ℕ → ℕ → Type 0
 BoundsRefused mask old n =
-    either (eqb n 1) (length mask ≡ 4096 → ⊥)
-    (either (eqb n 2) ((length mask ≡ 4096) × (length old ≡ 8192 → ⊥))
-    (either (eqb n 15) ((length mask ≡ 4096) × (length old ≡ 8192) × (Safe mask → ⊥))
+    cond (eqb n 1) (length mask ≡ 4096 → ⊥)
+    (cond (eqb n 2) ((length mask ≡ 4096) × (length old ≡ 8192 → ⊥))
+    (cond (eqb n 15) ((length mask ≡ 4096) × (length old ≡ 8192) × (Safe mask → ⊥))
     ⊥))
 
 -- what each answer says, by its number, of the mask and of the list at entry and at exit: 0, that each entry is there; after a refusal the list is as
 -- it was
 abbrev pub BoundsAnswer : List ℕ → List ℕ → List ℕ → Bounds → Type 0
 BoundsAnswer mask old new b =
-    either (eqb (boundsRefusal b) 0) ((length old ≡ 8192) × (length new ≡ 8192) × Entries mask new)
+    cond (eqb (boundsRefusal b) 0) ((length old ≡ 8192) × (length new ≡ 8192) × Entries mask new)
     (BoundsRefused mask old (boundsRefusal b) × (new ≡ old))
 
 -- the first place whose entry is the largest

@@ -2,7 +2,7 @@
 -- is held to a relation; the answer and the count are determined. Assumes nothing.
 use Prim.Native.Nat.{ℕ, _*_, _/_, _%_, _<_, _≤_}
 use mathlib.Core.Path.{_≡_}
-use mathlib.Core.Bool.{Bool, true, false}
+use mathlib.Core.Bool.{cond}
 use mathlib.Core.List.{List, [], _∷_, _++_}
 use lib.Dec.{eqb}
 use lib.ListN.{length, drop}
@@ -57,21 +57,16 @@ wayCount BadMask = 0
 wayCount MaskPasses = 0
 wayCount BadList = 0
 
--- one of two claims, by a test
-abbrev pub either : Bool → Type 0 → Type 0 → Type 0
-either true P Q = P
-either false P Q = Q
-
 -- what each refusal says: document 01's "1: mask not 4,096 bytes"; "10 if the mask passes, after 1; 11 if the list is too short, after 10"
 abbrev pub WayRefused : List ℕ → List ℕ → ℕ → Type 0
 WayRefused mask old n =
-    either (eqb n 1) (length mask ≡ 4096 → ⊥) (either (eqb n 10) ((length mask ≡ 4096) × Safe mask) (either (eqb n 11) (TooShort mask old) ⊥))
+    cond (eqb n 1) (length mask ≡ 4096 → ⊥) (cond (eqb n 10) ((length mask ≡ 4096) × Safe mask) (cond (eqb n 11) (TooShort mask old) ⊥))
 
 -- what each answer says, by its number, of the mask and of the list at entry and at exit: 0, that so many pairs are listed; after a refusal the list
 -- is as it was. "Which of several is free": the bytes listed are those of some shortest chain
 abbrev pub WayAnswers : List ℕ → List ℕ → List ℕ → Listing → Type 0
 WayAnswers mask old new v =
-    either (eqb (wayRefusal v) 0) (Lists mask old new (wayCount v)) (WayRefused mask old (wayRefusal v) × (new ≡ old))
+    cond (eqb (wayRefusal v) 0) (Lists mask old new (wayCount v)) (WayRefused mask old (wayRefusal v) × (new ≡ old))
 
 -- the answer, its count with it, depends on the mask and the list at entry alone
 abbrev pub WayDetermines : Type 0

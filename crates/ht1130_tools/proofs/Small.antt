@@ -10,7 +10,7 @@ use lib.ListN.{length}
 use borrow.Author.Tests.{ltb-true, leb-true}
 use Rattle.isa.specs.Choice.{pick}
 use Rattle.script.specs.Format.{sizeAt, kindAt, within, offsetsFrom, offsets}
-use Rattle.script.specs.Check.{refused, fine, unless, orElse, first, ruled, checked}
+use Rattle.script.specs.Check.{refused, fine, unless, firstRefused, first, ruled, checked}
 use Rattle.script.specs.declared.Checked.{Checked}
 use Rattle.script.specs.declared.check.Rule.{Rule}
 use Rattle.script.specs.declared.check.Rule.the-variants.{Format, Values, Choices}
@@ -35,26 +35,26 @@ first-inside : (rule : ℕ → ℕ) (s : List ℕ) → Within (length s) (first 
 unfolding offsetsFrom
 first-inside rule s = inside rule (length s) s 0
 
-either : (n : ℕ) (a b : Checked) → Within n a → Within n b → Within n (orElse a b)
+either : (n : ℕ) (a b : Checked) → Within n a → Within n b → Within n (firstRefused a b)
 either n a b p q = picked n (eqb (a .number) 0) b a q p
 
 tested : (n : ℕ) (t : Bool) (k : ℕ) → Within n (unless t k)
 tested n t k = picked n t fine (refused k 0) (record { bound = omega arith }) (record { bound = omega arith })
 
 -- past the test of its length a script has at most 65,535 bytes
-bounded : (s : List ℕ) (k : Checked) → (length s ≤ 65535 → Within 65535 k) → Within 65535 (orElse (unless (leb (length s) 65535) 6) k)
+bounded : (s : List ℕ) (k : Checked) → (length s ≤ 65535 → Within 65535 k) → Within 65535 (firstRefused (unless (leb (length s) 65535) 6) k)
 bounded s k h = go (leb (length s) 65535) refl
   where
-    go : (t : Bool) → leb (length s) 65535 ≡ t → Within 65535 (orElse (unless t 6) k)
+    go : (t : Bool) → leb (length s) 65535 ≡ t → Within 65535 (firstRefused (unless t 6) k)
     go true e = h (leb-true (length s) 65535 e)
     go false e = record { bound = omega arith }
 
 rest : (s : List ℕ) (room n : ℕ) → length s ≤ n
     → Within n
-    (orElse (first (ruled Format s) (offsets s))
-    (orElse (unless (eqb (kindAt s 0) 1) 8)
-    (orElse (first (ruled Values s) (offsets s))
-    (orElse (first (ruled Choices s) (offsets s))
+    (firstRefused (first (ruled Format s) (offsets s))
+    (firstRefused (unless (eqb (kindAt s 0) 1) 8)
+    (firstRefused (first (ruled Values s) (offsets s))
+    (firstRefused (first (ruled Choices s) (offsets s))
     (unless (leb (48 * length (offsets s)) room) 9)))))
 rest s room n h =
     either n _ _ (in-script Format) (either n _ _ (tested n (eqb (kindAt s 0) 1) 8) (either n _ _ (in-script Values) (either n _ _ (in-script Choices) (tested n (leb (48 * length (offsets s)) room) 9))))

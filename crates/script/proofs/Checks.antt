@@ -10,7 +10,7 @@ use lib.ListN.{length}
 use borrow.Author.Tests.{eq-eqb, ne-eqb, le-leb, lt-leb, eqb-true, eqb-false, leb-true}
 use Rattle.isa.specs.Choice.{pick}
 use Rattle.script.specs.Format.{sizeAt, kindAt, offsetsFrom, offsets}
-use Rattle.script.specs.Check.{refused, fine, unless, orElse, first, ruled, checked}
+use Rattle.script.specs.Check.{refused, fine, unless, firstRefused, first, ruled, checked}
 use Rattle.script.specs.declared.Checked.{Checked}
 use Rattle.script.specs.declared.check.Rule.the-variants.{Format, Values, Choices}
 use Rattle.script.proofs.Offsets.{from-end, from-next}
@@ -33,10 +33,10 @@ module _ (rule : ℕ → ℕ) (s : List ℕ) (at : ℕ) where
 number : {a b : Checked} → a ≡ b → a .number ≡ b .number
 number e = ap (λ (k : Checked). k .number) e
 
-stop : (a b : Checked) → (a .number ≡ 0 → ⊥) → orElse a b ≡ a
+stop : (a b : Checked) → (a .number ≡ 0 → ⊥) → firstRefused a b ≡ a
 stop a b h = rw (ne-eqb (a .number) 0 h) refl
 
-pass : (a b : Checked) → a .number ≡ 0 → orElse a b ≡ b
+pass : (a b : Checked) → a .number ≡ 0 → firstRefused a b ≡ b
 pass a b h = rw (eq-eqb (a .number) 0 h) refl
 
 module _ (mask s : List ℕ) (room : ℕ) where
@@ -44,19 +44,19 @@ module _ (mask s : List ℕ) (room : ℕ) where
   after4 = unless (leb (48 * length (offsets s)) room) 9
 
   abbrev pub after3 : Checked
-  after3 = orElse (first (ruled Choices s) (offsets s)) after4
+  after3 = firstRefused (first (ruled Choices s) (offsets s)) after4
 
   abbrev pub after8 : Checked
-  after8 = orElse (first (ruled Values s) (offsets s)) after3
+  after8 = firstRefused (first (ruled Values s) (offsets s)) after3
 
   abbrev pub after7 : Checked
-  after7 = orElse (unless (eqb (kindAt s 0) 1) 8) after8
+  after7 = firstRefused (unless (eqb (kindAt s 0) 1) 8) after8
 
   abbrev pub after6 : Checked
-  after6 = orElse (first (ruled Format s) (offsets s)) after7
+  after6 = firstRefused (first (ruled Format s) (offsets s)) after7
 
   abbrev pub after1 : Checked
-  after1 = orElse (unless (leb (length s) 65535) 6) after6
+  after1 = firstRefused (unless (leb (length s) 65535) 6) after6
 
   pub stop1 : (length mask ≡ 4096 → ⊥) → checked mask s room ≡ refused 1 0
   unfolding checked
@@ -112,7 +112,7 @@ pub record Accepted (mask s : List ℕ) (room : ℕ) : Type 0 where
   pub choices : first (ruled Choices s) (offsets s) .number ≡ 0
   pub fits : 48 * length (offsets s) ≤ room
 
-both : (a b : Checked) → orElse a b .number ≡ 0 → (a .number ≡ 0) × (b .number ≡ 0)
+both : (a b : Checked) → firstRefused a b .number ≡ 0 → (a .number ≡ 0) × (b .number ≡ 0)
 both a b h = go (eqb (a .number) 0) refl h
   where
     go : (t : Bool) → eqb (a .number) 0 ≡ t → pick t b a .number ≡ 0 → (a .number ≡ 0) × (b .number ≡ 0)

@@ -13,7 +13,7 @@ use Rattle.cpu.specs.Range.{nibble, nibbles, optionsOk}
 use Rattle.machine.specs.Events.{Input, power, named, valuesOk}
 use Rattle.machine.specs.declared.events.Named.the-variants.{Known, Unknown}
 use Rattle.script.specs.Format.{sizeAt, kindAt, known, sizeOf, offsets, inputAt}
-use Rattle.script.specs.Check.{refused, unless, orElse, first, formatAt, valueOf, choiceOf, ruled, checked}
+use Rattle.script.specs.Check.{refused, unless, firstRefused, first, formatAt, valueOf, choiceOf, ruled, checked}
 use Rattle.script.specs.declared.Checked.{Checked}
 use Rattle.script.specs.declared.check.Rule.the-variants.{Format, Values, Choices}
 use Rattle.script.proofs.Checks.{after1, after3, after4, after6, after7, after8, pass9}
@@ -27,7 +27,7 @@ either : (t : Bool) (x y : ℕ) → Other x → Other y → Other (pick t x y)
 either true x y p q = p
 either false x y p q = q
 
-or-else : (a b : Checked) → Other (a .number) → Other (b .number) → Other (orElse a b .number)
+or-else : (a b : Checked) → Other (a .number) → Other (b .number) → Other (firstRefused a b .number)
 or-else a b p q = go (eqb (a .number) 0)
   where
     go : (t : Bool) → Other (pick t b a .number)
@@ -75,7 +75,7 @@ never-nine mask s room h =
     last : leb (length s) 65535 ≡ true → Other (after4 mask s room .number)
     last e n = omega (arith, sym (ap (λ (k : Checked). k .number) (pass9 mask s room (omega (arith, few s 0, leb-true (length s) 65535 e)))) ∙ n)
 
-    go : (t : Bool) → leb (length s) 65535 ≡ t → Other (orElse (unless t 6) (after6 mask s room) .number)
+    go : (t : Bool) → leb (length s) 65535 ≡ t → Other (firstRefused (unless t 6) (after6 mask s room) .number)
     go false e = λ n. omega arith
     go true e =
         or-else (first (ruled Format s) (offsets s)) (after7 mask s room) (first-other (ruled Format s) (format-other s) (offsets s))

@@ -27,8 +27,8 @@ abbrev pub unless : Bool → ℕ → Checked
 unless t n = pick t fine (refused n 0)
 
 -- "Checked in this order"
-abbrev pub orElse : Checked → Checked → Checked
-orElse a b = pick (eqb (a .number) 0) b a
+abbrev pub firstRefused : Checked → Checked → Checked
+firstRefused a b = pick (eqb (a .number) 0) b a
 
 -- the first offset at which a rule gives a number
 unfoldable pub first : (ℕ → ℕ) → List ℕ → Checked
@@ -64,10 +64,10 @@ ruled Choices s at = choiceOf (inputAt s at)
 -- the kind reads as 0); "9: report buffer under 48 times the records"
 unfoldable pub checked : List ℕ → List ℕ → ℕ → Checked
 checked mask s room =
-    orElse (unless (eqb (length mask) 4096) 1)
-    (orElse (unless (leb (length s) 65535) 6)
-    (orElse (first (ruled Format s) (offsets s))
-    (orElse (unless (eqb (kindAt s 0) 1) 8)
-    (orElse (first (ruled Values s) (offsets s))
-    (orElse (first (ruled Choices s) (offsets s))
+    firstRefused (unless (eqb (length mask) 4096) 1)
+    (firstRefused (unless (leb (length s) 65535) 6)
+    (firstRefused (first (ruled Format s) (offsets s))
+    (firstRefused (unless (eqb (kindAt s 0) 1) 8)
+    (firstRefused (first (ruled Values s) (offsets s))
+    (firstRefused (first (ruled Choices s) (offsets s))
     (unless (leb (48 * length (offsets s)) room) 9))))))

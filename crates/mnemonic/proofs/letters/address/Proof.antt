@@ -4,13 +4,13 @@ use mathlib.Core.Path.{_≡_, ap₂}
 use mathlib.Core.List.{List, [], _∷_}
 use borrow.Author.Needs.{needs}
 use Rattle.mnemonic.specs.Held.{upTo}
-use Rattle.mnemonic.specs.Spelling.{digits}
+use Rattle.mnemonic.specs.Spelling.{hexDigits}
 use Rattle.mnemonic.proofs.Numbers.{bare, zeroed}
 use Rattle.mnemonic.proofs.letters.address.Statement.{statement}
 use Rattle.mnemonic.proofs.letters.address.Tie as tie
 
 -- the digits as they were made
-made : (c : tie.After-digit3) → c .before .before .digit .result ∷ c .before .digit2 .result ∷ c .digit3 .result ∷ [] ≡ digits 3 (c .before .before .before .args .x)
+made : (c : tie.After-digit3) → c .before .before .digit .result ∷ c .before .digit2 .result ∷ c .digit3 .result ∷ [] ≡ hexDigits 3 (c .before .before .before .args .x)
 made c = ap₂ (λ (a : ℕ) (s : List ℕ). a ∷ s) (c .before .before .digit .ensures) (ap₂ (λ (b c : ℕ). b ∷ c ∷ []) (c .before .digit2 .ensures) (c .digit3 .ensures))
 
 returns : tie.Need-returns

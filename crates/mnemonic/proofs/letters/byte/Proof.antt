@@ -4,13 +4,13 @@ use mathlib.Core.Path.{_≡_, ap₂}
 use mathlib.Core.List.{[], _∷_}
 use borrow.Author.Needs.{needs}
 use Rattle.mnemonic.specs.Held.{upTo}
-use Rattle.mnemonic.specs.Spelling.{digits}
+use Rattle.mnemonic.specs.Spelling.{hexDigits}
 use Rattle.mnemonic.proofs.Numbers.{bare, zeroed}
 use Rattle.mnemonic.proofs.letters.byte.Statement.{statement}
 use Rattle.mnemonic.proofs.letters.byte.Tie as tie
 
 -- the digits as they were made
-made : (c : tie.After-digit2) → c .before .digit .result ∷ c .digit2 .result ∷ [] ≡ digits 2 (c .before .before .args .x)
+made : (c : tie.After-digit2) → c .before .digit .result ∷ c .digit2 .result ∷ [] ≡ hexDigits 2 (c .before .before .args .x)
 made c = ap₂ (λ (a b : ℕ). a ∷ b ∷ []) (c .before .digit .ensures) (c .digit2 .ensures)
 
 returns : tie.Need-returns

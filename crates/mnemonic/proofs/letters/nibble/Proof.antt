@@ -4,13 +4,13 @@ use mathlib.Core.Path.{_≡_, ap}
 use mathlib.Core.List.{[], _∷_}
 use borrow.Author.Needs.{needs}
 use Rattle.mnemonic.specs.Held.{upTo}
-use Rattle.mnemonic.specs.Spelling.{digits}
+use Rattle.mnemonic.specs.Spelling.{hexDigits}
 use Rattle.mnemonic.proofs.Numbers.{bare, zeroed}
 use Rattle.mnemonic.proofs.letters.nibble.Statement.{statement}
 use Rattle.mnemonic.proofs.letters.nibble.Tie as tie
 
 -- the digits as they were made
-made : (c : tie.After-digit) → c .digit .result ∷ [] ≡ digits 1 (c .before .args .x)
+made : (c : tie.After-digit) → c .digit .result ∷ [] ≡ hexDigits 1 (c .before .args .x)
 made c = ap (λ (a : ℕ). a ∷ []) (c .digit .ensures)
 
 returns : tie.Need-returns
