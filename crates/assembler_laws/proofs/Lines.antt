@@ -68,9 +68,9 @@ module _ (ls : List Statement) (out : List ℕ) (room : length out ≡ 4096) (fi
   all-clear : (u : Above) (k : Statement) → Stands start ls u k → Clear whole u k
   all-clear u k h = cleared u k (each-line fits h) (placed u k h)
 
-  line-reads : (u : Above) (l : Option (List ℕ)) (f : ℕ → Instruction) (ts : List Term) → Stands start ls u (mnemonic l f ts)
+  bytes-read : (u : Above) (l : Option (List ℕ)) (f : ℕ → Instruction) (ts : List Term) → Stands start ls u (mnemonic l f ts)
       → BytesRead whole u f ts (put whole start ls out)
-  line-reads u l f ts h =
+  bytes-read u l f ts h =
       let p : Fits f = each-line fits h in
       let v = added ts - taken ts in
       let q : length (bytesOf (f v)) ≡ size f = p .sized v in
@@ -112,7 +112,7 @@ module _ (text bs : List ℕ) (p : Passed (program text) bs) where
   image-read =
       record {
         size = put-length (end start (program text)) start (program text) blank-mask ∙ room;
-        lines = line-reads (program text) blank-mask room fits placed fitted;
+        lines = bytes-read (program text) blank-mask room fits placed fitted;
         others = λ a h e.
             unwritten (end start (program text)) start (program text) blank-mask a (all-clear (program text) blank-mask room fits placed fitted) e
             ∙ getD-replicate {A = ℕ} 4096 a 0x3e 0 h;
