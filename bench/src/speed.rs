@@ -48,7 +48,7 @@ pub fn run() {
     });
     event_row("apply Run of 0 steps, a call", |_| (plain::RUN, [0; 3]));
     println!(
-        "aims: Run and the check of random bytes at most 1.5 times plain, a record and an event 4"
+        "aims: Run and the check of random bytes at most 1.5 times plain, a script's record 4"
     );
     heading("check ns", "way ns");
     for (name, mask) in &checked {
