@@ -23,7 +23,7 @@ fn assemble(text: &[u8]) {
         put_refused(answer.refusal, answer.line);
         return;
     }
-    if !write_file(b"mask.bin", &mask) {
+    if write_file(b"mask.bin", &mask) != 4096 {
         put(b"mask.bin cannot be written\n");
     }
 }

@@ -1,4 +1,7 @@
 // Files for the programs. No contract can say what a file holds; the work is in functions on bytes.
+ghost use mathlib.Core.Logic.{_⊎_};
+ghost use mathlib.Core.Path.{_≡_};
+ghost use lib.ListN.{length};
 ghost use Rattle.io.specs.Counts.{Counts};
 
 // How many bytes of a file, at most as many as the buffer has. A missing file counts as empty.
@@ -14,15 +17,20 @@ pub fn read_file(path: &[u8], buf: &mut [u8]) -> usize
     n
 }
 
-// Writes a file anew, and says whether all of it was written.
-pub fn write_file(path: &[u8], bytes: &[u8]) -> bool {
+// Writes a file anew. The answer is the count of its bytes, or 0 where not all of them were written.
+pub fn write_file(path: &[u8], bytes: &[u8]) -> usize
+    ensures { λ r. ⌜ (r ≡ length (now (bytes .entry))) ⊎ (r ≡ 0) ⌝ }
+{
     let fd = os::open_overwrite(path);
     if fd < 0 {
-        return false;
+        return 0;
     }
     let done = io::write_all(fd, bytes);
     if libc::close(fd) != 0 {
-        return false;
+        return 0;
     }
-    done
+    if done {
+        return bytes.len();
+    }
+    0
 }
