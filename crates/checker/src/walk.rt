@@ -2,8 +2,9 @@
 ghost use mathlib.Core.Path.{_≡_};
 ghost use Prim.Native.Nat.{_<_};
 ghost use lib.ListN.{replicate};
-ghost use Rattle.checker.specs.Trail.{Traced};
-ghost use Rattle.checker.specs.Walk.{Found, Names, Room, Small, codesOf, lowered, nextCodes, pairs, pushed, pushedAll, work};
+ghost use Rattle.reach.specs.Trail.{Traced};
+ghost use Rattle.reach.specs.Walk.{Found, Names, Room, Small, pushed, pushedAll, work};
+ghost use Rattle.checker.specs.Walk.{codesOf, faultAt, lowered, nextCodes, pairs};
 use crate::next::Codes;
 use crate::next::next_codes;
 
@@ -86,7 +87,7 @@ pub(crate) fn walk(
     requires { ⌜ (now seen ≡ replicate pairs 0) × (now queue ≡ replicate pairs 0) × (now starts ≡ replicate pairs 0) ⌝ }
     ensures { λ r. ⌜ Found pairs (nextCodes (now (mask .entry))) (now (seen .exit)) ⌝ }
     ensures { λ r. ⌜ Traced pairs (nextCodes (now (mask .entry))) (now (seen .exit)) (now (queue .exit)) (now (starts .exit)) ⌝ }
-    ensures { λ r. ⌜ Names (now (mask .entry)) (now (seen .exit)) r ⌝ }
+    ensures { λ r. ⌜ Names pairs (faultAt (now (mask .entry))) (now (seen .exit)) (r .code) (r .fault) ⌝ }
 {
     seen[0] = 1;
     let mut head: u16 = 0;

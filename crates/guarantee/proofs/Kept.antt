@@ -21,12 +21,12 @@ use Rattle.cpu.specs.Effect.{effect}
 use Rattle.cpu.specs.Step.{ticked, entered, moved, settled, instructed, executed, vectorOf, stepped, stopped, step}
 use Rattle.cpu.specs.Run.{ran}
 use Rattle.cpu.proofs.Leaves.{Standing, standing, ticked-same, GoesTo, Returns, Leaves, leaves}
-use Rattle.checker.specs.Chains.{Member, here, there}
+use Rattle.reach.specs.Chains.{Member, here, there}
+use Rattle.reach.proofs.Chains.{reached-start, reached-next}
 use Rattle.checker.specs.Marks.{Pair, pair, flowBy, flowOf, flowRead, flowAt, faultIn, handed, fault, successors, Reached}
 use Rattle.checker.specs.declared.flow.Flow.{Flow}
 use Rattle.checker.specs.declared.flow.Flow.the-variants.{Unread}
 use Rattle.checker.specs.Verdicts.{isMarked, Marked, Safe}
-use Rattle.checker.proofs.Chains.{reached-start, reached-next}
 use Rattle.checker.proofs.Reach.{reached-level, reached-address}
 
 pub record Kept (mask : List ℕ) (s : Standing) : Type 0 where
