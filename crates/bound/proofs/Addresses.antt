@@ -17,8 +17,8 @@ use Rattle.isa.specs.declared.Instruction.{Instruction}
 use Rattle.isa.specs.declared.decoder.Decoded.{Decoded}
 use Rattle.isa.specs.declared.decoder.Decoded.the-variants.{Read, Unreadable}
 use Rattle.rom.specs.Fetching.{Bytes, byteAt, readAt, cyclesAt, movedFrom}
+use Rattle.reach.specs.Walk.{Small}
 use Rattle.checker.specs.Marks.{flowBy, flowOf, flowRead, flowAt, fault}
-use Rattle.checker.specs.Walk.{Small}
 use Rattle.checker.specs.declared.flow.Flow.{Flow}
 use Rattle.checker.specs.declared.flow.Flow.the-variants.{Unread, On, Enable, Jump, To, Sub, Back}
 use Rattle.checker.proofs.Reach.{Targets, flow-targets}

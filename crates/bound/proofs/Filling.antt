@@ -11,12 +11,12 @@ use lib.ListN.{length, getD, set, replicate, length-set, length-replicate}
 use Rattle.isa.specs.Choice.{pick}
 use Rattle.isa.specs.declared.ProgramAddress.{ProgramAddress}
 use Rattle.rom.specs.Fetching.{Bytes}
+use Rattle.reach.specs.Walk.{zeros}
+use Rattle.reach.proofs.Count.{after-set, getD-zeros}
 use Rattle.checker.specs.Marks.{addresses, levels, pair, flowAt}
 use Rattle.checker.specs.Verdicts.{Marked, Safe, isMarked}
-use Rattle.checker.specs.Walk.{zeros}
 use Rattle.checker.specs.declared.flow.Flow.{Flow}
 use Rattle.checker.specs.declared.flow.Flow.the-variants.{Unread, On, Enable, Jump, To, Sub, Back}
-use Rattle.checker.proofs.Count.{after-set, getD-zeros}
 use Rattle.checker.proofs.Reach.{Targets, flow-targets}
 use Rattle.bound.specs.Paths.{Endless}
 use Rattle.bound.specs.Bounds.{BoundAnswers}

@@ -11,13 +11,13 @@ use lib.ListN.{length}
 use borrow.Author.Tests.{eqb-true, eq-eqb, ne-eqb}
 use Rattle.isa.specs.Choice.{pick}
 use Rattle.rom.specs.Fetching.{Bytes, cyclesAt, movedFrom}
-use Rattle.checker.specs.Chains.{Member, here, there, Chain, one, more, Reaches}
+use Rattle.reach.specs.Chains.{Member, here, there, Chain, one, more, Reaches}
+use Rattle.reach.specs.Walk.{All}
+use Rattle.reach.proofs.Chains.{all-member, to-map, of-map, reached-next, reached-all}
 use Rattle.checker.specs.Marks.{Pair, pair, flowAt, faultIn, onward, vectors, handed, fault, successors, Reached}
 use Rattle.checker.specs.Verdicts.{Safe}
-use Rattle.checker.specs.Walk.{All}
 use Rattle.checker.specs.declared.flow.Flow.{Flow}
 use Rattle.checker.specs.declared.flow.Flow.the-variants.{Unread, On, Enable, Jump, To, Sub, Back}
-use Rattle.checker.proofs.Chains.{all-member, to-map, of-map, reached-next, reached-all}
 use Rattle.bound.specs.Paths.{Loop, Endless, total, Spends, Longest}
 use Rattle.bound.specs.Bounds.{within, Returns, Halts, cyclesOf, Unbounded, Bounded}
 use Rattle.bound.specs.Lists.{endless}

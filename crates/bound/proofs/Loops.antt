@@ -5,10 +5,10 @@ use native.Mathlib.Omega.{arith}
 use mathlib.Core.List.{List, _∷_}
 use mathlib.Core.Logic.{inl}
 use lib.ListN.{length}
-use Rattle.checker.specs.Chains.{Member, here, there, Chain, one, more, Reaches}
-use Rattle.checker.specs.Walk.{Small}
-use Rattle.checker.proofs.Chains.{reached-start}
-use Rattle.checker.proofs.Once.{Once, some, at-most, all-small}
+use Rattle.reach.specs.Chains.{Member, here, there, Chain, one, more, Reaches}
+use Rattle.reach.specs.Walk.{Small}
+use Rattle.reach.proofs.Chains.{reached-start}
+use Rattle.reach.proofs.Once.{Once, some, at-most, all-small}
 use Rattle.bound.specs.Paths.{Loop, Endless}
 
 module _ {A : Type 0} {next : A → List A} where

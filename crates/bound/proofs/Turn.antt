@@ -10,10 +10,10 @@ use lib.Dec.{ltb}
 use lib.ListN.{length, getD, set, replicate, length-replicate}
 use Rattle.isa.specs.Choice.{pick}
 use Rattle.rom.specs.Fetching.{Bytes, cyclesAt}
-use Rattle.checker.specs.Chains.{Member, here, there}
-use Rattle.checker.specs.Walk.{zeros}
-use Rattle.checker.proofs.Chains.{all-member}
-use Rattle.checker.proofs.Count.{zeros-replicate, getD-zeros}
+use Rattle.reach.specs.Chains.{Member, here, there}
+use Rattle.reach.specs.Walk.{zeros}
+use Rattle.reach.proofs.Chains.{all-member}
+use Rattle.reach.proofs.Count.{zeros-replicate, getD-zeros}
 use Rattle.bound.specs.Paths.{Leads}
 use Rattle.bound.specs.Lists.{endless}
 use Rattle.bound.specs.Walk.{settled, Remembers, Told, nextAddresses, HaltsAt, ToldOf, RemembersOf, StandsAt}

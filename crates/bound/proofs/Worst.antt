@@ -13,10 +13,10 @@ use lib.ListN.{length, getD, set, length-set}
 use lib.Seq.{getD-set-same, getD-set-other}
 use borrow.Author.Tests.{eqb-true, eqb-false, eq-eqb, ne-eqb, ltb-true, ltb-false}
 use Rattle.isa.specs.Choice.{pick}
-use Rattle.checker.specs.Chains.{Member, here, there, Chain, one, more, Reaches}
-use Rattle.checker.specs.Walk.{Small, zeros}
-use Rattle.checker.proofs.Chains.{all-member, reached-start, reached-next}
-use Rattle.checker.proofs.Count.{after-set}
+use Rattle.reach.specs.Chains.{Member, here, there, Chain, one, more, Reaches}
+use Rattle.reach.specs.Walk.{Small, zeros}
+use Rattle.reach.proofs.Chains.{all-member, reached-start, reached-next}
+use Rattle.reach.proofs.Count.{after-set}
 use Rattle.bound.specs.Paths.{Loop, Endless, total, Spends, Longest}
 use Rattle.bound.specs.Paths.{Leads}
 use Rattle.bound.specs.Lists.{endless}

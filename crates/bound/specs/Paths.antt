@@ -4,7 +4,7 @@ use Prim.Native.Nat.{ℕ, _+_, _≤_}
 use mathlib.Core.Path.{_≡_}
 use mathlib.Core.List.{List, [], _∷_}
 use mathlib.Core.Logic.{_⊎_}
-use Rattle.checker.specs.Chains.{Member, Chain, Reaches}
+use Rattle.reach.specs.Chains.{Member, Chain, Reaches}
 
 module _ {A : Type 0} where
   -- from one element, over a successor, to another

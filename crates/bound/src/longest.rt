@@ -4,7 +4,7 @@ ghost use Prim.Native.Nat.{ℕ, _%_, _<_, _≤_};
 ghost use lib.Dec.{ltb};
 ghost use lib.ListN.{getD, set};
 ghost use Rattle.isa.specs.Choice.{pick};
-ghost use Rattle.checker.specs.Walk.{zeros};
+ghost use Rattle.reach.specs.Walk.{zeros};
 ghost use Rattle.bound.specs.Paths.{Leads};
 ghost use Rattle.bound.specs.Lists.{endless};
 ghost use Rattle.bound.specs.Walk.{RemembersOf, ToldOf, nextAddresses, settled};

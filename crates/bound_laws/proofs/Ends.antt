@@ -11,12 +11,12 @@ use lib.ListN.{length}
 use borrow.Author.Tests.{eq-eqb, ne-eqb}
 use Rattle.isa.specs.Choice.{pick}
 use Rattle.rom.specs.Fetching.{Bytes, movedFrom}
-use Rattle.checker.specs.Chains.{Member, here, there, Chain, one, more}
+use Rattle.reach.specs.Chains.{Member, here, there, Chain, one, more}
+use Rattle.reach.proofs.Chains.{map-length}
 use Rattle.checker.specs.Marks.{Pair, pair, flowAt, faultIn, onward, fault, Reached}
 use Rattle.checker.specs.Verdicts.{Safe}
 use Rattle.checker.specs.declared.flow.Flow.{Flow}
 use Rattle.checker.specs.declared.flow.Flow.the-variants.{Unread, On, Enable, Jump, To, Sub, Back}
-use Rattle.checker.proofs.Chains.{map-length}
 use Rattle.checker.proofs.Reach.{reached-address}
 use Rattle.bound.specs.Paths.{Endless, total, Spends}
 use Rattle.bound.specs.Bounds.{within, Returns, cyclesOf, Unbounded}

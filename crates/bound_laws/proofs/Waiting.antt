@@ -21,12 +21,12 @@ use Rattle.cpu.specs.Run.{ran}
 use Rattle.cpu.specs.declared.Cpu.{Cpu}
 use Rattle.cpu.proofs.Leaves.{Standing, standing, ticked-same, Leaves, leaves}
 use Rattle.cpu.proofs.Steps.{runs}
-use Rattle.checker.specs.Chains.{Member, here, there}
+use Rattle.reach.specs.Chains.{Member, here, there}
+use Rattle.reach.proofs.Chains.{reached-start}
 use Rattle.checker.specs.Marks.{Pair, pair, flowBy, flowOf, flowRead, flowAt, faultIn, onward}
 use Rattle.checker.specs.Verdicts.{Safe}
 use Rattle.checker.specs.declared.flow.Flow.{Flow}
 use Rattle.checker.specs.declared.flow.Flow.the-variants.{Unread, Back}
-use Rattle.checker.proofs.Chains.{reached-start}
 use Rattle.bound.specs.Paths.{Spends}
 use Rattle.bound.specs.Bounds.{within, Returns, cyclesOf}
 use Rattle.bound_laws.specs.Delay.{spentBy, spentIn}

@@ -11,9 +11,10 @@ use lib.Dec.{eqb, ltb}
 use lib.ListN.{length, getD}
 use lib.Seq.{ext-getD}
 use borrow.Author.Tests.{lt-ltb, eq-eqb, eqb-true, eqb-false, ltb-true, ltb-false}
+use Rattle.reach.specs.Walk.{Found, Names}
 use Rattle.checker.specs.Marks.{addresses, levels, Pair, pair, fault, Reached}
 use Rattle.checker.specs.Verdicts.{isMarked, Marked, rank, Lowest, Safe, Written, Answers, AnswersDetermine, numberOf}
-use Rattle.checker.specs.Walk.{pairs, nextCodes, Found, markOf, Packed, Names, verdictOf}
+use Rattle.checker.specs.Walk.{pairs, nextCodes, faultAt, markOf, Packed, verdictOf}
 use Rattle.checker.specs.declared.walk.Named.{Named}
 use Rattle.checker.specs.declared.check.Verdict.{Verdict}
 use Rattle.checker.specs.declared.check.Verdict.the-variants.{Passed, Failed, BadMask, BadMarks}
@@ -55,7 +56,7 @@ module _ (mask seen : List ℕ) (s : Found pairs (nextCodes mask) seen) where
       told : (a l : ℕ) → a < addresses → l < levels → getD marks a 0 / 2 ^ l % 2 ≡ getD seen (a * levels + l) 0
       told a l h k = ap (λ (n : ℕ). n / 2 ^ l % 2) (p .byte a h) ∙ flag seen (s .flags) a l k
 
-  module _ (m : Named) (n : Names mask seen m) where
+  module _ (m : Named) (n : Names pairs (faultAt mask) seen (m .code) (m .fault)) where
     -- a reached pair that is forbidden is no lower than the named one
     not-lower : (p : Pair) → Reached mask p → (fault mask p ≡ 0 → ⊥) → m .code ≤ rank p
     not-lower p r z = n .lowest (rank p) (flagged p r .1) (λ y. z (sym (ap (fault mask) (pair-rank p (reached-level mask p r))) ∙ y))

@@ -1,13 +1,6 @@
 pub mod Flows
-pub mod Chains
 pub mod Reach
 pub mod Successors
-pub mod Count
-pub mod Turn
 pub mod Naming
 pub mod Answer
-pub mod Back
-pub mod Distance
-pub mod Once
-pub mod Trace
 pub mod Ways

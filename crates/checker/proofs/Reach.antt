@@ -15,13 +15,14 @@ use Rattle.isa.specs.declared.decoder.Decoded.{Decoded}
 use Rattle.isa.specs.declared.decoder.Decoded.the-variants.{Read, Unreadable}
 use Rattle.isa.specs.declared.Instruction.{Instruction}
 use Rattle.rom.specs.Fetching.{Bytes, byteAt, readAt, movedFrom}
+use Rattle.reach.specs.Chains.{Member, Reaches, Shortest}
+use Rattle.reach.specs.Walk.{All, Small}
+use Rattle.reach.proofs.Chains.{all-member, all-of, all-map, reached-all, of-code, to-code, shortest-at, shortest-code}
 use Rattle.checker.specs.declared.flow.Flow.{Flow}
 use Rattle.checker.specs.declared.flow.Flow.the-variants.{Unread, On, Enable, Jump, To, Sub, Back}
-use Rattle.checker.specs.Chains.{Member, Reaches, Shortest}
 use Rattle.checker.specs.Marks.{addresses, levels, Pair, pair, flowBy, flowOf, flowRead, flowAt, handed, fault, successors, Reached}
 use Rattle.checker.specs.Verdicts.{rank}
-use Rattle.checker.specs.Walk.{All, Small, pairs, pairOf, nextCodes}
-use Rattle.checker.proofs.Chains.{all-member, all-of, all-map, reached-all, of-code, to-code, shortest-at, shortest-code}
+use Rattle.checker.specs.Walk.{pairs, pairOf, nextCodes}
 
 -- ---- what a flow hands on
 -- the target of a jump or a call is an address

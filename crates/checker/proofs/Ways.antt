@@ -5,25 +5,27 @@ use native.Mathlib.Omega.{arith}
 use mathlib.Core.Path.{_≡_, refl, sym, ap, subst, _∙_}
 use mathlib.Core.List.{List, map}
 use lib.ListN.{length, getD}
-use Rattle.checker.specs.Chains.{Chain, Shortest}
+use Rattle.reach.specs.Chains.{Chain, Shortest}
+use Rattle.reach.specs.Walk.{Found, Names}
+use Rattle.reach.specs.Trail.{Stands, StandsFirst, Traced, Counted, Up, stay}
+use Rattle.reach.proofs.Chains.{map-length}
+use Rattle.reach.proofs.Back.{up-from}
+use Rattle.reach.proofs.Distance.{shortest}
+use Rattle.reach.proofs.Once.{few-of-shortest}
 use Rattle.checker.specs.Marks.{levels, Pair, pair, successors}
 use Rattle.checker.specs.Verdicts.{rank, Safe}
-use Rattle.checker.specs.Walk.{pairs, pairOf, nextCodes, Found, Names}
+use Rattle.checker.specs.Walk.{pairs, pairOf, nextCodes, faultAt}
 use Rattle.checker.specs.Ways.{Way, Lists, TooShort, WayAnswers, WayDetermines, WayToVerdict, WayFits, NeverTooShort}
-use Rattle.checker.specs.Trail.{Stands, StandsFirst, Traced, Counted, Up, stay, pairsAt, ListedTo}
+use Rattle.checker.specs.Trail.{pairsAt, ListedTo}
 use Rattle.checker.specs.declared.way.Listing.{Listing}
 use Rattle.checker.specs.declared.way.Listing.the-variants.{Listed, BadMask, MaskPasses, BadList}
 use Rattle.checker.specs.declared.walk.Named.{Named}
-use Rattle.checker.proofs.Chains.{map-length}
 use Rattle.checker.proofs.Reach.{rank-pair, reached-level, code-shortest, shortest-codes, codes-small}
 use Rattle.checker.proofs.Answer.{lowest, same-pair}
-use Rattle.checker.proofs.Back.{up-from}
-use Rattle.checker.proofs.Distance.{shortest}
-use Rattle.checker.proofs.Once.{few-of-shortest}
 
 -- ---- the answer
 module _ (mask seen queue starts : List ℕ) (s : Found pairs (nextCodes mask) seen) (t : Traced pairs (nextCodes mask) seen queue starts) where
-  module _ (m : Named) (n : Names mask seen m) (h : m .code < pairs) where
+  module _ (m : Named) (n : Names pairs (faultAt mask) seen (m .code) (m .fault)) (h : m .code < pairs) where
     pub standing : Stands pairs queue (m .code)
     standing =
         let p = t .stands (m .code) (n .found h) in

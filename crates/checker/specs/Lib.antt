@@ -1,4 +1,3 @@
-pub mod Chains
 pub mod Marks
 pub mod Trail
 pub mod Verdicts

@@ -9,7 +9,7 @@ use Rattle.isa.specs.declared.decoder.Decoded.{Decoded}
 use Rattle.isa.specs.declared.decoder.Decoded.the-variants.{Read, Unreadable}
 use Rattle.isa.specs.declared.Instruction.{Instruction}
 use Rattle.isa.specs.Views.{View, on, jmp, branch, call, ret, reti, ei, view}
-use Rattle.checker.specs.Chains.{Reaches}
+use Rattle.reach.specs.Chains.{Reaches}
 use Rattle.checker.specs.declared.flow.Flow.{Flow}
 use Rattle.checker.specs.declared.flow.Flow.the-variants.{Unread, On, Enable, Jump, To, Sub, Back}
 

@@ -16,7 +16,7 @@ isMarked marks a l = ltb a addresses && ltb l levels && eqb (getD marks a 0 / 2 
 
 -- "The checker writes 4,096 mark bytes .. for exactly the pairs that chains from address 0, level 0 reach"
 pub record Marked (mask marks : List ℕ) : Type 0 where
-  pub size : length marks ≡ 4096
+  pub size : length marks ≡ addresses
   pub rest : (a : ℕ) → a < addresses → getD marks a 0 < 8
   pub sound : (a l : ℕ) → a < addresses → l < levels → isMarked marks a l ≡ true → Reached mask (pair a l)
   pub full : (a l : ℕ) → a < addresses → l < levels → Reached mask (pair a l) → isMarked marks a l ≡ true

@@ -7,7 +7,7 @@ use mathlib.Core.List.{List, [], _∷_, _++_}
 use lib.Dec.{eqb}
 use lib.ListN.{length, drop}
 use Rattle.rom.specs.Fetching.{Bytes}
-use Rattle.checker.specs.Chains.{Shortest}
+use Rattle.reach.specs.Chains.{Shortest}
 use Rattle.checker.specs.Marks.{addresses, levels, Pair, pair, successors}
 use Rattle.checker.specs.Verdicts.{Lowest, Safe, Answers}
 use Rattle.checker.specs.declared.check.Verdict.the-variants.{Failed}

@@ -2,9 +2,13 @@
 ghost use mathlib.Core.Path.{_≡_};
 ghost use Prim.Native.Nat.{ℕ, _≤_};
 ghost use lib.ListN.{getD, length};
+ghost use Rattle.checker.specs.Marks.{addresses};
 ghost use Rattle.checker.specs.Verdicts.{Answers, checkRefusal, isMarked, numberOf};
 ghost use Rattle.checker.specs.Walk.{Packed, verdictOf};
+use crate::walk::ADDRESSES;
+use crate::walk::NO_PAIR;
 use crate::walk::Named;
+use crate::walk::PAIRS;
 use crate::walk::walk;
 
 pub enum Verdict {
@@ -19,13 +23,13 @@ pub enum Verdict {
 }
 
 // The mark byte of each address: the flags of its three codes, as bits.
-fn pack(seen: &[u8; 12288], marks: &mut [u8])
-    requires { ⌜ length (now marks) ≡ 4096 ⌝ }
+fn pack(seen: &[u8; PAIRS], marks: &mut [u8])
+    requires { ⌜ length (now marks) ≡ addresses ⌝ }
     requires { ⌜ ((k : ℕ) → getD (now seen) k 0 ≤ 1) ⌝ }
     ensures { λ r. ⌜ Packed (now (seen .entry)) (now (marks .exit)) ⌝ }
 {
     let mut address: usize = 0;
-    while address < 4096 {
+    while address < ADDRESSES {
         let code = address * 3;
         marks[address] = seen[code] + seen[code + 1] * 2 + seen[code + 2] * 4;
         address += 1;
@@ -35,7 +39,7 @@ fn pack(seen: &[u8; 12288], marks: &mut [u8])
 fn judge(named: Named) -> Verdict
     ensures { λ r. ⌜ r ≡ verdictOf named ⌝ }
 {
-    if named.code < 12288 {
+    if named.code < NO_PAIR {
         Verdict::Failed(named.fault, named.code / 3, (named.code % 3) as u8)
     } else {
         Verdict::Passed
@@ -50,19 +54,19 @@ pub fn check(mask: &[u8], marks: &mut [u8]) -> Verdict
     if mask.len() != 4096 {
         return Verdict::BadMask;
     }
-    if marks.len() != 4096 {
+    if marks.len() != ADDRESSES {
         return Verdict::BadMarks;
     }
-    let mut seen = [0u8; 12288];
-    let mut queue = [0u16; 12288];
-    let mut starts = [0u16; 12288];
+    let mut seen = [0u8; PAIRS];
+    let mut queue = [0u16; PAIRS];
+    let mut starts = [0u16; PAIRS];
     let named = walk(mask, &mut seen, &mut queue, &mut starts);
     pack(&seen, marks);
     judge(named)
 }
 
 // Whether a pair is marked: its level's bit in the mark byte of its address. A pair out of range is not.
-pub fn is_marked(marks: &[u8; 4096], address: u16, level: u8) -> bool
+pub fn is_marked(marks: &[u8; ADDRESSES], address: u16, level: u8) -> bool
     ensures { λ r. ⌜ r ≡ isMarked (now (marks .entry)) address level ⌝ }
 {
     if 4095 < address {

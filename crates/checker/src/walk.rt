@@ -2,13 +2,22 @@
 ghost use mathlib.Core.Path.{_≡_};
 ghost use Prim.Native.Nat.{_<_};
 ghost use lib.ListN.{replicate};
-ghost use Rattle.checker.specs.Trail.{Traced};
-ghost use Rattle.checker.specs.Walk.{Found, Names, Room, Small, codesOf, lowered, nextCodes, pairs, pushed, pushedAll, work};
+ghost use Rattle.reach.specs.Trail.{Traced};
+ghost use Rattle.reach.specs.Walk.{Found, Names, Room, Small, pushed, pushedAll, work};
+ghost use Rattle.checker.specs.Walk.{codesOf, faultAt, lowered, nextCodes, pairs};
 use crate::next::Codes;
 use crate::next::next_codes;
 
+pub(crate) const ADDRESSES: usize = 4096;
+
+// How many pairs there are, and codes of them: an address in three levels.
+pub(crate) const PAIRS: usize = ADDRESSES * 3;
+
+// What is named where no pair is forbidden: no pair's code.
+pub(crate) const NO_PAIR: u16 = PAIRS as u16;
+
 // A code that is not found yet goes to the queue's end. Returns how many are found.
-fn push(seen: &mut [u8; 12288], queue: &mut [u16; 12288], tail: u16, code: u16) -> u16
+fn push(seen: &mut [u8; PAIRS], queue: &mut [u16; PAIRS], tail: u16, code: u16) -> u16
     requires { ⌜ code < pairs ⌝ }
     requires { ⌜ Room pairs (now seen) tail ⌝ }
     ensures { λ r.
@@ -25,7 +34,7 @@ fn push(seen: &mut [u8; 12288], queue: &mut [u16; 12288], tail: u16, code: u16) 
 }
 
 // Each of these codes that is not found yet goes to the queue's end.
-fn push_all(seen: &mut [u8; 12288], queue: &mut [u16; 12288], tail: u16, codes: Codes) -> u16
+fn push_all(seen: &mut [u8; PAIRS], queue: &mut [u16; PAIRS], tail: u16, codes: Codes) -> u16
     requires { ⌜ Small pairs (codesOf codes) ⌝ }
     requires { ⌜ Room pairs (now seen) tail ⌝ }
     ensures { λ r.
@@ -47,7 +56,7 @@ fn push_all(seen: &mut [u8; 12288], queue: &mut [u16; 12288], tail: u16, codes: 
     }
 }
 
-// A forbidden code and its fault; code 12,288 where there is none.
+// A forbidden code and its fault; `NO_PAIR` where there is none.
 pub struct Named {
     pub code: u16,
     pub fault: u8,
@@ -79,20 +88,20 @@ fn lower(named: Named, code: u16, codes: Codes) -> Named
 // of their places how many were found when its turn came, which is all that the way back needs. It returns the lowest forbidden code.
 pub(crate) fn walk(
     mask: &[u8],
-    seen: &mut [u8; 12288],
-    queue: &mut [u16; 12288],
-    starts: &mut [u16; 12288],
+    seen: &mut [u8; PAIRS],
+    queue: &mut [u16; PAIRS],
+    starts: &mut [u16; PAIRS],
 ) -> Named
     requires { ⌜ (now seen ≡ replicate pairs 0) × (now queue ≡ replicate pairs 0) × (now starts ≡ replicate pairs 0) ⌝ }
     ensures { λ r. ⌜ Found pairs (nextCodes (now (mask .entry))) (now (seen .exit)) ⌝ }
     ensures { λ r. ⌜ Traced pairs (nextCodes (now (mask .entry))) (now (seen .exit)) (now (queue .exit)) (now (starts .exit)) ⌝ }
-    ensures { λ r. ⌜ Names (now (mask .entry)) (now (seen .exit)) r ⌝ }
+    ensures { λ r. ⌜ Names pairs (faultAt (now (mask .entry))) (now (seen .exit)) (r .code) (r .fault) ⌝ }
 {
     seen[0] = 1;
     let mut head: u16 = 0;
     let mut tail: u16 = 1;
     let mut named = Named {
-        code: 12288,
+        code: NO_PAIR,
         fault: 0,
     };
     while head < tail {

@@ -3,10 +3,15 @@ ghost use mathlib.Core.Path.{_≡_};
 ghost use mathlib.Core.List.{[], _∷_, _++_};
 ghost use Prim.Native.Nat.{_*_, _+_, _<_, _≤_};
 ghost use lib.ListN.{drop, getD, length};
-ghost use Rattle.checker.specs.Trail.{Before, Counted, ListedTo, Listings, Stands, StandsFirst};
+ghost use Rattle.reach.specs.Trail.{Before, Counted, Stands, StandsFirst};
+ghost use Rattle.checker.specs.Trail.{ListedTo, Listings};
 ghost use Rattle.checker.specs.Walk.{pairOf, pairs};
 ghost use Rattle.checker.specs.Ways.{WayAnswers, listed};
+use crate::walk::NO_PAIR;
+use crate::walk::PAIRS;
 use crate::walk::walk;
+
+const LAST_PLACE: u16 = NO_PAIR - 1;
 
 pub enum Listing {
     // A shortest chain is listed. Its count of pairs.
@@ -20,12 +25,12 @@ pub enum Listing {
 }
 
 // The first place of a code that stands in the queue.
-fn place_of(queue: &[u16; 12288], code: u16) -> u16
+fn place_of(queue: &[u16; PAIRS], code: u16) -> u16
     requires { ⌜ Stands pairs (now queue) code ⌝ }
     ensures { λ r. ⌜ (r < pairs) × StandsFirst (now (queue .entry)) code r ⌝ }
 {
     let mut place: u16 = 0;
-    while place < 12287 {
+    while place < LAST_PLACE {
         let at = place as usize;
         if queue[at] == code {
             return place;
@@ -36,7 +41,7 @@ fn place_of(queue: &[u16; 12288], code: u16) -> u16
 }
 
 // The place before a place after the first. Going back from place to place, each place is passed once.
-fn place_before(starts: &[u16; 12288], place: u16) -> u16
+fn place_before(starts: &[u16; PAIRS], place: u16) -> u16
     requires { ⌜ (0 < place) × (place < pairs) × (getD (now starts) 0 0 ≤ 1) ⌝ }
     ensures { λ r. ⌜ Before (now (starts .entry)) r place ⌝ }
 {
@@ -48,7 +53,7 @@ fn place_before(starts: &[u16; 12288], place: u16) -> u16
 }
 
 // How many places there are from place 0 on to this one.
-fn count_to(starts: &[u16; 12288], end: u16) -> u16
+fn count_to(starts: &[u16; PAIRS], end: u16) -> u16
     requires { ⌜ (end < pairs) × (getD (now starts) 0 0 ≤ 1) ⌝ }
     ensures { λ r. ⌜ (r ≤ pairs) × Counted (now (starts .entry)) end r ⌝ }
 {
@@ -74,7 +79,7 @@ fn put(list: &mut [u8], at: usize, code: u16)
 }
 
 // The pairs at the places from 0 to `end`, from the last one back.
-fn put_all(list: &mut [u8], queue: &[u16; 12288], starts: &[u16; 12288], end: u16, count: u16)
+fn put_all(list: &mut [u8], queue: &[u16; PAIRS], starts: &[u16; PAIRS], end: u16, count: u16)
     requires { ⌜ (end < pairs) × (getD (now starts) 0 0 ≤ 1) × Counted (now starts) end count × (3 * count ≤ length (now list)) ⌝ }
     ensures { λ r.
         ⌜ Listings (now (queue .entry)) (now (starts .entry)) end count (now (list .entry)) (now (list .exit)) ⌝ }
@@ -90,7 +95,7 @@ fn put_all(list: &mut [u8], queue: &[u16; 12288], starts: &[u16; 12288], end: u1
 }
 
 // The way to a code that stands in the queue, if the list has room for it.
-fn list_to(list: &mut [u8], queue: &[u16; 12288], starts: &[u16; 12288], code: u16) -> Listing
+fn list_to(list: &mut [u8], queue: &[u16; PAIRS], starts: &[u16; PAIRS], code: u16) -> Listing
     requires { ⌜ Stands pairs (now queue) code × (getD (now starts) 0 0 ≤ 1) ⌝ }
     ensures { λ r.
         ⌜ ListedTo (now (queue .entry)) (now (starts .entry)) code (now (list .entry)) (now (list .exit)) r ⌝ }
@@ -111,11 +116,11 @@ pub fn way(mask: &[u8], list: &mut [u8]) -> Listing
     if mask.len() != 4096 {
         return Listing::BadMask;
     }
-    let mut seen = [0u8; 12288];
-    let mut queue = [0u16; 12288];
-    let mut starts = [0u16; 12288];
+    let mut seen = [0u8; PAIRS];
+    let mut queue = [0u16; PAIRS];
+    let mut starts = [0u16; PAIRS];
     let named = walk(mask, &mut seen, &mut queue, &mut starts);
-    if named.code < 12288 {
+    if named.code < NO_PAIR {
         return list_to(list, &queue, &starts, named.code);
     }
     Listing::MaskPasses

@@ -15,12 +15,12 @@ use Rattle.isa.specs.Timing.{columnsOf, columnsAt}
 use Rattle.isa.specs.Views.{view}
 use Rattle.machine.specs.Table.{nops}
 use Rattle.machine.proofs.Table.{table}
-use Rattle.checker.specs.Chains.{Member, here}
+use Rattle.reach.specs.Chains.{Member, here}
+use Rattle.reach.proofs.Chains.{reached-start, reached-next, reached-all}
 use Rattle.checker.specs.Marks.{Pair, pair, flowOf, flowAt, fault, successors, Reached}
 use Rattle.checker.specs.Verdicts.{Answers, Marked, rank, Safe, Lowest}
 use Rattle.checker.specs.declared.check.Verdict.{Verdict}
 use Rattle.checker.specs.declared.check.Verdict.the-variants.{Passed, Failed}
-use Rattle.checker.proofs.Chains.{reached-start, reached-next, reached-all}
 use Rattle.checker.proofs.Answer.{its-bit, same-marks, answer-passed, answer-failed}
 use Rattle.guarantee.specs.Table.{ProvedTable}
 

@@ -18,15 +18,16 @@ use Rattle.machine.proofs.Reports.{report-length}
 use Rattle.script.specs.Check.{checked}
 use Rattle.script.specs.Format.{inputs}
 use Rattle.script.specs.Reports.{next, reports, reportsOf, fronted, Applied, applied}
+use Rattle.reach.proofs.Chains.{reached-start}
 use Rattle.checker.specs.Verdicts.{isMarked, Marked, Safe}
 use Rattle.cpu.proofs.Leaves.{standing}
 use Rattle.guarantee.specs.Reports.{Shows, ReportsShow}
-use Rattle.guarantee.proofs.Kept.{Keeps, start-kept, kept-marked}
+use Rattle.guarantee.proofs.Kept.{Keeps, start-kept, ReachedAt, safe-confines, kept-marked}
 use Rattle.guarantee.proofs.Property3.{input-kept}
 
 module _ (mask marks : List ℕ) (bytes : Bytes mask) (safe : Safe mask) (mark : Marked mask marks) where
   -- a machine that keeps it, in its report
-  shows : (m : Machine) → Keeps mask (m .cpu) → Shows marks (reported m)
+  shows : (m : Machine) → Keeps (ReachedAt mask) (m .cpu) → Shows marks (reported m)
   shows m k =
       record {
         no-fault = k .no-fault;
@@ -37,25 +38,28 @@ module _ (mask marks : List ℕ) (bytes : Bytes mask) (safe : Safe mask) (mark :
       together : (a : ℕ) → a % 256 + 256 * (a / 256) ≡ a
       together a = omega arith
 
-  blank-kept : Keeps mask (blank .cpu)
+  blank-kept : Keeps (ReachedAt mask) (blank .cpu)
   unfolding blank
-  blank-kept = start-kept mask
+  blank-kept = start-kept (ReachedAt mask) reached-start
+
+  next-kept : (i : Input) (m : Machine) → Keeps (ReachedAt mask) (m .cpu) → Keeps (ReachedAt mask) (next mask i m .cpu)
+  next-kept i = input-kept (ReachedAt mask) reached-start mask i (λ v e. safe-confines mask safe)
 
   -- the reports of a list of inputs, whatever stands after them
-  each : (rest : List ℕ) (is : List Input) (m : Machine) → Keeps mask (m .cpu) → (j : ℕ) → 48 * j < length (reports mask is m)
+  each : (rest : List ℕ) (is : List Input) (m : Machine) → Keeps (ReachedAt mask) (m .cpu) → (j : ℕ) → 48 * j < length (reports mask is m)
       → Shows marks (take 48 (drop (48 * j) (reports mask is m ++ rest)))
   unfolding reports
   each rest [] m k j h = absurd (not-suc-le-zero h)
   each rest (i ∷ is) m k zero h =
       let n = next mask i m in
       subst (λ (s : List ℕ). Shows marks (take 48 s)) (sym (append-assoc (reported n) (reports mask is n) rest))
-      (subst (Shows marks) (sym (take-at (reported n) (reports mask is n ++ rest) 48 (report-length n))) (shows n (input-kept mask safe mask i (λ v e. refl) m k)))
+      (subst (Shows marks) (sym (take-at (reported n) (reports mask is n ++ rest) 48 (report-length n))) (shows n (next-kept i m k)))
   each rest (i ∷ is) m k (suc j) h =
       let n = next mask i m in
       let l = report-length n in
       subst (λ (s : List ℕ). Shows marks (take 48 (drop (48 * suc j) s))) (sym (append-assoc (reported n) (reports mask is n) rest))
       (subst (λ (s : List ℕ). Shows marks (take 48 s)) (sym (past (reported n) (reports mask is n ++ rest) j l))
-      (each rest is n (input-kept mask safe mask i (λ v e. refl) m k) j (left (length (reports mask is n)) j (omega (arith, length-append (reported n) (reports mask is n), l, h)))))
+      (each rest is n (next-kept i m k) j (left (length (reports mask is n)) j (omega (arith, length-append (reported n) (reports mask is n), l, h)))))
     where
       left : (x j : ℕ) → 48 * suc j < 48 + x → 48 * j < x
       left x j h = omega arith

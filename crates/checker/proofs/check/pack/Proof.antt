@@ -4,9 +4,9 @@ use mathlib.Core.Path.{_≡_, sym, ap, _∙_}
 use mathlib.Core.List.{List}
 use native.Mathlib.Omega.{arith}
 use lib.ListN.{length, getD, set, length-set}
+use Rattle.reach.proofs.Count.{after-set}
 use Rattle.checker.specs.Marks.{addresses}
 use Rattle.checker.specs.Walk.{markOf}
-use Rattle.checker.proofs.Count.{after-set}
 use Rattle.checker.proofs.check.pack.Statement.{statement}
 use Rattle.checker.proofs.check.pack.Tie as tie
 

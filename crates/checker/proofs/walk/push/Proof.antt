@@ -1,8 +1,8 @@
 -- `checker::walk::push` meets its contract: the two ways are the definition's two cases, and a code that is not found yet has a place in the
 -- queue. Assumes nothing.
-use Rattle.checker.specs.Walk.{work}
-use Rattle.checker.proofs.Count.{push-new, push-old, room-left}
 use borrow.Author.Needs.{needs}
+use Rattle.reach.specs.Walk.{work}
+use Rattle.reach.proofs.Count.{push-new, push-old, room-left}
 use Rattle.checker.proofs.walk.push.Statement.{statement}
 use Rattle.checker.proofs.walk.push.Tie as tie
 

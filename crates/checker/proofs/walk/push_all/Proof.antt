@@ -2,10 +2,11 @@
 use Prim.Native.Nat.{ℕ, _<_}
 use mathlib.Core.Path.{_≡_, refl, sym, ap, subst, _∙_}
 use mathlib.Core.List.{[]}
-use Rattle.checker.specs.Walk.{Work, work, pushed, pushedAll, Room, Small, pairs, codesOf}
+use Rattle.reach.specs.Walk.{Work, work, pushed, pushedAll, Room, Small}
+use Rattle.reach.proofs.Count.{room-pushed}
+use Rattle.checker.specs.Walk.{pairs, codesOf}
 use Rattle.checker.specs.declared.next.Codes.{Codes}
 use Rattle.checker.specs.declared.next.Codes.the-variants.{Forbidden, Nothing, One, Two, Three}
-use Rattle.checker.proofs.Count.{room-pushed}
 use borrow.Author.Needs.{needs}
 use Rattle.checker.proofs.walk.push_all.Statement.{statement}
 use Rattle.checker.proofs.walk.push_all.Tie as tie

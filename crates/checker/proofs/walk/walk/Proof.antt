@@ -1,82 +1,34 @@
 -- `checker::walk::walk` meets its contract. The loop's invariant is the walk's with the start of each turn, `Tracing`, and the lowest forbidden
 -- code so far, `Naming`; the measure is how many places of the queue stand at the head and after it. Assumes nothing.
-use Prim.Native.Nat.{ℕ, _+_, _-_, _≤_}
+use Prim.Native.Nat.{_+_, _-_}
 use mathlib.Core.Path.{_≡_, sym, ap, subst, _∙_}
-use mathlib.Core.List.{List}
 use native.Mathlib.Omega.{arith}
 use borrow.Author.Needs.{needs}
-use lib.ListN.{length, getD, set, replicate, length-replicate}
-use Rattle.checker.specs.Trail.{Trail, Traced}
-use Rattle.checker.specs.Walk.{work, pushedAll, Small, Found, Names, pairs, nextCodes, faultAt, zeros}
+use lib.ListN.{getD}
+use Rattle.reach.specs.Walk.{work, pushedAll, Small}
+use Rattle.reach.proofs.Turn.{found}
+use Rattle.reach.proofs.Naming.{Naming, none-named, names}
+use Rattle.reach.proofs.Trace.{Tracing, begins, trace-turn, turn-same, all-traced}
+use Rattle.checker.specs.Walk.{pairs, nextCodes, faultAt}
 use Rattle.checker.specs.declared.walk.Named.{Named}
-use Rattle.checker.proofs.Count.{zeros-replicate, getD-zeros}
 use Rattle.checker.proofs.Reach.{codes-small}
-use Rattle.checker.proofs.Turn.{found}
-use Rattle.checker.proofs.Naming.{Naming, naming-turn}
-use Rattle.checker.proofs.Trace.{Tracing, first-trace, trace-turn, turn-same}
+use Rattle.checker.proofs.Naming.{naming-turn}
 use Rattle.checker.proofs.walk.walk.Statement.{statement}
 use Rattle.checker.proofs.walk.walk.Tie as tie
 
 abbrev Inv-loop : tie.InvT-loop
 Inv-loop mask seen₀ queue₀ starts₀ head₀ tail₀ named₀ seen queue starts head tail named =
-    Tracing pairs (nextCodes mask) (work seen queue tail) starts head × Naming pairs (nextCodes mask) (faultAt mask) queue head named
+    Tracing pairs (nextCodes mask) (work seen queue tail) starts head × Naming pairs (nextCodes mask) (faultAt mask) queue head (named .code) (named .fault)
 
 abbrev μ-loop : tie.MeasureT-loop
 μ-loop mask seen₀ queue₀ starts₀ head₀ tail₀ named₀ seen queue starts head tail named = pairs - head
-
-begins : (next : ℕ → List ℕ) (s q b : List ℕ) → s ≡ replicate pairs 0 → q ≡ replicate pairs 0 → b ≡ replicate pairs 0
-    → Tracing pairs next (work (set s 0 1) q 1) b 0
-begins next s q b e f g =
-    first-trace pairs next (omega arith) s q b (ap length e ∙ size) (ap zeros e ∙ zeros-replicate pairs) (each s e) (ap length f ∙ size) (each q f) (ap length g ∙ size) (each b g)
-  where
-    size : length {A = ℕ} (replicate pairs 0) ≡ pairs
-    size = length-replicate {A = ℕ} pairs 0
-
-    each : (l : List ℕ) → l ≡ replicate pairs 0 → (k : ℕ) → getD l k 0 ≡ 0
-    each l e k = ap (λ (l : List ℕ). getD l k 0) e ∙ getD-zeros pairs k
-
-none-named : (next : ℕ → List ℕ) (bad : ℕ → ℕ) (queue : List ℕ) → Naming pairs next bad queue 0 (record { code = 12288; fault = 0 })
-none-named next bad queue =
-    record {
-      reached = λ h. absurd (omega arith);
-      forbidden = λ h. absurd (omega arith);
-      not-zero = λ h. absurd (omega arith);
-      lowest = λ j h. absurd (omega arith);
-    }
-
--- what is left where the head meets the tail
-module _ (mask s q b : List ℕ) (head tail : ℕ) (named : Named) (small : (k : ℕ) → Small pairs (nextCodes mask k))
-    (t : Tracing pairs (nextCodes mask) (work s q tail) b head) (i : Naming pairs (nextCodes mask) (faultAt mask) q head named) (h : tail ≤ head) where
-  all-found : Found pairs (nextCodes mask) s
-  all-found = found pairs (nextCodes mask) (omega arith) small (work s q tail) head (t .walking) h
-
-  traced : Traced pairs (nextCodes mask) s q b
-  traced =
-      let e : head ≡ tail = omega (arith, t .walking .before) in
-      record {
-        tail = tail;
-        some = omega (arith, t .walking .core .stands 0 (t .walking .start) .below);
-        places = omega (arith, t .walking .core .room .left);
-        stands = t .walking .core .stands;
-        trail = subst (λ (head : ℕ). Trail (nextCodes mask) q b head tail) e (t .trail);
-      }
-
-  names : Names mask s named
-  names =
-      record {
-        found = λ l. all-found .full (named .code) (i .reached l) .1;
-        forbidden = i .forbidden;
-        not-zero = i .not-zero;
-        lowest = λ k f z. let p = t .walking .core .stands k f in
-            subst (λ (k : ℕ). named .code ≤ k) (p .holds) (i .lowest (p .at) (omega (arith, p .below)) (λ y. z (ap (faultAt mask) (sym (p .holds)) ∙ y)));
-      }
 
 loop-holds : tie.Need-loop-holds Inv-loop μ-loop
 loop-holds c =
     let s = c .before in
     let a = s .args in (
-      begins (nextCodes (a .mask .now)) (a .seen .now) (a .queue .now) (a .starts .now) (s .pre .0) (s .pre .1) (s .pre .2),
-      none-named (nextCodes (a .mask .now)) (faultAt (a .mask .now)) (a .queue .now),
+      begins pairs (nextCodes (a .mask .now)) (omega arith) (a .seen .now) (a .queue .now) (a .starts .now) (s .pre .0) (s .pre .1) (s .pre .2),
+      none-named pairs (nextCodes (a .mask .now)) (faultAt (a .mask .now)) (a .queue .now),
     )
 
 cast-at : tie.Need-cast-at Inv-loop μ-loop
@@ -120,7 +72,7 @@ loop-again c =
     let t = l .loop .inv .0 in
     let h = c .before .before .before .before .before .before .loop-test .taken in (
       trace-turn pairs (nextCodes mask) (omega arith) small w v (l .loop .starts) (l .loop .head) e t h,
-      subst (Naming pairs (nextCodes mask) (faultAt mask) (p .last .1 .0) (l .loop .head + 1)) (sym (c .before .before .before .lower .ensures))
+      subst (λ (m : Named). Naming pairs (nextCodes mask) (faultAt mask) (p .last .1 .0) (l .loop .head + 1) (m .code) (m .fault)) (sym (c .before .before .before .lower .ensures))
           (naming-turn pairs (nextCodes mask) (faultAt mask) (l .loop .queue) (p .last .1 .0) (l .loop .head)
           (turn-same pairs (nextCodes mask) (omega arith) small w v (l .loop .starts) (l .loop .head) e t h) (t .walking .core .held (l .loop .head) h) (l .loop .named) (l .loop .inv .1)
           (n .result) (n .ensures .1)),
@@ -131,11 +83,14 @@ returns c =
     let l = c .before in
     let mask = l .before .before .args .mask .now in
     let small = codes-small mask (λ k. omega (arith, l .before .shared-slice-known .given k)) in
-    let o = l .loop in (
-      all-found mask (o .seen) (o .queue) (o .starts) (o .head) (o .tail) (o .named) small (o .inv .0) (o .inv .1) (c .loop-test .left),
+    let o = l .loop in
+    let t = o .inv .0 in
+    let all = found pairs (nextCodes mask) (omega arith) small (work (o .seen) (o .queue) (o .tail)) (o .head) (t .walking) (c .loop-test .left) in (
+      all,
       (
-        traced mask (o .seen) (o .queue) (o .starts) (o .head) (o .tail) (o .named) small (o .inv .0) (o .inv .1) (c .loop-test .left),
-        names mask (o .seen) (o .queue) (o .starts) (o .head) (o .tail) (o .named) small (o .inv .0) (o .inv .1) (c .loop-test .left),
+        all-traced pairs (nextCodes mask) (o .seen) (o .queue) (o .starts) (o .head) (o .tail) t (c .loop-test .left),
+        names pairs (nextCodes mask) (faultAt mask) (o .seen) (o .queue) (o .head) (o .tail) (o .named .code) (o .named .fault) all
+            (t .walking .core .stands) (o .inv .1) (c .loop-test .left),
       ),
     )
 

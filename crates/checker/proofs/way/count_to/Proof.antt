@@ -3,7 +3,7 @@
 use Prim.Native.Nat.{ℕ, suc, _+_, _-_, _≤_, _<_}
 use mathlib.Core.Path.{_≡_, subst}
 use native.Mathlib.Omega.{arith}
-use Rattle.checker.specs.Trail.{Counted, origin, onward}
+use Rattle.reach.specs.Trail.{Counted, origin, onward}
 use Rattle.checker.proofs.way.count_to.Statement.{statement}
 use Rattle.checker.proofs.way.count_to.Tie as tie
 

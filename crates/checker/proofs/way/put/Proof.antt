@@ -1,12 +1,30 @@
--- `checker::way::put` meets its contract: three stores, the last byte's first. Assumes nothing.
-use Prim.Native.Nat.{_/_, _%_}
+-- `checker::way::put` meets its contract: three stores, the last byte's first, put them before what was there. Assumes nothing.
+use Prim.Native.Nat.{ℕ, suc, _+_, _/_, _%_, _<_, _≤_}
 use native.Mathlib.Omega.{arith}
-use lib.ListN.{length-set}
+use native.Mathlib.Numerals.{add-one}
+use mathlib.Core.Path.{_≡_, refl, ap, _∙_}
+use mathlib.Core.List.{List, _∷_}
+use lib.ListN.{length, drop, take, set, length-set}
+use lib.Seq.{set-split, drop-at, length-take-le}
 use borrow.Author.Needs.{needs}
 use Rattle.checker.specs.Ways.{listed}
-use Rattle.checker.proofs.Back.{three-set}
 use Rattle.checker.proofs.way.put.Statement.{statement}
 use Rattle.checker.proofs.way.put.Tie as tie
+
+drop-set : (xs : List ℕ) (i v : ℕ) → i < length xs → drop i (set xs i v) ≡ v ∷ drop (i + 1) xs
+drop-set xs i v h =
+    ap (drop i) (set-split xs i v h) ∙ drop-at (take i xs) (v ∷ drop (suc i) xs) i (length-take-le i xs (omega arith)) ∙ rw (add-one i) refl
+
+three-set : (xs : List ℕ) (i a b c : ℕ) → i + 3 ≤ length xs → drop i (set (set (set xs (i + 2) c) (i + 1) b) i a) ≡ a ∷ b ∷ c ∷ drop (i + 3) xs
+three-set xs i a b c h =
+    let k = length-set xs (i + 2) c in
+    let l = length-set (set xs (i + 2) c) (i + 1) b in
+    let p : i + 1 + 1 ≡ i + 2 = omega arith in
+    let q : i + 2 + 1 ≡ i + 3 = omega arith in
+    drop-set (set (set xs (i + 2) c) (i + 1) b) i a (omega arith)
+    ∙ ap (λ (r : List ℕ). a ∷ r)
+    (drop-set (set xs (i + 2) c) (i + 1) b (omega arith)
+    ∙ ap (λ (r : List ℕ). b ∷ r) (ap (λ (n : ℕ). drop n (set xs (i + 2) c)) p ∙ drop-set xs (i + 2) c (omega arith) ∙ ap (λ (n : ℕ). c ∷ drop n xs) q))
 
 slice-write-list-2 : tie.Need-slice-write-list-2
 slice-write-list-2 c = simp length-set (omega arith)

@@ -6,10 +6,11 @@ use mathlib.Core.List.{List, [], _∷_, _++_}
 use native.Mathlib.Omega.{arith}
 use lib.ListN.{length, getD, drop}
 use lib.Seq.{drop-drop}
+use Rattle.reach.specs.Trail.{Counted, Up, stay, climb, Before}
+use Rattle.reach.proofs.Back.{counted-some, counted-origin, counted-back}
 use Rattle.checker.specs.Walk.{pairOf}
 use Rattle.checker.specs.Ways.{listed}
-use Rattle.checker.specs.Trail.{Counted, Up, stay, climb, pairsAt, Before, Listings}
-use Rattle.checker.proofs.Back.{counted-some, counted-origin, counted-back}
+use Rattle.checker.specs.Trail.{pairsAt, Listings}
 use Rattle.checker.proofs.way.put_all.Statement.{statement}
 use Rattle.checker.proofs.way.put_all.Tie as tie
 

@@ -5,14 +5,14 @@ use native.Mathlib.Omega.{arith}
 use native.Mathlib.Decide.{ℕ-discrete}
 use mathlib.Core.Path.{_≡_, refl, sym, ap, subst, _∙_}
 use mathlib.Core.List.{List}
-use lib.ListN.{length, getD, set, length-set}
+use lib.ListN.{length, getD, set, replicate, length-set, length-replicate}
 use lib.Seq.{getD-set-same, getD-set-other}
-use Rattle.checker.specs.Chains.{Member}
-use Rattle.checker.specs.Walk.{Small, Work, work, pushedAll, zeros}
-use Rattle.checker.specs.Trail.{Near, Trail}
-use Rattle.checker.proofs.Chains.{all-member}
-use Rattle.checker.proofs.Count.{after-set}
-use Rattle.checker.proofs.Turn.{Walking, Pushed, first, pushes, turn}
+use Rattle.reach.specs.Chains.{Member}
+use Rattle.reach.specs.Walk.{Small, Work, work, pushedAll, zeros}
+use Rattle.reach.specs.Trail.{Near, Trail, Traced}
+use Rattle.reach.proofs.Chains.{all-member}
+use Rattle.reach.proofs.Count.{zeros-replicate, getD-zeros, after-set}
+use Rattle.reach.proofs.Turn.{Walking, Pushed, first, pushes, turn}
 
 module _ (n : ℕ) (next : ℕ → List ℕ) where
   pub record Tracing (w : Work) (starts : List ℕ) (head : ℕ) : Type 0 where
@@ -38,6 +38,17 @@ module _ (n : ℕ) (next : ℕ → List ℕ) where
                 near = λ h l. absurd (omega arith);
               };
         }
+
+    -- of three lists of zeros
+    pub begins : (s q b : List ℕ) → s ≡ replicate n 0 → q ≡ replicate n 0 → b ≡ replicate n 0 → Tracing (work (set s 0 1) q 1) b 0
+    begins s q b e f g =
+        first-trace s q b (size s e) (ap zeros e ∙ zeros-replicate n) (each s e) (size q f) (each q f) (size b g) (each b g)
+      where
+        size : (l : List ℕ) → l ≡ replicate n 0 → length l ≡ n
+        size l e = ap length e ∙ length-replicate {A = ℕ} n 0
+
+        each : (l : List ℕ) → l ≡ replicate n 0 → (k : ℕ) → getD l k 0 ≡ 0
+        each l e k = ap (λ (l : List ℕ). getD l k 0) e ∙ getD-zeros n k
 
     module _ (small : (k : ℕ) → Small n (next k)) where
       module _ (w v : Work) (b : List ℕ) (head : ℕ) (t : Tracing w b head) (below : head < w .tail)
@@ -125,3 +136,15 @@ module _ (n : ℕ) (next : ℕ → List ℕ) where
           → (j : ℕ) → j < head + 1 → getD (v .queue) j 0 ≡ getD (w .queue) j 0
       turn-same w v b head e t l j h =
           subst (Pushed n next w (next (getD (w .queue) head 0))) (sym e) (pushes n next some small w head (t .walking) l) .grows .queue j (omega arith)
+
+  -- what is left where the head meets the tail
+  pub all-traced : (s q b : List ℕ) (head tail : ℕ) → Tracing (work s q tail) b head → tail ≤ head → Traced n next s q b
+  all-traced s q b head tail t h =
+      let e : head ≡ tail = omega (arith, t .walking .before) in
+      record {
+        tail = tail;
+        some = omega (arith, t .walking .core .stands 0 (t .walking .start) .below);
+        places = omega (arith, t .walking .core .room .left);
+        stands = t .walking .core .stands;
+        trail = subst (λ (head : ℕ). Trail next q b head tail) e (t .trail);
+      }

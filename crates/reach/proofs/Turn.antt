@@ -9,11 +9,11 @@ use mathlib.Core.Path.{_≡_, refl, sym, ap, subst, _∙_}
 use mathlib.Core.List.{List, [], _∷_}
 use lib.ListN.{length, getD, set, length-set}
 use lib.Seq.{getD-set-same, getD-set-other}
-use Rattle.checker.specs.Chains.{Member, here, there, Reaches}
-use Rattle.checker.specs.Trail.{Stands}
-use Rattle.checker.specs.Walk.{All, Small, Work, work, pushed, pushedAll, zeros, Room, Found}
-use Rattle.checker.proofs.Chains.{all-member, all-of, reached-start, reached-next, reached-all}
-use Rattle.checker.proofs.Count.{zeros-set, after-set, found-also, push-cases, room-left, room-new}
+use Rattle.reach.specs.Chains.{Member, here, there, Reaches}
+use Rattle.reach.specs.Trail.{Stands}
+use Rattle.reach.specs.Walk.{All, Small, Work, work, pushed, pushedAll, zeros, Room, Found}
+use Rattle.reach.proofs.Chains.{all-member, all-of, reached-start, reached-next, reached-all}
+use Rattle.reach.proofs.Count.{zeros-set, after-set, found-also, push-cases, room-left, room-new}
 
 -- where a code stands in the queue
 abbrev Place : Work → ℕ → Type 0

@@ -8,9 +8,9 @@ use native.Mathlib.Decide.{decLt, decLe}
 use mathlib.Core.Path.{_≡_, sym, subst}
 use mathlib.Core.List.{List, map}
 use lib.ListN.{length, getD}
-use Rattle.checker.specs.Chains.{Member, Chain, one, more, Shortest}
-use Rattle.checker.specs.Trail.{StandsFirst, Trail, Before, Counted, origin, onward, Up, stay, climb}
-use Rattle.checker.proofs.Chains.{map-length}
+use Rattle.reach.specs.Chains.{Member, Chain, one, more, Shortest}
+use Rattle.reach.specs.Trail.{StandsFirst, Trail, Before, Counted, origin, onward, Up, stay, climb}
+use Rattle.reach.proofs.Chains.{map-length}
 
 module _ (next : ℕ → List ℕ) (queue starts : List ℕ) (tail : ℕ) (t : Trail next queue starts tail tail) where
   abbrev at : ℕ → ℕ

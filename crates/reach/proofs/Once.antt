@@ -6,10 +6,10 @@ use mathlib.Core.Path.{_≡_, subst, _∙_}
 use mathlib.Core.List.{List, [], _∷_}
 use lib.ListN.{length, getD, set, replicate, length-set, length-replicate}
 use lib.Seq.{getD-set-other}
-use Rattle.checker.specs.Chains.{Member, here, there, Chain, one, more, Shortest}
-use Rattle.checker.specs.Walk.{All, Small, zeros}
-use Rattle.checker.proofs.Chains.{all-member, all-of}
-use Rattle.checker.proofs.Count.{zeros-set, zeros-replicate, getD-zeros}
+use Rattle.reach.specs.Chains.{Member, here, there, Chain, one, more, Shortest}
+use Rattle.reach.specs.Walk.{All, Small, zeros}
+use Rattle.reach.proofs.Chains.{all-member, all-of}
+use Rattle.reach.proofs.Count.{zeros-set, zeros-replicate, getD-zeros}
 
 -- ---- each once
 module _ {A : Type 0} where

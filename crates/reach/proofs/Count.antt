@@ -12,7 +12,7 @@ use lib.ListN.{length, getD, set, replicate, length-set}
 use lib.Seq.{getD-set-same, getD-set-other}
 use borrow.Author.Tests.{eqb-true, eqb-false, eq-eqb, ne-eqb}
 use Rattle.isa.specs.Choice.{pick}
-use Rattle.checker.specs.Walk.{Work, work, pushed, zeros, Room}
+use Rattle.reach.specs.Walk.{Work, work, pushed, zeros, Room}
 
 -- ---- lists
 pub zeros-replicate : (n : ℕ) → zeros (replicate n 0) ≡ n

@@ -6,8 +6,8 @@ use native.Mathlib.Omega.{arith}
 use mathlib.Core.Path.{_≡_, refl, sym, ap, subst, _∙_}
 use mathlib.Core.List.{List, [], _∷_, map}
 use lib.ListN.{length}
-use Rattle.checker.specs.Chains.{Member, here, there, Chain, one, more, Reaches, Shortest}
-use Rattle.checker.specs.Walk.{All}
+use Rattle.reach.specs.Chains.{Member, here, there, Chain, one, more, Reaches, Shortest}
+use Rattle.reach.specs.Walk.{All}
 
 -- ---- members
 module _ {A : Type 0} where
