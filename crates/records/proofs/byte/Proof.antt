@@ -1,9 +1,9 @@
--- `script::format::byte` meets its contract: past the end the definition reads 0 too. Assumes nothing.
+-- `records::byte` meets its contract: past the end the definition reads 0 too. Assumes nothing.
 use mathlib.Core.Path.{sym}
 use lib.ListN.{List·getD-eq-default}
 use borrow.Author.Needs.{needs}
-use Rattle.script.proofs.format.byte.Statement.{statement}
-use Rattle.script.proofs.format.byte.Tie as tie
+use Rattle.records.proofs.byte.Statement.{statement}
+use Rattle.records.proofs.byte.Tie as tie
 
 returns-2 : tie.Need-returns-2
 returns-2 c = sym (List·getD-eq-default (c .before .args .s .now) 0 (c .if1 .left))
