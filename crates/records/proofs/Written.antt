@@ -35,6 +35,13 @@ module _ (s : List ℕ) (at : ℕ) where
   pub load : (k j : ℕ) → 4 + k ≡ j → payloadAt s at k ≡ byte j
   load k j e = ap (λ (i : ℕ). getD s i 0) (omega arith)
 
+  -- the payload's word is its first two bytes
+  pub payload-word : payloadAt s at 0 + 256 * payloadAt s at 1 ≡ wordAt s (at + 4)
+  payload-word = ap (λ (i : ℕ). getD s i 0 + 256 * payloadAt s at 1) start
+    where
+      start : at + 4 + 0 ≡ at + 4
+      start = omega arith
+
   module _ (b : (i : ℕ) → getD s i 0 < 256) where
     -- length and kind
     pub head : {size kind : ℕ} (tail : List ℕ) → sizeAt s at ≡ size → kindAt s at ≡ kind

@@ -1,7 +1,5 @@
 // The whole check of a script, before anything runs.
 ghost use mathlib.Core.Path.{_≡_};
-ghost use Prim.Native.Nat.{_≤_};
-ghost use lib.ListN.{length};
 ghost use Rattle.records.specs.Records.{offsets};
 ghost use Rattle.script.specs.Format.{inputOf};
 ghost use Rattle.script.specs.Check.{checked, choiceOf, first, ruled, valueOf};
@@ -71,7 +69,6 @@ fn choice(input: Record) -> u8
 
 // What a rule says of the record at an offset.
 fn judged(rule: Rule, s: &[u8], at: usize) -> u8
-    requires { ⌜ at ≤ length (now s) ⌝ }
     ensures { λ r. ⌜ r ≡ ruled rule (now (s .entry)) at ⌝ }
 {
     match rule {

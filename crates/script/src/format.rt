@@ -1,8 +1,7 @@
 // A script's records: the input at an offset, and the payload length of each kind.
 ghost use mathlib.Core.Path.{_≡_};
 ghost use mathlib.Core.List.{List};
-ghost use Prim.Native.Nat.{ℕ, _≤_};
-ghost use lib.ListN.{length};
+ghost use Prim.Native.Nat.{ℕ};
 ghost use Rattle.records.specs.Records.{kindAt};
 ghost use Rattle.script.specs.Check.{formatAt};
 ghost use Rattle.script.specs.Format.{inputAt, inputOf, optionsAt, sizeOf};
@@ -17,7 +16,6 @@ use records::kind_at;
 use records::payload_at;
 use records::size_at;
 use records::size_refusal;
-use records::word;
 
 // The kind of a power-on. The others are the machine's events.
 pub const POWER_ON: u16 = 1;
@@ -41,7 +39,6 @@ fn options_at(s: &[u8], at: usize) -> Options
 
 // The record at an offset.
 pub(crate) fn record_at(s: &[u8], at: usize) -> Record
-    requires { ⌜ at ≤ length (now s) ⌝ }
     ensures { λ r. ⌜ inputOf r ≡ inputAt (now (s .entry)) at ⌝ }
 {
     let kind = kind_at(s, at);
@@ -50,10 +47,10 @@ pub(crate) fn record_at(s: &[u8], at: usize) -> Record
         let fill = payload_at(s, at, 5);
         return Record::Power(options, fill);
     }
-    let count = word(s, at + 4);
     let a = payload_at(s, at, 0);
     let b = payload_at(s, at, 1);
     let c = payload_at(s, at, 2);
+    let count = a as u16 + 256 * b as u16;
     Record::Other(event_of(kind, count, a, b, c))
 }
 
