@@ -4,7 +4,7 @@ ghost use Prim.Native.Nat.{_≤_};
 ghost use lib.ListN.{getD, length};
 ghost use Rattle.records.specs.Records.{cutOff, kindAt, offsets, payloadAt, sizeAt, sizeRefusal, wordAt};
 
-// What a record's kind says of its payload: its length; or the kind is unknown.
+// What a record's kind says of its payload: how many bytes it has; or the kind is unknown. Whose records they are decides it.
 pub enum Size {
     Of(u16),
     UnknownKind,
@@ -16,7 +16,7 @@ pub fn byte(s: &[u8], i: usize) -> u8
     if i < s.len() {
         return s[i];
     }
-    0
+    0 // past the end
 }
 
 // A little-endian number of two bytes.

@@ -8,5 +8,8 @@ use Rattle.records.proofs.payload_at.Tie as tie
 returns : tie.Need-returns
 returns c = let a = c .before .before .args in sym (payload-past (a .s .now) (a .at) (c .if1 .taken) (a .k))
 
+returns-2 : tie.Need-returns-2
+returns-2 c = c .byte .ensures
+
 pub payload-at-spec : {M : Type 1} → statement M
-payload-at-spec = tie.close (tie.spec returns (λ c. search needs) (λ c. search needs) (λ c κs. search needs) (λ c. search needs))
+payload-at-spec = tie.close (tie.spec returns (λ c. search needs) (λ c. search needs) (λ c κs. search needs) returns-2)

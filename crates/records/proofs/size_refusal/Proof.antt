@@ -21,8 +21,11 @@ returns c = let a = c .before .before .before .before .args in wrong (a .size) (
 returns-2 : tie.Need-returns-2
 returns-2 c = let a = c .before .before .before .before .args in fits (a .size) (a .n) _ (c .before .before .size .given .1) (c .if1 .left)
 
+returns-3 : tie.Need-returns-3
+returns-3 c = sym (ap (λ (size : Size). sizeRefusal size (c .before .before .args .n)) (c .enum-told .given .1))
+
 pub size-refusal-spec : {M : Type 1} → statement M
 size-refusal-spec =
     tie.close
     (tie.spec
-    (λ c. search needs) (λ c. search needs) returns (λ c. search needs) returns-2 (λ c. search needs))
+    (λ c. search needs) (λ c. search needs) returns (λ c. search needs) returns-2 returns-3)

@@ -23,8 +23,8 @@ returns-2 c =
     let a = uncut .before .before .before .args in
     c .size-refusal .ensures
     ∙ ap₂ (λ (size : Size) (n : ℕ). sizeRefusal size n)
-      (c .before .before .size-of .ensures (a .s .now) (a .at) (c .before .before .before .kind-at .ensures))
-      (c .before .size-at .ensures .0)
+    (c .before .before .size-of .ensures (a .s .now) (a .at) (c .before .before .before .kind-at .ensures))
+    (c .before .size-at .ensures .0)
     ∙ format-whole (sizeOf (inputAt (a .s .now) (a .at))) (a .s .now) (a .at) (sym (uncut .before .cut-off .ensures) ∙ uncut .if1 .left)
 
 pub format-at-spec : {M : Type 1} → statement M
