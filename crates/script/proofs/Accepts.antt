@@ -1,6 +1,6 @@
 -- In an accepted script every record is accepted by the machine: the first is a power-on that is not refused, and from a machine in
 -- range every record leads to one in range. Assumes nothing.
-use Prim.Native.Nat.{ℕ, zero, suc, _+_, _<_}
+use Prim.Native.Nat.{ℕ, _+_, _<_}
 use native.Mathlib.Omega.{arith}
 use mathlib.Core.Path.{_≡_, refl, sym, ap, subst, _∙_}
 use mathlib.Core.Bool.{Bool, true, false}
