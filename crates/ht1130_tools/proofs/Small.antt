@@ -1,15 +1,16 @@
 -- The offset of a script's answer fits two bytes: a record starts inside its script, and a script over 65,535 bytes is refused at offset 0.
 -- Assumes nothing.
-use Prim.Native.Nat.{ℕ, zero, suc, _+_, _*_, _≤_}
+use Prim.Native.Nat.{ℕ, _+_, _*_, _≤_}
 use native.Mathlib.Omega.{arith}
 use mathlib.Core.Path.{_≡_, refl}
 use mathlib.Core.Bool.{Bool, true, false}
-use mathlib.Core.List.{List, [], _∷_}
-use lib.Dec.{ltb, leb, eqb}
+use mathlib.Core.List.{List}
+use lib.Dec.{leb, eqb}
 use lib.ListN.{length}
-use borrow.Author.Tests.{ltb-true, leb-true}
+use borrow.Author.Tests.{leb-true}
 use Rattle.isa.specs.Choice.{pick}
-use Rattle.script.specs.Format.{sizeAt, kindAt, within, offsetsFrom, offsets}
+use Rattle.records.specs.Records.{sizeAt, kindAt, offsetsFrom, offsets}
+use Rattle.records.proofs.Offsets.{each}
 use Rattle.script.specs.Check.{refused, fine, unless, firstRefused, first, ruled, checked}
 use Rattle.script.specs.declared.Checked.{Checked}
 use Rattle.script.specs.declared.check.Rule.{Rule}
@@ -22,18 +23,12 @@ picked : (n : ℕ) (t : Bool) (a b : Checked) → Within n a → Within n b → 
 picked n true a b p q = p
 picked n false a b p q = q
 
-inside : (rule : ℕ → ℕ) (n : ℕ) (s : List ℕ) (at : ℕ) → Within (length s) (first rule (within n s at))
-unfolding within first
-inside rule zero s at = record { bound = omega arith }
-inside rule (suc n) s at = go (ltb at (length s)) refl (within n s (at + 4 + sizeAt s at)) (inside rule n s (at + 4 + sizeAt s at))
-  where
-    go : (t : Bool) → ltb at (length s) ≡ t → (l : List ℕ) → Within (length s) (first rule l) → Within (length s) (first rule (pick t (at ∷ l) []))
-    go true e l p = let h = ltb-true at (length s) e in picked (length s) (eqb (rule at) 0) (first rule l) (refused (rule at) at) p (record { bound = omega (arith, h) })
-    go false e l p = record { bound = omega arith }
-
 first-inside : (rule : ℕ → ℕ) (s : List ℕ) → Within (length s) (first rule (offsets s))
-unfolding offsetsFrom
-first-inside rule s = inside rule (length s) s 0
+unfolding first
+first-inside rule s =
+    each s (λ (at : ℕ) (l : List ℕ). Within (length s) (first rule l)) (λ at h. record { bound = omega arith })
+    (λ at h p. picked (length s) (eqb (rule at) 0) (first rule (offsetsFrom s (at + 4 + sizeAt s at))) (refused (rule at) at) p (record { bound = omega (arith, h) }))
+    0
 
 either : (n : ℕ) (a b : Checked) → Within n a → Within n b → Within n (firstRefused a b)
 either n a b p q = picked n (eqb (a .number) 0) b a q p

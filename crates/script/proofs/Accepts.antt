@@ -1,6 +1,6 @@
 -- In an accepted script every record is accepted by the machine: the first is a power-on that is not refused, and from a machine in
 -- range every record leads to one in range. Assumes nothing.
-use Prim.Native.Nat.{ℕ, zero, suc, _+_, _<_}
+use Prim.Native.Nat.{ℕ, _+_, _<_}
 use native.Mathlib.Omega.{arith}
 use mathlib.Core.Path.{_≡_, refl, sym, ap, subst, _∙_}
 use mathlib.Core.Bool.{Bool, true, false}
@@ -16,16 +16,19 @@ use Rattle.machine.specs.Power.{blank, powered, powerRefusal, powerOn}
 use Rattle.machine.specs.Events.{Input, power, named, eventOf, maskOk, valuesOk, refusalOf, applied, answerTo}
 use Rattle.machine.specs.declared.events.Event.{Event}
 use Rattle.machine.specs.declared.events.Event.the-variants.{Run, Pins, Int, Tmclk, Res}
+use Rattle.machine.specs.declared.events.Named.{Named}
 use Rattle.machine.specs.declared.events.Named.the-variants.{Known, Unknown}
 use Rattle.machine.proofs.Lists.{powered-valid, input-valid}
 use Rattle.cpu.specs.declared.Options.{Options}
 use Rattle.machine.specs.declared.Machine.{Machine}
-use Rattle.script.specs.Format.{sizeAt, kindAt, optionsAt, payloadAt, filled, offsetsFrom, inputAt, inputs}
+use Rattle.records.specs.Records.{sizeAt, kindAt, payloadAt, offsetsFrom}
+use Rattle.records.specs.declared.Size.the-variants.{Of}
+use Rattle.script.specs.Format.{optionsAt, filled, sizeOf, inputAt, inputs}
 use Rattle.script.specs.Check.{formatAt, first, ruled, valueOf, choiceOf, checked}
 use Rattle.script.specs.Reports.{next}
 use Rattle.script.specs.declared.check.Rule.the-variants.{Format, Values, Choices}
-use Rattle.script.proofs.Offsets.{from-next, each}
-use Rattle.script.proofs.Formats.{whole}
+use Rattle.records.proofs.Offsets.{from-next, each}
+use Rattle.records.proofs.Formats.{unknown-size, whole}
 use Rattle.script.proofs.Checks.{accepted, first-bad, first-good}
 
 -- where the first bad record is none, the record at the front is good, and so are those after it
@@ -116,18 +119,14 @@ Sized (named (Known e)) = Unit {0}
 Sized (named Unknown) = ⊥
 
 sized-at : (s : List ℕ) (at : ℕ) → formatAt s at ≡ 0 → Sized (inputAt s at)
-unfolding inputAt eventOf
-sized-at s at f = go (kindAt s at) refl (whole s at f .above) (whole s at f .below)
+unfolding formatAt inputAt
+sized-at s at f = go (eqb (kindAt s at) 1) (eventOf _ _ _ _ _) (whole (sizeOf (inputAt s at)) s at f .sized)
   where
-    go : (kind : ℕ) → kindAt s at ≡ kind → 0 < kind → kind < 7 → Sized (inputAt s at)
-    go zero k p q = absurd (omega arith)
-    go (suc zero) k p q = rw k refl
-    go (suc (suc zero)) k p q = rw k tt
-    go (suc (suc (suc zero))) k p q = rw k tt
-    go (suc (suc (suc (suc zero)))) k p q = rw k tt
-    go (suc (suc (suc (suc (suc zero))))) k p q = rw k tt
-    go (suc (suc (suc (suc (suc (suc zero)))))) k p q = rw k tt
-    go (suc (suc (suc (suc (suc (suc (suc kind))))))) k p q = absurd (omega arith)
+    go : (t : Bool) (n : Named) {m : ℕ} → sizeOf (pick t (power (optionsAt s at) (filled (payloadAt s at 5))) (named n)) ≡ Of m
+        → Sized (pick t (power (optionsAt s at) (filled (payloadAt s at 5))) (named n))
+    go true n e = refl
+    go false (Known e) q = tt
+    go false Unknown q = absurd (unknown-size q)
 
 input-accepted : (mask : List ℕ) → length mask ≡ 4096 → (i : Input) (m : Machine) → Sized i → valueOf i ≡ 0 → choiceOf i ≡ 0
     → valid (stateOf m) ≡ true → answerTo mask i m .refusal ≡ 0

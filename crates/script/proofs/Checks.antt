@@ -9,11 +9,11 @@ use lib.Dec.{leb, eqb}
 use lib.ListN.{length}
 use borrow.Author.Tests.{eq-eqb, ne-eqb, le-leb, lt-leb, eqb-true, eqb-false, leb-true}
 use Rattle.isa.specs.Choice.{pick}
-use Rattle.script.specs.Format.{sizeAt, kindAt, offsetsFrom, offsets}
+use Rattle.records.specs.Records.{sizeAt, kindAt, offsetsFrom, offsets}
 use Rattle.script.specs.Check.{refused, fine, unless, firstRefused, first, ruled, checked}
 use Rattle.script.specs.declared.Checked.{Checked}
 use Rattle.script.specs.declared.check.Rule.the-variants.{Format, Values, Choices}
-use Rattle.script.proofs.Offsets.{from-end, from-next}
+use Rattle.records.proofs.Offsets.{from-end, from-next}
 
 -- ---- the first offset at which a rule gives a number
 module _ (rule : ℕ → ℕ) (s : List ℕ) (at : ℕ) where

@@ -1,47 +1,42 @@
 -- Parsing is exact: the inputs of a script with a good format, written back one after the other, are the script's bytes. A record of known
 -- kind and of its length is written as the bytes that it stands in, and each record starts where the one before ends. Assumes nothing.
-use Prim.Native.Nat.{ℕ, zero, suc, _+_, _*_, _/_, _%_, _<_, _≤_}
+use Prim.Native.Nat.{ℕ, zero, suc, _+_, _<_, _≤_}
 use native.Mathlib.Omega.{arith}
 use mathlib.Core.Path.{_≡_, refl, sym, ap, ap₂, _∙_}
 use mathlib.Core.List.{List, [], _∷_, _++_, map}
-use lib.ListN.{length, getD, drop, drop-of-length-le}
+use lib.Dec.{eqb}
+use lib.ListN.{length, drop, drop-of-length-le}
 use lib.Seq.{drop-cons}
+use borrow.Author.Tests.{ne-eqb}
+use Rattle.isa.specs.Choice.{pick}
 use Rattle.rom.specs.Fetching.{Bytes}
-use Rattle.machine.specs.Events.{eventOf}
+use Rattle.machine.specs.Events.{Input, power, named, eventOf}
 use Rattle.machine.specs.Report.{places}
-use Rattle.script.specs.Format.{wordAt, sizeAt, kindAt, payloadAt, sizeOf, offsetsFrom, offsets, inputAt, inputs, pair, written, writtenAll}
-use Rattle.script.specs.Check.{first, ruled, checked}
+use Rattle.records.specs.Records.{wordAt, sizeAt, kindAt, payloadAt, offsetsFrom, offsets}
+use Rattle.records.specs.declared.Size.the-variants.{Of, UnknownKind}
+use Rattle.script.specs.Format.{sizeOf, optionsAt, filled, inputAt, inputs, written, writtenAll}
+use Rattle.script.specs.Check.{formatAt, first, ruled, checked}
 use Rattle.script.specs.Whole.{ParsesBack}
 use Rattle.script.specs.declared.check.Rule.the-variants.{Format}
-use Rattle.script.proofs.Offsets.{each}
-use Rattle.script.proofs.Formats.{Whole, whole}
+use Rattle.records.proofs.Offsets.{each}
+use Rattle.records.proofs.Formats.{Whole, whole, same-size, unknown-size}
+use Rattle.records.proofs.Written.{byte, load, head, two}
 use Rattle.script.proofs.Checks.{accepted}
 use Rattle.script.proofs.Accepts.{good-here, good-after}
 
--- a number of two bytes, written
-pair-back : (x y : ℕ) → x < 256 → pair (x + 256 * y) ≡ x ∷ y ∷ []
-pair-back x y h = ap₂ (λ (a b : ℕ). a ∷ b ∷ []) (low x y h) (high x y h)
-  where
-    low : (x y : ℕ) → x < 256 → (x + 256 * y) % 256 ≡ x
-    low x y h = omega arith
-
-    high : (x y : ℕ) → x < 256 → (x + 256 * y) / 256 ≡ y
-    high x y h = omega arith
-
 module _ (s : List ℕ) (at : ℕ) where
-  -- byte k from the offset on
-  abbrev byte : ℕ → ℕ
-  byte k = getD s (at + k) 0
+  abbrev here : ℕ → ℕ
+  here k = byte s at k
 
-  -- n bytes from there are what stands there
-  bytes-drop : (n k : ℕ) → at + (k + n) ≤ length s → places n byte k ++ drop (at + (k + n)) s ≡ drop (at + k) s
+  -- n bytes from the offset on are what stands there
+  bytes-drop : (n k : ℕ) → at + (k + n) ≤ length s → places n here k ++ drop (at + (k + n)) s ≡ drop (at + k) s
   bytes-drop zero k h = ap (λ (i : ℕ). drop i s) (end k)
     where
       end : (k : ℕ) → at + (k + 0) ≡ at + k
       end k = omega arith
   bytes-drop (suc n) k h =
-      ap (λ (l : List ℕ). byte k ∷ l)
-      (ap (λ (i : ℕ). places n byte (suc k) ++ drop i s) (shift n k) ∙ bytes-drop n (suc k) (omega arith) ∙ ap (λ (i : ℕ). drop i s) (next k))
+      ap (λ (l : List ℕ). here k ∷ l)
+      (ap (λ (i : ℕ). places n here (suc k) ++ drop i s) (shift n k) ∙ bytes-drop n (suc k) (omega arith) ∙ ap (λ (i : ℕ). drop i s) (next k))
       ∙ sym (drop-cons s (at + k) 0 (omega arith))
     where
       shift : (n k : ℕ) → at + (k + suc n) ≡ at + (suc k + n)
@@ -51,61 +46,62 @@ module _ (s : List ℕ) (at : ℕ) where
       next k = omega arith
 
   module _ (b : Bytes s) where
-    -- the indices of the definition, as numbers from the offset on
-    at-0 : getD s at 0 ≡ byte 0
-    at-0 = ap (λ (i : ℕ). getD s i 0) (omega arith)
+    -- what a kind names here
+    abbrev by-kind : ℕ → Input
+    by-kind kind =
+        pick (eqb kind 1) (power (optionsAt s at) (filled (payloadAt s at 5)))
+        (named (eventOf kind (wordAt s (at + 4)) (payloadAt s at 0) (payloadAt s at 1) (payloadAt s at 2)))
 
-    at-3 : getD s (at + 2 + 1) 0 ≡ byte 3
-    at-3 = ap (λ (i : ℕ). getD s i 0) (omega arith)
+    over : (kind : ℕ) → 6 < kind → sizeOf (by-kind kind) ≡ UnknownKind
+    unfolding eventOf
+    over kind h =
+        rw (
+          ne-eqb kind 1 (λ e. omega arith),
+          ne-eqb kind 2 (λ e. omega arith),
+          ne-eqb kind 3 (λ e. omega arith),
+          ne-eqb kind 4 (λ e. omega arith),
+          ne-eqb kind 5 (λ e. omega arith),
+          ne-eqb kind 6 (λ e. omega arith),
+        ) refl
 
-    at-5 : getD s (at + 4 + 1) 0 ≡ byte 5
-    at-5 = ap (λ (i : ℕ). getD s i 0) (omega arith)
+    -- where a size is the record's, what is written of that size is as long as the record
+    sized : {l : List ℕ} (n : ℕ) → Of n ≡ Of (sizeAt s at) → (sizeAt s at ≡ n → l ≡ places (4 + n) here 0) → l ≡ places (4 + sizeAt s at) here 0
+    sized n e f = f (sym (same-size e)) ∙ ap (λ (n : ℕ). places (4 + n) here 0) (same-size e)
 
-    load : (k j : ℕ) → 4 + k ≡ j → payloadAt s at k ≡ byte j
-    load k j e = ap (λ (i : ℕ). getD s i 0) (omega arith)
-
-    -- length and kind
-    head : {size kind : ℕ} (tail : List ℕ) → sizeAt s at ≡ size → kindAt s at ≡ kind
-        → pair size ++ (pair kind ++ tail) ≡ byte 0 ∷ byte 1 ∷ byte 2 ∷ byte 3 ∷ tail
-    head tail p q =
-        ap₂ (λ (x y : ℕ). pair x ++ (pair y ++ tail)) (sym p) (sym q)
-        ∙ ap₂ (λ (x y : List ℕ). x ++ (y ++ tail)) (pair-back (getD s at 0) (byte 1) (b at)) (pair-back (byte 2) (getD s (at + 2 + 1) 0) (b (at + 2)))
-        ∙ ap₂ (λ (x y : ℕ). x ∷ byte 1 ∷ byte 2 ∷ y ∷ tail) at-0 at-3
-
-    -- a payload of two bytes
-    two : pair (wordAt s (at + 4)) ≡ byte 4 ∷ byte 5 ∷ []
-    two = pair-back (byte 4) (getD s (at + 4 + 1) 0) (b (at + 4)) ∙ ap (λ (x : ℕ). byte 4 ∷ x ∷ []) at-5
-
-    back : (kind : ℕ) → kindAt s at ≡ kind → 0 < kind → kind < 7 → sizeAt s at ≡ sizeOf kind → written (inputAt s at) ≡ places (4 + sizeOf kind) byte 0
-    unfolding inputAt eventOf written sizeOf
-    back zero k p q z = absurd (omega arith)
-    back (suc zero) k p q z =
-        rw k (head _ z k ∙ six (load 0 4 refl) (load 1 5 refl) (load 2 6 refl) (load 3 7 refl) (load 4 8 refl) (load 5 9 refl))
+    -- it is written as the bytes that it stands in, if the record has its size
+    back : (kind : ℕ) → kindAt s at ≡ kind → sizeOf (by-kind kind) ≡ Of (sizeAt s at) → written (by-kind kind) ≡ places (4 + sizeAt s at) here 0
+    unfolding eventOf written
+    back zero k e = absurd (unknown-size e)
+    back (suc zero) k e =
+        sized 6 e
+        (λ z. head s at b _ z k ∙ six (load s at 0 4 refl) (load s at 1 5 refl) (load s at 2 6 refl) (load s at 3 7 refl) (load s at 4 8 refl) (load s at 5 9 refl))
       where
         six : {a b c d e f a' b' c' d' e' f' : ℕ} → a ≡ a' → b ≡ b' → c ≡ c' → d ≡ d' → e ≡ e' → f ≡ f'
-            → byte 0 ∷ byte 1 ∷ byte 2 ∷ byte 3 ∷ a ∷ b ∷ c ∷ d ∷ e ∷ f ∷ []
-            ≡ byte 0 ∷ byte 1 ∷ byte 2 ∷ byte 3 ∷ a' ∷ b' ∷ c' ∷ d' ∷ e' ∷ f' ∷ []
+            → here 0 ∷ here 1 ∷ here 2 ∷ here 3 ∷ a ∷ b ∷ c ∷ d ∷ e ∷ f ∷ []
+            ≡ here 0 ∷ here 1 ∷ here 2 ∷ here 3 ∷ a' ∷ b' ∷ c' ∷ d' ∷ e' ∷ f' ∷ []
         six p q r t u v = cc
-    back (suc (suc zero)) k p q z = rw k (head _ z k ∙ ap (λ (l : List ℕ). byte 0 ∷ byte 1 ∷ byte 2 ∷ byte 3 ∷ l) two)
-    back (suc (suc (suc zero))) k p q z = rw k (head _ z k ∙ three (load 0 4 refl) (load 1 5 refl) (load 2 6 refl))
+    back (suc (suc zero)) k e = sized 2 e (λ z. head s at b _ z k ∙ ap (λ (l : List ℕ). here 0 ∷ here 1 ∷ here 2 ∷ here 3 ∷ l) (two s at b))
+    back (suc (suc (suc zero))) k e = sized 3 e (λ z. head s at b _ z k ∙ three (load s at 0 4 refl) (load s at 1 5 refl) (load s at 2 6 refl))
       where
         three : {a b c a' b' c' : ℕ} → a ≡ a' → b ≡ b' → c ≡ c'
-            → byte 0 ∷ byte 1 ∷ byte 2 ∷ byte 3 ∷ a ∷ b ∷ c ∷ [] ≡ byte 0 ∷ byte 1 ∷ byte 2 ∷ byte 3 ∷ a' ∷ b' ∷ c' ∷ []
+            → here 0 ∷ here 1 ∷ here 2 ∷ here 3 ∷ a ∷ b ∷ c ∷ [] ≡ here 0 ∷ here 1 ∷ here 2 ∷ here 3 ∷ a' ∷ b' ∷ c' ∷ []
         three p q r = cc
-    back (suc (suc (suc (suc zero)))) k p q z = rw k (head _ z k ∙ ap (λ (x : ℕ). byte 0 ∷ byte 1 ∷ byte 2 ∷ byte 3 ∷ x ∷ []) (load 0 4 refl))
-    back (suc (suc (suc (suc (suc zero))))) k p q z = rw k (head _ z k ∙ ap (λ (l : List ℕ). byte 0 ∷ byte 1 ∷ byte 2 ∷ byte 3 ∷ l) two)
-    back (suc (suc (suc (suc (suc (suc zero)))))) k p q z = rw k (head [] z k)
-    back (suc (suc (suc (suc (suc (suc (suc kind))))))) k p q z = absurd (omega arith)
+    back (suc (suc (suc (suc zero)))) k e =
+        sized 1 e (λ z. head s at b _ z k ∙ ap (λ (x : ℕ). here 0 ∷ here 1 ∷ here 2 ∷ here 3 ∷ x ∷ []) (load s at 0 4 refl))
+    back (suc (suc (suc (suc (suc zero))))) k e = sized 2 e (λ z. head s at b _ z k ∙ ap (λ (l : List ℕ). here 0 ∷ here 1 ∷ here 2 ∷ here 3 ∷ l) (two s at b))
+    back (suc (suc (suc (suc (suc (suc zero)))))) k e = sized 0 e (λ z. head s at b [] z k)
+    back (suc (suc (suc (suc (suc (suc (suc kind))))))) k e = absurd (unknown-size (sym (over (suc (suc (suc (suc (suc (suc (suc kind))))))) (omega arith)) ∙ e))
 
     -- a record written back, and the bytes after it
-    record-back : Whole s at → written (inputAt s at) ++ drop (at + 4 + sizeAt s at) s ≡ drop at s
+    record-back : Whole (sizeOf (inputAt s at)) s at → written (inputAt s at) ++ drop (at + 4 + sizeAt s at) s ≡ drop at s
+    unfolding inputAt
     record-back w =
-        ap₂ (λ (l : List ℕ) (i : ℕ). l ++ drop i s) (back (kindAt s at) refl (w .above) (w .below) (w .sized)) (ends (sizeOf (kindAt s at)) (w .sized))
-        ∙ bytes-drop (4 + sizeOf (kindAt s at)) 0 (omega (arith, w .inside, w .sized))
+        ap₂ (λ (l : List ℕ) (i : ℕ). l ++ drop i s) (back (kindAt s at) refl (w .sized)) (ends (sizeAt s at))
+        ∙ bytes-drop (4 + sizeAt s at) 0 (omega (arith, w .inside))
         ∙ ap (λ (i : ℕ). drop i s) start
       where
-        ends : (n : ℕ) → sizeAt s at ≡ n → at + 4 + sizeAt s at ≡ at + (0 + (4 + n))
-        ends n e = omega arith
+        ends : (n : ℕ) → at + 4 + n ≡ at + (0 + (4 + n))
+        ends n = omega arith
 
         start : at + 0 ≡ at
         start = omega arith
@@ -113,13 +109,13 @@ module _ (s : List ℕ) (at : ℕ) where
 -- all records from an offset on
 module _ (s : List ℕ) (b : Bytes s) where
   rest-back : (at : ℕ) → first (ruled Format s) (offsetsFrom s at) .number ≡ 0 → writtenAll (map (inputAt s) (offsetsFrom s at)) ≡ drop at s
-  unfolding writtenAll
+  unfolding writtenAll formatAt
   rest-back =
       each s (λ (at : ℕ) (l : List ℕ). first (ruled Format s) (offsetsFrom s at) .number ≡ 0 → writtenAll (map (inputAt s) l) ≡ drop at s)
       (λ at h e. sym (drop-of-length-le s h))
       (λ at h back e.
       ap (λ (l : List ℕ). written (inputAt s at) ++ l) (back (good-after (ruled Format s) s at h e))
-      ∙ record-back s at b (whole s at (good-here (ruled Format s) s at h e)))
+      ∙ record-back s at b (whole (sizeOf (inputAt s at)) s at (good-here (ruled Format s) s at h e)))
 
   pub exact : first (ruled Format s) (offsets s) .number ≡ 0 → writtenAll (inputs s) ≡ s
   unfolding inputs

@@ -1,9 +1,7 @@
 pub mod Accepts
 pub mod Checks
 pub mod Exact
-pub mod Formats
 pub mod Hexes
-pub mod Offsets
 pub mod Rests
 pub mod Room
 pub mod Sessions

@@ -17,11 +17,12 @@ use Rattle.machine.specs.Events.{Input}
 use Rattle.machine.specs.Report.{reported, reporting, report}
 use Rattle.machine.specs.declared.Machine.{Machine}
 use Rattle.machine.proofs.Reports.{report-length}
-use Rattle.script.specs.Format.{sizeAt, offsetsFrom, inputAt, inputs}
+use Rattle.records.specs.Records.{sizeAt, offsetsFrom}
+use Rattle.script.specs.Format.{inputAt, inputs}
 use Rattle.script.specs.Check.{formatAt}
 use Rattle.script.specs.Reports.{next, reports, reportsOf, progress, passed, stepped}
 use Rattle.script.specs.declared.Progress.{Progress}
-use Rattle.script.proofs.Offsets.{from-end, from-next}
+use Rattle.records.proofs.Offsets.{from-end, from-next}
 
 -- the reports of the records from an offset on
 abbrev pub rest : List ℕ → List ℕ → ℕ → Machine → List ℕ

@@ -1,23 +1,25 @@
 -- Refusal 9 does not occur where there is room for 65,535 records: a script that is not too long has fewer. So a program with a buffer of
 -- its own never meets it. Assumes nothing.
-use Prim.Native.Nat.{ℕ, _+_, _*_, _≤_}
+use Prim.Native.Nat.{ℕ, _*_, _≤_}
 use native.Mathlib.Omega.{arith}
 use mathlib.Core.Path.{_≡_, refl, sym, ap, _∙_}
-use mathlib.Core.Bool.{Bool, true, false, _&&_}
+use mathlib.Core.Bool.{Bool, true, false}
 use mathlib.Core.List.{List, [], _∷_}
-use lib.Dec.{ltb, leb, eqb}
+use lib.Dec.{leb, eqb}
 use lib.ListN.{length}
 use borrow.Author.Tests.{leb-true}
 use Rattle.isa.specs.Choice.{pick}
 use Rattle.cpu.specs.Range.{nibble, nibbles, optionsOk}
 use Rattle.machine.specs.Events.{Input, power, named, valuesOk}
 use Rattle.machine.specs.declared.events.Named.the-variants.{Known, Unknown}
-use Rattle.script.specs.Format.{sizeAt, kindAt, known, sizeOf, offsets, inputAt}
+use Rattle.records.specs.Records.{kindAt, offsets}
+use Rattle.script.specs.Format.{sizeOf, inputAt}
 use Rattle.script.specs.Check.{refused, unless, firstRefused, first, formatAt, valueOf, choiceOf, ruled, checked}
 use Rattle.script.specs.declared.Checked.{Checked}
 use Rattle.script.specs.declared.check.Rule.the-variants.{Format, Values, Choices}
 use Rattle.script.proofs.Checks.{after1, after3, after4, after6, after7, after8, pass9}
-use Rattle.script.proofs.Offsets.{few}
+use Rattle.records.proofs.Formats.{format-numbers}
+use Rattle.records.proofs.Offsets.{few}
 
 -- a number other than 9, and an answer with one
 abbrev Other : ℕ → Type 0
@@ -50,10 +52,7 @@ first-other rule p (at ∷ l) = go (eqb (rule at) 0) (first-other rule p l)
 -- the three rules
 format-other : (s : List ℕ) (at : ℕ) → Other (formatAt s at)
 unfolding formatAt
-format-other s at =
-    either (ltb (length s) (at + 4)) 6 _ (λ e. omega arith)
-    (either (ltb (length s) (at + 4 + sizeAt s at)) 6 _ (λ e. omega arith)
-    (either (known (kindAt s at)) _ 7 (either (eqb (sizeAt s at) (sizeOf (kindAt s at))) 0 6 (λ e. omega arith) (λ e. omega arith)) (λ e. omega arith)))
+format-other s at = format-numbers Other (λ e. omega arith) (λ e. omega arith) (λ e. omega arith) (sizeOf (inputAt s at)) s at
 
 value-other : (i : Input) → Other (valueOf i)
 unfolding valueOf

@@ -12,7 +12,8 @@ use Rattle.machine.specs.Power.{blank}
 use Rattle.machine.specs.Report.{Reporting, reporting, report, reported}
 use Rattle.machine.specs.declared.Machine.{Machine}
 use Rattle.machine.proofs.Lists.{input-valid}
-use Rattle.script.specs.Format.{offsetsFrom, inputAt}
+use Rattle.records.specs.Records.{offsetsFrom}
+use Rattle.script.specs.Format.{inputAt}
 use Rattle.script.specs.Check.{first, ruled, checked}
 use Rattle.script.specs.Reports.{next, reportsOf, stepped}
 use Rattle.script.specs.declared.Progress.{Progress}

@@ -12,10 +12,11 @@ use Rattle.machine.specs.Events.{Input, answerTo}
 use Rattle.machine.specs.Report.{reported}
 use Rattle.machine.specs.declared.Machine.{Machine}
 use Rattle.machine.proofs.Reports.{report-length}
-use Rattle.script.specs.Format.{sizeAt, offsetsFrom, inputAt, inputs}
+use Rattle.records.specs.Records.{sizeAt, offsetsFrom}
+use Rattle.script.specs.Format.{inputAt, inputs}
 use Rattle.script.specs.Check.{checked}
 use Rattle.script.specs.Reports.{next, reportsOf, fronted}
-use Rattle.script.proofs.Offsets.{from-next}
+use Rattle.records.proofs.Offsets.{from-next}
 use Rattle.script.proofs.Checks.{accepted}
 use Rattle.script.proofs.Accepts.{Taken, more, all-taken}
 use Rattle.script.proofs.Rests.{rest, rest-all, rest-end, rest-next, whole, whole-more, whole-none, whole-first, put-length}

@@ -1,16 +1,17 @@
 -- The whole check of a script, document 01, "Refused inputs": "In a script, 6 and 7 are judged record by record, 6 first in a record cut
 -- off; an unknown kind gives 7; the first bad record decides. Then comes 8; then 3 over all records, then 4, each at the first such
 -- record's offset; then 9". Assumes nothing.
-use Prim.Native.Nat.{ℕ, _+_, _*_}
+use Prim.Native.Nat.{ℕ, _*_}
 use mathlib.Core.Bool.{Bool}
 use mathlib.Core.List.{List, [], _∷_}
-use lib.Dec.{ltb, leb, eqb}
+use lib.Dec.{leb, eqb}
 use lib.ListN.{length}
 use Rattle.isa.specs.Choice.{pick}
 use Rattle.cpu.specs.Range.{nibbles, optionsOk}
 use Rattle.machine.specs.Events.{Input, power, named, valuesOk}
 use Rattle.machine.specs.declared.events.Named.the-variants.{Known, Unknown}
-use Rattle.script.specs.Format.{sizeAt, kindAt, known, sizeOf, offsets, inputAt}
+use Rattle.records.specs.Records.{kindAt, formatBy, offsets}
+use Rattle.script.specs.Format.{sizeOf, inputAt}
 use Rattle.script.specs.declared.Checked.{Checked}
 use Rattle.script.specs.declared.check.Rule.{Rule}
 use Rattle.script.specs.declared.check.Rule.the-variants.{Format, Values, Choices}
@@ -35,13 +36,9 @@ unfoldable pub first : (ℕ → ℕ) → List ℕ → Checked
 first rule [] = fine
 first rule (at ∷ rest) = pick (eqb (rule at) 0) (first rule rest) (refused (rule at) at)
 
--- "6: .. record cut off or payload length wrong"; "7: unknown kind"; "6 first in a record cut off". A record is cut off where fewer than
--- 4 bytes are left or its payload runs past the end
+-- "6: .. record cut off or payload length wrong"; "7: unknown kind"; "6 first in a record cut off": the kind is the one that the record names
 unfoldable pub formatAt : List ℕ → ℕ → ℕ
-formatAt s at =
-    pick (ltb (length s) (at + 4)) 6
-    (pick (ltb (length s) (at + 4 + sizeAt s at)) 6
-    (pick (known (kindAt s at)) (pick (eqb (sizeAt s at) (sizeOf (kindAt s at))) 0 6) 7))
+formatAt s at = formatBy (sizeOf (inputAt s at)) s at
 
 -- "3: in an image, event or record: nibble other than an option over 15, INT over 1"
 unfoldable pub valueOf : Input → ℕ

@@ -9,7 +9,8 @@ use Rattle.machine.specs.Events.{Input, answerTo}
 use Rattle.machine.specs.Report.{reported}
 use Rattle.machine.specs.declared.Machine.{Machine}
 use Rattle.machine.specs.declared.Answer.{Answer}
-use Rattle.script.specs.Format.{sizeAt, inputAt, inputs}
+use Rattle.records.specs.Records.{sizeAt}
+use Rattle.script.specs.Format.{inputAt, inputs}
 use Rattle.script.specs.Check.{formatAt, checked}
 use Rattle.script.specs.declared.Checked.{Checked}
 use Rattle.script.specs.declared.Progress.{Progress}

@@ -14,9 +14,8 @@ use crate::Checked;
 use crate::Progress;
 use crate::Record;
 use crate::check::check_script;
-use crate::check::format_at;
+use crate::format::format_at;
 use crate::format::record_at;
-use crate::format::size_at;
 use cpu::Cpu;
 use machine::Answer;
 use machine::Machine;
@@ -24,6 +23,7 @@ use machine::events::Named;
 use machine::events::happened;
 use machine::power::filled;
 use machine::report::write_report;
+use records::size_at;
 
 // What a machine answers to a record.
 fn answer_to(input: Record, mask: &[u8], machine: Machine) -> Answer

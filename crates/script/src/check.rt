@@ -1,50 +1,25 @@
 // The whole check of a script, before anything runs.
 ghost use mathlib.Core.Path.{_≡_};
-ghost use Prim.Native.Nat.{_+_, _<_, _≤_};
-ghost use lib.ListN.{length};
-ghost use Rattle.script.specs.Format.{inputOf, inputAt, offsets};
-ghost use Rattle.script.specs.Check.{checked, choiceOf, first, formatAt, ruled, valueOf};
+ghost use Rattle.records.specs.Records.{offsets};
+ghost use Rattle.script.specs.Format.{inputOf};
+ghost use Rattle.script.specs.Check.{checked, choiceOf, first, ruled, valueOf};
 use crate::Checked;
 use crate::Record;
-use crate::format::kind_at;
+use crate::format::POWER_ON;
+use crate::format::format_at;
 use crate::format::record_at;
-use crate::format::size_at;
-use crate::format::size_of;
 use machine::events::Named;
 use machine::events::values_ok;
 use machine::ranges::options_ok;
+use records::count;
+use records::kind_at;
+use records::size_at;
 
 // What is judged record by record: 6 and 7, then 3, then 4.
 pub enum Rule {
     Format,
     Values,
     Choices,
-}
-
-// Refusal 6 or 7 of the record at an offset, 0 for none.
-pub(crate) fn format_at(s: &[u8], at: usize) -> u8
-    requires { ⌜ at ≤ length (now s) ⌝ }
-    ensures { λ r. ⌜ r ≡ formatAt (now (s .entry)) at ⌝ }
-{
-    if s.len() < at + 4 {
-        return 6;
-    }
-    let size = size_at(s, at);
-    if s.len() < at + 4 + size {
-        return 6;
-    }
-    let kind = kind_at(s, at);
-    if kind == 0 {
-        return 7;
-    }
-    if 6 < kind {
-        return 7;
-    }
-    let right = size_of(kind);
-    if size != right {
-        return 6;
-    }
-    0
 }
 
 // Refusal 3 of what a kind names, 0 for none.
@@ -94,7 +69,6 @@ fn choice(input: Record) -> u8
 
 // What a rule says of the record at an offset.
 fn judged(rule: Rule, s: &[u8], at: usize) -> u8
-    requires { ⌜ at ≤ length (now s) ⌝ }
     ensures { λ r. ⌜ r ≡ ruled rule (now (s .entry)) at ⌝ }
 {
     match rule {
@@ -122,19 +96,6 @@ fn first(rule: Rule, s: &[u8]) -> Checked
     }
 }
 
-// How many records there are.
-fn count(s: &[u8]) -> usize
-    ensures { λ r. ⌜ r ≡ length (offsets (now (s .entry))) ⌝ }
-{
-    let mut at = 0;
-    let mut n = 0;
-    while at < s.len() {
-        n += 1;
-        at = at + 4 + size_at(s, at);
-    }
-    n
-}
-
 // The check: `room` is the length of the report buffer.
 pub fn check_script(mask: &[u8], script: &[u8], room: usize) -> Checked
     ensures { λ r. ⌜ r ≡ checked (now (mask .entry)) (now (script .entry)) room ⌝ }
@@ -155,7 +116,7 @@ pub fn check_script(mask: &[u8], script: &[u8], room: usize) -> Checked
     if format.number != 0 {
         return format;
     }
-    if kind_at(script, 0) != 1 {
+    if kind_at(script, 0) != POWER_ON {
         return Checked {
             number: 8,
             offset: 0,

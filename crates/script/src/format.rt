@@ -1,56 +1,26 @@
-// The record format: what stands at an offset of a script. Past the end every byte reads as 0.
+// A script's records: the input at an offset, and the payload length of each kind.
 ghost use mathlib.Core.Path.{_≡_};
-ghost use Prim.Native.Nat.{_+_, _<_, _≤_};
-ghost use lib.ListN.{getD, length};
-ghost use Rattle.script.specs.Format.{inputAt, inputOf, kindAt, optionsAt, payloadAt, sizeAt, sizeOf, wordAt};
+ghost use mathlib.Core.List.{List};
+ghost use Prim.Native.Nat.{ℕ};
+ghost use Rattle.records.specs.Records.{kindAt};
+ghost use Rattle.script.specs.Check.{formatAt};
+ghost use Rattle.script.specs.Format.{inputAt, inputOf, optionsAt, sizeOf};
 use crate::Record;
 use cpu::Options;
+use machine::events::Event;
+use machine::events::Named;
 use machine::events::event_of;
+use records::Size;
+use records::cut_off;
+use records::kind_at;
+use records::payload_at;
+use records::size_at;
+use records::size_refusal;
 
-fn byte(s: &[u8], i: usize) -> u8
-    ensures { λ r. ⌜ r ≡ getD (now (s .entry)) i 0 ⌝ }
-{
-    if i < s.len() {
-        return s[i];
-    }
-    0
-}
-
-// A little-endian number of two bytes.
-fn word(s: &[u8], i: usize) -> u16
-    requires { ⌜ i ≤ length (now s) + 4 ⌝ }
-    ensures { λ r. ⌜ r ≡ wordAt (now (s .entry)) i ⌝ }
-{
-    let low = byte(s, i) as u16;
-    let high = byte(s, i + 1) as u16;
-    low + 256 * high
-}
-
-// The payload length of the record at an offset.
-pub(crate) fn size_at(s: &[u8], at: usize) -> usize
-    requires { ⌜ at ≤ length (now s) ⌝ }
-    ensures { λ r. ⌜ (r ≡ sizeAt (now (s .entry)) at) × (r ≤ 65535) ⌝ }
-{
-    word(s, at) as usize
-}
-
-pub(crate) fn kind_at(s: &[u8], at: usize) -> u16
-    requires { ⌜ at ≤ length (now s) ⌝ }
-    ensures { λ r. ⌜ r ≡ kindAt (now (s .entry)) at ⌝ }
-{
-    word(s, at + 2)
-}
-
-// Byte `k` of its payload.
-fn payload_at(s: &[u8], at: usize, k: usize) -> u8
-    requires { ⌜ (at ≤ length (now s)) × (k < 6) ⌝ }
-    ensures { λ r. ⌜ r ≡ payloadAt (now (s .entry)) at k ⌝ }
-{
-    byte(s, at + 4 + k)
-}
+// The kind of a power-on. The others are the machine's events.
+pub const POWER_ON: u16 = 1;
 
 fn options_at(s: &[u8], at: usize) -> Options
-    requires { ⌜ at ≤ length (now s) ⌝ }
     ensures { λ r. ⌜ r ≡ optionsAt (now (s .entry)) at ⌝ }
 {
     let rate = payload_at(s, at, 0);
@@ -67,34 +37,62 @@ fn options_at(s: &[u8], at: usize) -> Options
     }
 }
 
-// The payload length that a kind has.
-pub(crate) fn size_of(kind: u16) -> usize
-    ensures { λ r. ⌜ r ≡ sizeOf kind ⌝ }
-{
-    match kind {
-        1 => 6,
-        2 => 2,
-        3 => 3,
-        4 => 1,
-        5 => 2,
-        _ => 0,
-    }
-}
-
 // The record at an offset.
 pub(crate) fn record_at(s: &[u8], at: usize) -> Record
-    requires { ⌜ at ≤ length (now s) ⌝ }
     ensures { λ r. ⌜ inputOf r ≡ inputAt (now (s .entry)) at ⌝ }
 {
     let kind = kind_at(s, at);
-    if kind == 1 {
+    if kind == POWER_ON {
         let options = options_at(s, at);
         let fill = payload_at(s, at, 5);
         return Record::Power(options, fill);
     }
-    let count = word(s, at + 4);
     let a = payload_at(s, at, 0);
     let b = payload_at(s, at, 1);
     let c = payload_at(s, at, 2);
+    let count = a as u16 + 256 * b as u16;
     Record::Other(event_of(kind, count, a, b, c))
+}
+
+// The payload length that an event has.
+fn event_size(event: Event) -> Size
+    ensures { λ r. ⌜ r ≡ sizeOf (inputOf (Record.Other (Named.Known event))) ⌝ }
+{
+    match event {
+        Event::Run(_) => Size::Of(2),
+        Event::Pins(_, _, _) => Size::Of(3),
+        Event::Int(_) => Size::Of(1),
+        Event::Tmclk(_) => Size::Of(2),
+        Event::Res => Size::Of(0),
+    }
+}
+
+fn named_size(named: Named) -> Size
+    ensures { λ r. ⌜ r ≡ sizeOf (inputOf (Record.Other named)) ⌝ }
+{
+    match named {
+        Named::Known(event) => event_size(event),
+        Named::Unknown => Size::UnknownKind,
+    }
+}
+
+// The payload length that a kind has, whatever stands in the payload.
+fn size_of(kind: u16) -> Size
+    ensures { λ r. ⌜ ((s : List ℕ) (at : ℕ) → kind ≡ kindAt s at → r ≡ sizeOf (inputAt s at)) ⌝ }
+{
+    if kind == POWER_ON {
+        return Size::Of(6);
+    }
+    named_size(event_of(kind, 0, 0, 0, 0))
+}
+
+// Refusal 6 or 7 of the record at an offset, 0 for none.
+pub(crate) fn format_at(s: &[u8], at: usize) -> u8
+    ensures { λ r. ⌜ r ≡ formatAt (now (s .entry)) at ⌝ }
+{
+    if cut_off(s, at) {
+        return 6;
+    }
+    let size = size_of(kind_at(s, at));
+    size_refusal(size, size_at(s, at))
 }

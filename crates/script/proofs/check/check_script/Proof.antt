@@ -29,7 +29,7 @@ use Rattle.script.proofs.Checks.{
   stop9,
   pass9,
 }
-use Rattle.script.proofs.Offsets.{few}
+use Rattle.records.proofs.Offsets.{few}
 use Rattle.script.proofs.check.check_script.Statement.{statement}
 use Rattle.script.proofs.check.check_script.Tie as tie
 

@@ -3,7 +3,7 @@ use Prim.Native.Nat.{ℕ, _+_, _-_}
 use mathlib.Core.Path.{_≡_, refl, sym, ap, _∙_}
 use native.Mathlib.Omega.{arith}
 use lib.ListN.{length}
-use Rattle.script.specs.Format.{offsetsFrom, offsets}
+use Rattle.records.specs.Records.{offsetsFrom, offsets}
 use Rattle.script.specs.Check.{refused, first, ruled}
 use Rattle.script.proofs.Checks.{first-end, first-bad, first-good}
 use Rattle.script.proofs.check.first.Statement.{statement}

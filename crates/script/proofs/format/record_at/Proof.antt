@@ -1,9 +1,10 @@
 -- `script::format::record_at` meets its contract: a power-on, or what the kind names with its payload. Assumes nothing.
-use Prim.Native.Nat.{ℕ}
+use Prim.Native.Nat.{ℕ, _+_, _*_}
 use mathlib.Core.Path.{_≡_, refl, sym, ap, ap₂, _∙_}
 use borrow.Author.Tests.{ne-eqb}
 use Rattle.cpu.specs.declared.Options.{Options}
 use Rattle.machine.specs.Events.{power, named, eventOf}
+use Rattle.records.proofs.Written.{payload-word}
 use Rattle.script.specs.Format.{inputAt, filled}
 use borrow.Author.Needs.{needs}
 use Rattle.script.proofs.format.record_at.Statement.{statement}
@@ -21,13 +22,18 @@ returns c =
 returns-2 : tie.Need-returns-2
 unfolding inputAt
 returns-2 c =
-    let kind = c .before .before .before .before .before .before .kind-at .ensures in
-    ap named (c .event-of .ensures ∙ same kind (c .before .before .before .before .word .ensures) (c .before .before .before .payload-at2 .ensures) (c .before .before .payload-at3 .ensures) (c .before .payload-at4 .ensures))
-    ∙ rw (ne-eqb _ 1 (λ y. c .before .before .before .before .before .if1 .left (kind ∙ y))) refl
+    let test = c .before .before .before .before in
+    let args = test .before .before .before .args in
+    let kind = test .before .kind-at .ensures in
+    let a = c .before .before .before .payload-at2 .ensures in
+    let b = c .before .before .payload-at3 .ensures in
+    let count = ap₂ (λ (x y : ℕ). x + 256 * y) a b ∙ payload-word (args .s .now) (args .at) in
+    ap named (c .event-of .ensures ∙ same kind count a b (c .before .payload-at4 .ensures))
+    ∙ rw (ne-eqb _ 1 (λ y. test .if1 .left (kind ∙ y))) refl
 
 pub record-at-spec : {M : Type 1} → statement M
 record-at-spec =
     tie.close
     (tie.spec
-    (λ c κs. search needs) (λ c κs. search needs) (λ c κs. search needs) returns (λ c. search needs) (λ c κs. search needs)
-    (λ c κs. search needs) (λ c κs. search needs) (λ c κs. search needs) (λ c κs. search needs) returns-2)
+    (λ c κs. search needs) (λ c κs. search needs) (λ c κs. search needs) returns (λ c κs. search needs) (λ c κs. search needs)
+    (λ c κs. search needs) (λ c. search needs) (λ c. search needs) (λ c. search needs) (λ c. search needs) (λ c. search needs) returns-2)

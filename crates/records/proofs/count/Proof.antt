@@ -1,12 +1,12 @@
--- `script::check::count` meets its contract. The loop's invariant: the records passed and those from `at` on are all. Assumes nothing.
+-- `records::count` meets its contract. The loop's invariant: the records passed and those from `at` on are all. Assumes nothing.
 use Prim.Native.Nat.{ℕ, _+_, _-_}
 use mathlib.Core.Path.{_≡_, ap}
 use native.Mathlib.Omega.{arith}
 use lib.ListN.{length}
-use Rattle.script.specs.Format.{offsetsFrom, offsets}
-use Rattle.script.proofs.Offsets.{from-end, from-next, few}
-use Rattle.script.proofs.check.count.Statement.{statement}
-use Rattle.script.proofs.check.count.Tie as tie
+use Rattle.records.specs.Records.{offsetsFrom, offsets}
+use Rattle.records.proofs.Offsets.{from-end, from-next, few}
+use Rattle.records.proofs.count.Statement.{statement}
+use Rattle.records.proofs.count.Tie as tie
 
 abbrev Inv-loop : tie.InvT-loop
 Inv-loop s at₀ n₀ at n = n + length (offsetsFrom s at) ≡ length (offsets s)

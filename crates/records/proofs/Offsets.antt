@@ -9,7 +9,7 @@ use lib.Dec.{ltb}
 use lib.ListN.{length}
 use borrow.Author.Tests.{lt-ltb, le-ltb, ltb-true, ltb-false}
 use Rattle.isa.specs.Choice.{pick}
-use Rattle.script.specs.Format.{sizeAt, within, offsetsFrom}
+use Rattle.records.specs.Records.{sizeAt, within, offsetsFrom}
 
 -- past the end
 none : (n : ℕ) (s : List ℕ) (at : ℕ) → length s ≤ at → within n s at ≡ []

@@ -1,0 +1,4 @@
+pub mod Ends
+pub mod Offsets
+pub mod Formats
+pub mod Written
