@@ -11,13 +11,13 @@ use base.Logic.{SProp, ent, emp, via, fst∗, snd∗, exE, id⊢}
 use base.Fml.{GName, Lft, Share, ftrue, flft, fres, fshr-bor}
 use prog.Model.{Model}
 use prog.Routine.{Routine, Env}
-use prog.Wp.{Heap, Calls, Loops, WpFn, Tables, Closed}
+use prog.Wp.{Heap, Calls, Loops, WpFn, Closed}
 use ghost.Atoms.{Atoms, sem}
 use contract.Monad.{fact}
-use contract.Running.{GhostRules, Running, givenOf, tables, tablesOf}
+use contract.Running.{GhostRules, Running, givenOf, tables}
 use types.Kit.{Given, ‵, raw, some, later, _⊛_, ⋆, _$_, _∵_, !, qed, by, move, keep, drop, use1, split, join, pick, fsplit, fsplit3, fjoin, fjoin3, feqI, suffices, frame, await, done}
 use types.Run.{look, init, forget, stop, from, load, and-then, no-more, land, returns, enter, alloc1, alloc0, params1, pass1, pass0, free1, free0}
-use sound.WpLaws.{FmC, fmOf, WpFn-mono}
+use sound.WpLaws.{FmC}
 use denote.RattleType.{owns}
 use denote.Laws.{Is, shows}
 use denote.Memory.{partAt, pointee}
@@ -34,9 +34,9 @@ use denote.Triple.Spec.{Meets, tripleOf}
 use denote.Triple.Statement.{Contract, Triple}
 use denote.Triple.Call.{calls-at}
 use denote.Triple.Clauses.{Ended, Clauses, closing, ensured, lasts}
-use denote.Triple.Table.{entered, cited}
-use denote.Triple.Walked.{says, Stays, stay-none-ref, walkOf, AllGo, goes-none-ref, Walks, ends-at, walked, walk-meets}
+use denote.Triple.Walked.{says, Stays, stay-none-ref, walkOf, AllGo, goes-none-ref, Walks, ends-at, walked}
 use denote.Exit.{yes}
+use Rattle.walks.proofs.Calling.{calling}
 use Rattle.walks.proofs.Copied.{laid, lent-copied}
 
 module _ (D : Declared) (w : Width) where
@@ -128,15 +128,10 @@ module _ (D : Declared) (w : Width) where
     all-go : AllGo 𝓤 H A W 1 (outer .signature .params) (outer .kept) stayed
     all-go = (goes-none-ref 𝓤 H A W 1 (0 ∷ []) tt (plain (λ _. row D)) yes, tt)
 
-    meets : (𝓣 : Tables 𝓤 H) (g : Name) → Triple 𝓤 (𝓣 .C g) (Called P 𝓤 H A) → Meets 𝓤 H A (outer .signature) (WpFn 𝓤 H (𝓣 .C) (𝓣 .Λ) (function g)) (closing 𝓤 H A outer (asked P 𝓤))
-    meets 𝓣 g known =
-        walk-meets 𝓤 H A outer stayed W all-go (asked P 𝓤) (WpFn 𝓤 H (𝓣 .C) (𝓣 .Λ) (function g)) (WpFn-mono 𝓤 H (W .laws) 𝓣 (function g)) (walks (𝓣 .C) (𝓣 .Λ) g (fmOf 𝓤 H (W .laws) 𝓣) known)
-
 -- the function f over g, where g's routine is known to meet its contract
 pub query : (D : Declared) (L : LL.Laws D) (pl : Plains (fields D)) (cs : LL.Copyables (D .parts)) (w : Width) (P : D .D → ℕ → Type 0) {M : Type 1} (𝓤 : URA M) (H : Heap 𝓤) (𝓜 : Model 𝓤 H) (𝓖 : GhostRules 𝓤 H) (𝓡 : Running 𝓤 H 𝓜)
     (env : Env) (f g : Name) (r : Routine) → env g ≡ r → Closed 𝓤 H (tables 𝓤 H 𝓜 𝓡 env .C) (tables 𝓤 H 𝓜 𝓡 env .Λ) f (function D w g) → Triple 𝓤 (𝓡 .run r) (Called D w P 𝓤 H (𝓖 .A))
     → Meets 𝓤 H (𝓖 .A) (outer D w .signature) (𝓡 .run (env f)) (closing 𝓤 H (𝓖 .A) (outer D w) (asked D w P 𝓤))
-unfolding tablesOf
-query D L pl cs w P 𝓤 H 𝓜 𝓖 𝓡 env f g r is unfolded met =
-    entered 𝓤 H (tripleOf 𝓤 H (𝓖 .A) (outer D w .signature) (closing 𝓤 H (𝓖 .A) (outer D w) (asked D w P 𝓤))) (tables 𝓤 H 𝓜 𝓡 env .C) (tables 𝓤 H 𝓜 𝓡 env .Λ) f (function D w g) unfolded
-    (meets D w L pl cs P 𝓤 H (𝓖 .A) (givenOf 𝓤 H 𝓜 𝓖) (tablesOf 𝓤 H 𝓜 (tables 𝓤 H 𝓜 𝓡 env)) g (cited 𝓤 H (Called D w P 𝓤 H (𝓖 .A)) 𝓜 𝓡 env g r is met))
+query D L pl cs w P 𝓤 H 𝓜 𝓖 𝓡 env f g =
+    calling 𝓤 H 𝓜 𝓖 𝓡 (outer D w) (stayed D w) (all-go D w L pl cs P 𝓤 H (𝓖 .A) (givenOf 𝓤 H 𝓜 𝓖)) (asked D w P 𝓤) (function D w g) g (Called D w P 𝓤 H (𝓖 .A))
+    (λ C Λ. walks D w L pl cs P 𝓤 H (𝓖 .A) (givenOf 𝓤 H 𝓜 𝓖) C Λ g) env f
