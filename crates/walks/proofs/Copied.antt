@@ -13,7 +13,6 @@ use prog.Wp.{Heap, Env, Calls, Loops, spotOf}
 use ghost.Atoms.{Atoms}
 use types.Kit.{Given, Item, ‵, Post, runs, Seq, _$_, nth, put, move}
 use types.Run.{look, look-raw, init, stop, hop, from, load, of-opd, assigns}
-use denote.RattleType.{RattleType}
 use denote.Laws.{Is, shows}
 use denote.Memory.{partAt, cellAt}
 use denote.Steps.{looks, shuts, peeks}

@@ -26,7 +26,7 @@ use denote.Memory.{lone, partAt, pointee}
 use denote.Plain.{UInt, uint-lawful}
 use denote.Builtin.{RefOf}
 use denote.Ref.{RefT, ShrRef, ptr-vals, shr-tells}
-use denote.Slice.{sliceTy, sliceVal, MutSlice, Room, finally, slice-vals, mut-slice-tells, mut-slice-lawful}
+use denote.Slice.{sliceTy, sliceVal, MutSlice, finally, slice-vals, mut-slice-tells, mut-slice-lawful}
 use denote.Signature.{plain, mutSliceOf}
 use denote.Steps.{owned, peeks, heard, nothing}
 use denote.Struct.Declared.{Declared, fields, row}
