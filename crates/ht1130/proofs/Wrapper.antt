@@ -1,7 +1,7 @@
 -- `ht1130_power_on` and `ht1130_apply` are one function but for the widths of their first two numbers, the function that they call and what that
 -- answers: here it is walked once, by hand, over its MIR. The borrow is opened, the record is copied out and handed on; what an answer that
 -- refuses nothing has is stored behind the reference, and the borrow is closed at it. All that the walk knows of the function that is called is
--- its contract, and it is over any record: at one of so many fields the prover would take three times as long. Assumes nothing.
+-- its contract, and it is over any record: at a machine's own fields the prover takes five times as long. Assumes nothing.
 use mathlib.Core.Path.{_≡_, refl, sym, _∙_, ap, subst}
 use Prim.Native.Nat.{ℕ, _<_, _^_}
 use mathlib.Core.Bool.{Bool, not}
@@ -81,6 +81,7 @@ module _ (D : Declared) (Y : Answers D) (w w′ : Width) where
   abbrev R : RattleType
   R = row D
 
+  -- the answer's type
   abbrev N : Declared
   N = record { name = Y .name; args = []; parts = parts D; D = Y .Answer; to = both D (Y .held) (Y .refusal); to-one = Y .one }
 
@@ -128,7 +129,7 @@ module _ (D : Declared) (Y : Answers D) (w w′ : Width) where
       lifetimes = 1;
       outlives = [];
       params = plain (λ _. R) ∷ plain (λ _. UInt w) ∷ plain (λ _. UInt w′) ∷ plain (λ _. u8) ∷ plain (λ _. u8) ∷ plain (λ _. u8) ∷ SliceRefOf (0 ∷ []) tt (plain (λ _. u8)) (λ _. tt) ∷ [];
-      result = plain (λ _. (row N));
+      result = plain (λ _. row N);
     };
     kept = (yes, (yes, (yes, (yes, (yes, (yes, (yes, tt)))))));
   }
@@ -163,7 +164,7 @@ module _ (D : Declared) (Y : Answers D) (w w′ : Width) where
     abbrev x : Arg
     x = (record { ptr = (b, o); name = γ; now = h }, (k, (l, (m, (n, (p, (s, tt)))))))
 
-    -- the machine values: the slice's, a machine's and an answer's
+    -- the machine values: the slice's, a record's and an answer's
     abbrev v : Val
     v = sliceVal (s .ptr) (length (s .now))
 
@@ -230,7 +231,7 @@ module _ (D : Declared) (Y : Answers D) (w w′ : Width) where
         abbrev En : Env 𝓤 H
         En = (tyInt w8, l₀) ∷ (lent, l₁) ∷ (tyInt w, l₂) ∷ (tyInt w′, l₃) ∷ (tyInt w8, l₄) ∷ (tyInt w8, l₅) ∷ (tyInt w8, l₆) ∷ (slice, l₇) ∷ (laid N, l₈) ∷ (laid D, l₉) ∷ (tyBool, l₁₀) ∷ []
 
-        -- what is had, at what _10 has and at the machine in the record
+        -- what is had, at what _10 has and at what lies behind the reference
         abbrev Found : Item 𝓤 → D .D → Y .Answer → List (Item 𝓤)
         Found test held r =
             (‵ (flft κ′ q′) ⊛ ‵ ftrue) ∷ ‵ Own ∷ ‵ (fat fullShare (laid D) b o (mach held)) ∷ ‵ (fobor κ q (Borrowed (mem R) b o γ)) ∷ ‵ (fobs γ (R .coded .code h)) ∷ ‵ (fauth γ (R .coded .code h))
@@ -243,7 +244,7 @@ module _ (D : Declared) (Y : Answers D) (w w′ : Width) where
           ends : (t : Bool) → Sq W (Found (‵ (fat fullShare tyBool l₁₀ 0 (vbool t))) (Y .held r) r) (runs C Λ En last (atRet En Post))
           ends t =
               assigns ! (of-opd ! (load ! (from ! (fld ! refl (stop !))) (look-in ! 10 (sub ! 1 refl (whole !))))) (from ! (stop !)) (init ! 26 refl (tt, record { fits = small })) $
-              -- the borrow is closed at the answer's machine
+              -- the borrow is closed at the answer's record
               move ! (2 ∷ []) $ use1 W (‵ (cellAt fullShare (R .mir) (mach (Y .held r) ∷ []) b o)) (W .laws .at-raw fullShare (laid D) b o (mach (Y .held r))) $
               owned ! R (Is R) (LL.makes D pl 𝓤 H A) (Y .held r) _ made $ move ! (1 ∷ 0 ∷ 4 ∷ 5 ∷ 6 ∷ []) $ closes ! tt R (Y .held r) (mach (Y .held r) ∷ []) b o $
               -- [obs; the borrow; its token; the bytes' token; what the bytes own; _10; …; .. _0; …]
@@ -251,7 +252,7 @@ module _ (D : Declared) (Y : Answers D) (w w′ : Width) where
               move ! (25 ∷ 26 ∷ []) $ free1 ! $ move ! (23 ∷ 24 ∷ []) $ free1 ! $ move ! (21 ∷ 22 ∷ []) $ free1 ! $ move ! (19 ∷ 20 ∷ []) $ free1 ! $ move ! (17 ∷ 18 ∷ []) $ free1 ! $ move ! (15 ∷ 16 ∷ []) $ free1 ! $
               move ! (13 ∷ 14 ∷ []) $ free1 ! $ move ! (11 ∷ 12 ∷ []) $ free1 ! $ move ! (9 ∷ 10 ∷ []) $ free1 ! $ move ! (7 ∷ 8 ∷ []) $ free1 ! $ move ! (5 ∷ 6 ∷ []) $ free1 ! $ free0 ! $ by ! (exits r small e)
 
-          -- either way the record has the answer's machine: it is stored, or it is what was there
+          -- either way the answer's record is there: it is stored, or it is what was there
           stores : Sq W (Found (‵ (froom tyBool l₁₀ 0)) h r) (runs C Λ En rest (atRet En Post))
           stores =
               assigns ! (bin ! (load ! (from ! (fld ! refl (stop !))) (look-in ! 10 (sub ! 1 refl (whole !)))) (lit ! tt) tt) (from ! (stop !)) (init ! 6 refl (tt, tt)) $
@@ -281,7 +282,7 @@ module _ (D : Declared) (Y : Answers D) (w w′ : Width) where
             move ! (2 ∷ 0 ∷ []) $ use2 W (raw (Called answer 𝓤 H A .pre to)) (goes was) $
             calls-at ! fm (Called answer 𝓤 H A) known to (and-then ! (load ! (from ! (stop !)) (look ! 11 refl)) (and-then ! (load ! (from ! (stop !)) (look ! 25 refl)) (and-then ! (load ! (from ! (stop !)) (look ! 23 refl))
             (and-then ! (load ! (from ! (stop !)) (look ! 21 refl)) (and-then ! (load ! (from ! (stop !)) (look ! 19 refl)) (and-then ! (load ! (from ! (stop !)) (look ! 17 refl)) (and-then ! (load ! (from ! (stop !)) (look ! 15 refl)) (no-more !)))))))) (λ u.
-            use1 W (later (some (λ (r : Y .Answer). ((‵ (flft κ′ q′) ⊛ ‵ ftrue) ⊛ ‵ ((row N) .own r (u ∷ []))) ⊛ raw (ensured 𝓤 H A inner (answers answer 𝓤) (κ′, tt) args tt r)))) (id⊢ 𝓤 _) $ await ! tt $ pick ! (λ r.
+            use1 W (later (some (λ (r : Y .Answer). ((‵ (flft κ′ q′) ⊛ ‵ ftrue) ⊛ ‵ (row N .own r (u ∷ []))) ⊛ raw (ensured 𝓤 H A inner (answers answer 𝓤) (κ′, tt) args tt r)))) (id⊢ 𝓤 _) $ await ! tt $ pick ! (λ r.
             split ! $ move ! (1 ∷ []) $ use1 W (raw (fact 𝓤 (r ≡ found))) (said r) $ heard ! (r ≡ found) (λ e. split ! $ move ! (1 ∷ []) $
             -- [what the answer owns; the bytes' token; what the bytes own; true; the record's cell; what it owned; the open borrow; obs; auth; true; _10; …; .. room for _0; …]
             peeks ! (row N) (Is (row N)) (shows 𝓤 H A (row N)) r (u ∷ []) (λ is.

@@ -1,4 +1,4 @@
--- A record behind a reference is copied out, as `_k = *_i` does: two steps of a walk, over any struct of the source, any locals and any code after it.
+-- A record behind a reference is copied out, as `_k = *_i` does: two steps of a walk, over any struct of the source, any locals and any code after.
 -- `copied` starts from an opened borrow; `lent-copied` looks into a shared one and shuts it again. Assumes nothing.
 use mathlib.Core.Path.{_≡_, refl, sym, subst}
 use Prim.Native.Nat.{ℕ, suc}
