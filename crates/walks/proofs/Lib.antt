@@ -1,0 +1,4 @@
+pub mod Calling
+pub mod Copied
+pub mod Filling
+pub mod Query
