@@ -8,7 +8,7 @@ use native.Mathlib.Omega.{arith}
 use lib.Dec.{ltb}
 use lib.ListN.{length}
 use borrow.Author.Tests.{lt-ltb, ltb-true}
-use Rattle.isa.specs.Code.{bytesOf, inRange, leading, bitInRange}
+use Rattle.isa.specs.Code.{addresses, bytesOf, inRange, leading, bitInRange}
 use Rattle.isa.specs.Timing.{columnsOf}
 use Rattle.isa.specs.declared.Pointer.{Pointer}
 use Rattle.isa.specs.declared.Pointer.the-variants.{R1R0, R3R2}
@@ -104,7 +104,7 @@ by-form (I.InA Pm) h = host refl refl (refl, refl)
 by-form (I.InA Ps) h = host refl refl (refl, refl)
 by-form (I.InA Pp) h = host refl refl (refl, refl)
 by-form I.OutPaA h = host refl refl (refl, refl)
-by-form (I.Jmp t) h = host refl (in-b (t .0) 4096 (omega arith) h) (refl, refl)
+by-form (I.Jmp t) h = host refl (in-b (t .0) addresses (omega arith) h) (refl, refl)
 by-form (I.Branch t (Ja zero)) h = host refl (in-b (t .0) 2048 (omega arith) h) (refl, refl)
 by-form (I.Branch t (Ja (suc zero))) h = host refl (in-b (t .0) 2048 (omega arith) h) (refl, refl)
 by-form (I.Branch t (Ja (suc (suc zero)))) h = host refl (in-b (t .0) 2048 (omega arith) h) (refl, refl)
@@ -118,7 +118,7 @@ by-form (I.Branch t JnzA) h = host refl (in-b (t .0) 2048 (omega arith) h) (refl
 by-form (I.Branch t Jc) h = host refl (in-b (t .0) 2048 (omega arith) h) (refl, refl)
 by-form (I.Branch t Jnc) h = host refl (in-b (t .0) 2048 (omega arith) h) (refl, refl)
 by-form (I.Branch t Jtmr) h = host refl (in-b (t .0) 2048 (omega arith) h) (refl, refl)
-by-form (I.Call t) h = host refl (in-b (t .0) 4096 (omega arith) h) (refl, refl)
+by-form (I.Call t) h = host refl (in-b (t .0) addresses (omega arith) h) (refl, refl)
 by-form I.Ret h = host refl refl (refl, refl)
 by-form I.Reti h = host refl refl (refl, refl)
 by-form I.Clc h = host refl refl (refl, refl)

@@ -5,14 +5,15 @@ use mathlib.Core.Path.{_≡_, refl, sym, ap, subst, _∙_}
 use mathlib.Core.Bool.{Bool, true, false, _&&_}
 use mathlib.Core.List.{List, [], _∷_}
 use native.Mathlib.Omega.{arith}
-use lib.Dec.{eqb, ltb}
+use lib.Dec.{ltb}
 use lib.ListN.{length, take, getD, List·getD-eq-default}
-use borrow.Author.Tests.{ltb-true, ltb-false, lt-ltb, eq-eqb}
+use borrow.Author.Tests.{ltb-true, ltb-false, lt-ltb}
 use Rattle.isa.specs.Choice.{pick}
-use Rattle.isa.specs.Code.{bytesOf, inRange}
+use Rattle.isa.specs.Code.{addresses, bytesOf, inRange}
 use Rattle.isa.specs.Reading.{Reads, Reading, Entry, undefined, opcodes, complete, decoded}
 use Rattle.isa.specs.Timing.{Columns, lengthOf, cyclesOf}
-use Rattle.rom.specs.Fetching.{refused, byteAt, withTiming, fetching}
+use Rattle.rom.specs.Fetching.{refused, sized, Bytes, byteAt, withTiming, fetching}
+use Rattle.rom.proofs.Fetching.{byte-small, read-bytes, length-bytes, cycles-bytes}
 use Rattle.rom.specs.Writing as Writing
 use Rattle.rom.specs.Writing.{fitting, writing}
 use Rattle.isa.specs.declared.Instruction.{Instruction}
@@ -22,7 +23,6 @@ use Rattle.isa.proofs.Exact.{and-left, and-right, back, exact, timed}
 use Rattle.abi.specs.Forms.{Named, numbersOf, Meant, one, nothing, named, kept}
 use Rattle.abi.specs.Answers.{packed, packedNamed, readNumber, formOf, aOf, bOf, sizeOf, packedBytes, refusalOf, countOf, firstOf, secondOf, writeNumber, writingBy, writingOf}
 use Rattle.abi.specs.RoundTrip.{bytesAt, Gives, ReadThenWrite, WriteThenRead}
-use Rattle.rom.specs.Fetching.{Bytes}
 use Rattle.abi.proofs.Inverse as Inverse
 use Rattle.abi.proofs.Inverse.{by-form, inverse}
 use Rattle.abi.proofs.Kept.{named-kept}
@@ -105,12 +105,17 @@ module _ (x y : ℕ) (small : y < 256) where
         ∙ ap first (sym as-long)
 
   -- by the tests of a mask and an address, and by what the decoder answers: only what was read has neither refusal nor fault
-  through : (s t : Bool) (d : Decoded) → Reading x y d → readNumber (pick s (pick t (withTiming x d) (refused 5)) (refused 1)) % 2 ^ 16 ≡ 0
-      → Back (readNumber (pick s (pick t (withTiming x d) (refused 5)) (refused 1)))
+  through : (s t : Bool) (d : Decoded) → Reading x y d → readNumber (pick s (pick t (withTiming (lengthOf x) (cyclesOf x) d) (refused 5)) (refused 1)) % 2 ^ 16 ≡ 0
+      → Back (readNumber (pick s (pick t (withTiming (lengthOf x) (cyclesOf x) d) (refused 5)) (refused 1)))
   through true true (Read i) r h = written-back i r
   through true true Unreadable r h = absurd (omega arith)
   through true false d r h = absurd (omega arith)
   through false t d r h = absurd (omega arith)
+
+-- what stands at an address, by its bytes
+fetched : (mask : List ℕ) (a : ℕ) → fetching mask a
+    ≡ pick (sized mask) (pick (ltb a addresses) (withTiming (lengthOf (byteAt mask a)) (cyclesOf (byteAt mask a)) (decoded (byteAt mask a) (byteAt mask (a + 1)))) (refused 5)) (refused 1)
+fetched mask a = rw (read-bytes mask a, length-bytes mask a, cycles-bytes mask a) refl
 
 pub read-then-write : ReadThenWrite
 read-then-write mask address m w bytes e h f = f ∙ ap writeNumber there
@@ -122,12 +127,12 @@ read-then-write mask address m w bytes e h f = f ∙ ap writeNumber there
     y = byteAt mask (address + 1)
 
     small : y < 256
-    small = bytes ((address + 1) % 4096)
+    small = byte-small mask (address + 1) bytes
 
     there : Back x y small m
     there =
-        subst (Back x y small) (sym e)
-        (through x y small (eqb (length mask) 4096) (ltb address 4096) (decoded x y) (exact x y small) (rw e at h))
+        let m-is = e ∙ ap readNumber (fetched mask address) in
+        subst (Back x y small) (sym m-is) (through x y small (sized mask) (ltb address addresses) (decoded x y) (exact x y small) (rw m-is at h))
 
 -- ---- what is written
 -- past the map's end nothing is read
@@ -191,14 +196,15 @@ write-then-read form a b w mask address r e free size bytes inside holds f = by-
     y = byteAt mask (address + 1)
 
     small : y < 256
-    small = bytes ((address + 1) % 4096)
+    small = byte-small mask (address + 1) bytes
 
     by-range : (i : Instruction) (t : Bool) → named form a b ≡ one i → inRange i ≡ t → w ≡ writeNumber (fitting t (bytesOf i)) → Gives r (kept form a b) × (sizeOf r ≡ countOf w)
     by-range i false m ok g = absurd (omega arith)
     by-range i true m ok g =
         let reads = stands i ok w x y g holds in
         let read : r ≡ packedNamed (numbersOf i) (lengthOf x) (cyclesOf x) =
-        f ∙ (λ k. readNumber (pick (eq-eqb (length mask) 4096 size k) (pick (lt-ltb address 4096 inside k) (withTiming x (back x y i reads k)) (refused 5)) (refused 1))) in
+        f ∙ ap readNumber (fetched mask address)
+        ∙ (λ k. readNumber (pick (size k) (pick (lt-ltb address addresses inside k) (withTiming (lengthOf x) (cyclesOf x) (back x y i reads k)) (refused 5)) (refused 1))) in
         (rw (read, ← named-kept form a b i m) (gives x y small i reads), ap sizeOf read ∙ as-long x y small i reads ∙ sym (counts i ok w g))
 
     by-name : (d : Meant) → named form a b ≡ d → Gives r (kept form a b) × (sizeOf r ≡ countOf w)

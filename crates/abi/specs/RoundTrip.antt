@@ -2,9 +2,11 @@
 -- `ht1130_write`. Assumes nothing.
 use Prim.Native.Nat.{ℕ, _+_, _%_, _^_, _<_}
 use mathlib.Core.Path.{_≡_}
+use mathlib.Core.Bool.{true}
 use mathlib.Core.List.{List, [], _∷_}
-use lib.ListN.{length, take}
-use Rattle.rom.specs.Fetching.{Bytes, byteAt, fetching}
+use lib.ListN.{take}
+use Rattle.isa.specs.Code.{addresses}
+use Rattle.rom.specs.Fetching.{sized, Bytes, byteAt, fetching}
 use Rattle.abi.specs.Forms.{Named, kept}
 use Rattle.abi.specs.Answers.{readNumber, writeNumber, writingOf, formOf, aOf, bOf, sizeOf, refusalOf, countOf, firstOf, secondOf}
 
@@ -32,6 +34,6 @@ abbrev pub WriteThenRead : Type 0
 WriteThenRead =
     (form a b w : ℕ) (mask : List ℕ) (address r : ℕ)
     → w ≡ writeNumber (writingOf form a b) → refusalOf w ≡ 0
-    → length mask ≡ 4096 → Bytes mask → address < 4096
+    → sized mask ≡ true → Bytes mask → address < addresses
     → bytesAt mask address (countOf w) ≡ take (countOf w) (firstOf w ∷ secondOf w ∷ [])
     → r ≡ readNumber (fetching mask address) → Gives r (kept form a b) × (sizeOf r ≡ countOf w)

@@ -3,6 +3,7 @@
 use files::read_file;
 use files::write_file;
 use libc::STDOUT_FILENO;
+use rom::reader::MASK;
 
 fn put(s: &[u8]) {
     io::write_all(STDOUT_FILENO, s);
@@ -17,13 +18,13 @@ fn put_refused(refusal: u8, line: u32) {
 }
 
 fn assemble(text: &[u8]) {
-    let mut mask = [0u8; 4096];
+    let mut mask = [0u8; MASK];
     let answer = assembler::assemble::assemble(text, &mut mask);
     if answer.refusal != 0 {
         put_refused(answer.refusal, answer.line);
         return;
     }
-    if write_file(b"mask.bin", &mask) != 4096 {
+    if write_file(b"mask.bin", &mask) != MASK {
         put(b"mask.bin cannot be written\n");
     }
 }

@@ -15,7 +15,7 @@ use Rattle.isa.specs.Choice.{pick}
 use Rattle.operand.specs.Words.{among, place}
 use Rattle.operand.specs.Operand.{Part, Term, label, minus, number, plus, valueOf}
 use Rattle.operand.proofs.Texts.{both, case, differ, neither}
-use Rattle.assembler.specs.Forms.{field, size}
+use Rattle.assembler.specs.Forms.{field, size, romSize}
 use Rattle.assembler.specs.Statement.{Statement}
 use Rattle.assembler.specs.Program.{Above, addressOf, bytes, end, fitting, ifLabelled, isIn, labelOf, meets, misfit, misplaced, named}
 use Rattle.assembler.specs.Program.{next, sizeOf, span, within}
@@ -78,31 +78,31 @@ size-most s = case (eqb s 0)
 some-size : (s : ℕ) → eqb s 0 ≡ false → 0 < sizeIn s
 some-size s a = rw a (case (eqb s 1) (λ b. rw b (omega arith)) (λ b. rw b (case (eqb s 3) (λ d. rw d (omega arith)) (λ d. rw d (omega arith)))))
 
-field-most : (s : ℕ) → 16 ^ digitsIn s ≤ 4096
+field-most : (s : ℕ) → 16 ^ digitsIn s ≤ romSize
 field-most s = case (ltb s 3)
     (λ a. rw a (omega arith))
     (λ a. rw a (case (ltb s 5) (λ b. rw b (omega arith)) (λ b. rw b (case (ltb s 7) (λ d. rw d (omega arith)) (λ d. rw d (omega arith))))))
 
 -- ---- flags say what is written
 abbrev pub Flags : List ℕ → List ℕ → Type 0
-Flags written used = (a : ℕ) → a < 4096 → isIn written a ≡ not (eqb (getD used a 0) 0)
+Flags written used = (a : ℕ) → a < romSize → isIn written a ≡ not (eqb (getD used a 0) 0)
 
-free-size : (written used : List ℕ) → Flags written used → (at n : ℕ) → n ≤ 2 → (ltb 4096 (at + n) || meets written (span at n)) ≡ not
+free-size : (written used : List ℕ) → Flags written used → (at n : ℕ) → n ≤ 2 → (ltb romSize (at + n) || meets written (span at n)) ≡ not
     (isFree used at n)
-free-size written used f at zero h = case (leb (at + 0) 4096)
-    (λ e. rw (e, le-ltb 4096 (at + 0) (leb-true (at + 0) 4096 e)) refl) (λ e. rw (e, lt-ltb 4096 (at + 0) (leb-false (at + 0) 4096 e)) refl)
-free-size written used f at (suc zero) h = case (leb (at + 1) 4096)
-    (λ e. let u = leb-true (at + 1) 4096 e in rw (e, le-ltb 4096 (at + 1) u, f at (omega arith)) (one (eqb (getD used at 0) 0)))
-    (λ e. rw (e, lt-ltb 4096 (at + 1) (leb-false (at + 1) 4096 e)) refl)
+free-size written used f at zero h = case (leb (at + 0) romSize)
+    (λ e. rw (e, le-ltb romSize (at + 0) (leb-true (at + 0) romSize e)) refl) (λ e. rw (e, lt-ltb romSize (at + 0) (leb-false (at + 0) romSize e)) refl)
+free-size written used f at (suc zero) h = case (leb (at + 1) romSize)
+    (λ e. let u = leb-true (at + 1) romSize e in rw (e, le-ltb romSize (at + 1) u, f at (omega arith)) (one (eqb (getD used at 0) 0)))
+    (λ e. rw (e, lt-ltb romSize (at + 1) (leb-false (at + 1) romSize e)) refl)
   where
     one : (b : Bool) → (not b || false) ≡ not (not (not b) && true)
     one true = refl
     one false = refl
-free-size written used f at (suc (suc zero)) h = case (leb (at + 2) 4096)
-    (λ e. let u = leb-true (at + 2) 4096 e in
-    rw (e, le-ltb 4096 (at + 2) u, f at (omega arith), sym (add-one at), f (at + 1) (omega arith))
+free-size written used f at (suc (suc zero)) h = case (leb (at + 2) romSize)
+    (λ e. let u = leb-true (at + 2) romSize e in
+    rw (e, le-ltb romSize (at + 2) u, f at (omega arith), sym (add-one at), f (at + 1) (omega arith))
     (two (eqb (getD used at 0) 0) (eqb (getD used (at + 1) 0) 0)))
-    (λ e. rw (e, lt-ltb 4096 (at + 2) (leb-false (at + 2) 4096 e)) refl)
+    (λ e. rw (e, lt-ltb romSize (at + 2) (leb-false (at + 2) romSize e)) refl)
   where
     two : (a b : Bool) → (not a || (not b || false)) ≡ not (not (not a) && not (not b))
     two true true = refl
@@ -138,18 +138,18 @@ module _ {text : List ℕ} {above all : List (List ℕ)} {addresses : List ℕ} 
         by (origin ts e b f v p) = rw (e, f) (rw (plus-here ts, minus-here ts, v .added, v .taken) refl)
         by (coded ts e b f h v p) = rw (e, ne-eqb (r .form) 0 (λ q. omega arith)) refl
 
-    pub shows-stray : (eqb (r .form) 0 && not (within 4096 (r .plus) (r .minus))) ≡ true → misplaced s st ≡ true
+    pub shows-stray : (eqb (r .form) 0 && not (within romSize (r .plus) (r .minus))) ≡ true → misplaced s st ≡ true
     shows-stray h = by x
       where
         by : Shows text above all addresses st r → misplaced s st ≡ true
         by (broken e b) = absurd (differ (sym b ∙ readable))
         by (empty e b f l m) = absurd (differ (sym (rw f refl) ∙ h))
         by (origin ts e b f v p) = rw e
-            (rw (plus-here ts, minus-here ts, sym (v .added), sym (v .taken)) (both (eqb (r .form) 0) (not (within 4096 (r .plus) (r .minus))) h .1))
+            (rw (plus-here ts, minus-here ts, sym (v .added), sym (v .taken)) (both (eqb (r .form) 0) (not (within romSize (r .plus) (r .minus))) h .1))
         by (coded ts e b f g v p) = absurd (differ (sym (rw (ne-eqb (r .form) 0 (λ q. omega arith)) refl) ∙ h))
 
     -- where no ORG strays, a line has its place exactly when its bytes are free
-    pub shows-place-free : (used : List ℕ) → Flags (s .written) used → s .at ≤ 4096 → (eqb (r .form) 0 && not (within 4096 (r .plus) (r .minus)))
+    pub shows-place-free : (used : List ℕ) → Flags (s .written) used → s .at ≤ romSize → (eqb (r .form) 0 && not (within romSize (r .plus) (r .minus)))
         ≡ false
         → misplaced s st ≡ not (isFree used (pick (eqb (r .form) 0) (r .plus - r .minus) (s .at)) (sizeIn (getD shapes (r .form) 0)))
     shows-place-free used flags most h = by x
@@ -157,17 +157,17 @@ module _ {text : List ℕ} {above all : List (List ℕ)} {addresses : List ℕ} 
         by : Shows text above all addresses st r
             → misplaced s st ≡ not (isFree used (pick (eqb (r .form) 0) (r .plus - r .minus) (s .at)) (sizeIn (getD shapes (r .form) 0)))
         by (broken e b) = absurd (differ (sym b ∙ readable))
-        by (empty e b f l m) = rw (e, f) (rw (le-leb (s .at + 0) 4096 (omega arith)) refl)
+        by (empty e b f l m) = rw (e, f) (rw (le-leb (s .at + 0) romSize (omega arith)) refl)
         by (origin ts e b f v p) =
-            let in-it : within 4096 (r .plus) (r .minus) ≡ true = yes (within 4096 (r .plus) (r .minus)) (rw f at h) in
-            let low = ltb-true (r .plus - r .minus) 4096 (both (leb (r .minus) (r .plus)) (ltb (r .plus - r .minus) 4096) in-it .1) in
+            let in-it : within romSize (r .plus) (r .minus) ≡ true = yes (within romSize (r .plus) (r .minus)) (rw f at h) in
+            let low = ltb-true (r .plus - r .minus) romSize (both (leb (r .minus) (r .plus)) (ltb (r .plus - r .minus) romSize) in-it .1) in
             rw (e, f) (rw (
               plus-here ts,
               minus-here ts,
               sym (v .added),
               sym (v .taken),
               in-it,
-              le-leb (r .plus - r .minus + 0) 4096
+              le-leb (r .plus - r .minus + 0) romSize
                   (omega arith),
             ) refl)
           where
@@ -179,26 +179,26 @@ module _ {text : List ℕ} {above all : List (List ℕ)} {addresses : List ℕ} 
             (free-size (s .written) used flags (s .at) (sizeIn (getD shapes (r .form) 0)) (size-most (getD shapes (r .form) 0)))
 
     -- a line that has its place: its address, and its end
-    pub shows-placed : misplaced s st ≡ false → s .at ≤ 4096 → (addressOf s st + sizeOf st ≤ 4096) × (addressOf s st ≤ 4096)
+    pub shows-placed : misplaced s st ≡ false → s .at ≤ romSize → (addressOf s st + sizeOf st ≤ romSize) × (addressOf s st ≤ romSize)
     shows-placed m most = by x
       where
-        by : Shows text above all addresses st r → (addressOf s st + sizeOf st ≤ 4096) × (addressOf s st ≤ 4096)
+        by : Shows text above all addresses st r → (addressOf s st + sizeOf st ≤ romSize) × (addressOf s st ≤ romSize)
         by (broken e b) = absurd (differ (sym b ∙ readable))
         by (empty e b f l n) = rw e (omega arith, omega arith)
         by (origin ts e b f v p) =
-            let q : not (within 4096 (plus (s .names) (s .addresses) ts) (minus (s .names) (s .addresses) ts)) ≡ false = rw e at m in
-            let low = ltb-true (plus (s .names) (s .addresses) ts - minus (s .names) (s .addresses) ts) 4096
+            let q : not (within romSize (plus (s .names) (s .addresses) ts) (minus (s .names) (s .addresses) ts)) ≡ false = rw e at m in
+            let low = ltb-true (plus (s .names) (s .addresses) ts - minus (s .names) (s .addresses) ts) romSize
             (both (leb (minus (s .names) (s .addresses) ts) (plus (s .names) (s .addresses) ts))
-            (ltb (plus (s .names) (s .addresses) ts - minus (s .names) (s .addresses) ts) 4096) (yes _ q) .1) in
+            (ltb (plus (s .names) (s .addresses) ts - minus (s .names) (s .addresses) ts) romSize) (yes _ q) .1) in
             rw e (omega arith, omega arith)
           where
             yes : (b : Bool) → not b ≡ false → b ≡ true
             yes true q = refl
             yes false q = absurd (differ (sym q))
         by (coded ts e b f g v p) =
-            let q : (ltb 4096 (s .at + size (formAt (r .form))) || meets (s .written) (span (s .at) (size (formAt (r .form))))) ≡ false = rw e at m in
-            let low = ltb-false 4096 (s .at + size (formAt (r .form)))
-            (neither (ltb 4096 (s .at + size (formAt (r .form)))) (meets (s .written) (span (s .at) (size (formAt (r .form))))) q .0) in
+            let q : (ltb romSize (s .at + size (formAt (r .form))) || meets (s .written) (span (s .at) (size (formAt (r .form))))) ≡ false = rw e at m in
+            let low = ltb-false romSize (s .at + size (formAt (r .form)))
+            (neither (ltb romSize (s .at + size (formAt (r .form)))) (meets (s .written) (span (s .at) (size (formAt (r .form))))) q .0) in
             rw e (low, most)
 
     -- ---- values, where these are all labels
@@ -235,7 +235,7 @@ module _ {text : List ℕ} {above all : List (List ℕ)} {addresses : List ℕ} 
                 sym (v .taken),
                 k .sized,
                 k .digit,
-                k .reach ((s .at + sizeIn (getD shapes (r .form) 0)) % 4096) (r .plus - r .minus),
+                k .reach ((s .at + sizeIn (getD shapes (r .form) 0)) % romSize) (r .plus - r .minus),
               ) refl)
 
       pub shows-bytes : misfit whole s st ≡ false
@@ -302,14 +302,14 @@ flag-one written used at f h a l = in-append written (at ∷ []) a ∙ case (eqb
     or-false false = refl
 
 -- up to two places from an address on are flagged
-pub flag-span : (written used one two : List ℕ) (at n : ℕ) → Flags written used → length used ≡ 4096 → n ≤ 2 → at + n ≤ 4096
+pub flag-span : (written used one two : List ℕ) (at n : ℕ) → Flags written used → length used ≡ romSize → n ≤ 2 → at + n ≤ romSize
     → one ≡ pick (ltb 0 n) (set used at 1) used → two ≡ pick (ltb 1 n) (set one (at + 1) 1) one
-    → Flags (written ++ span at n) two × (length two ≡ 4096)
+    → Flags (written ++ span at n) two × (length two ≡ romSize)
 flag-span written used one two at zero f l h u e g = rw (g, e, append-nil written) (f, l)
 flag-span written used one two at (suc zero) f l h u e g =
     rw (g, e) (flag-one written used at f (omega arith), length-set used at 1 ∙ l)
 flag-span written used one two at (suc (suc zero)) f l h u e g =
-    let p : length (set used at 1) ≡ 4096 = length-set used at 1 ∙ l in
+    let p : length (set used at 1) ≡ romSize = length-set used at 1 ∙ l in
     rw (g, e, add-one, sym (append-assoc written (at ∷ []) (suc at ∷ []))) (
       flag-one (written ++ (at ∷ [])) (set used at 1) (suc at) (flag-one written used at f (omega arith)) (omega arith),
       length-set (set used at 1)

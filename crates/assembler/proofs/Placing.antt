@@ -10,6 +10,7 @@ use borrow.Author.Tests.{leb-true, ltb-true}
 use lib.Dec.{eqb, leb, ltb}
 use lib.ListN.{getD, getD-replicate, length, length-replicate, length-set, replicate, set, take}
 use lib.Seq.{take-suc-set}
+use Rattle.assembler.specs.Forms.{romSize}
 use Rattle.isa.specs.Choice.{pick}
 use Rattle.operand.specs.Read.{namesAt, tokensAt}
 use Rattle.operand.proofs.Places.{names-count}
@@ -31,12 +32,12 @@ pub record Placing (text starts addresses used : List ℕ) (all at number count 
   pub settled : Settled text starts addresses all
   pub found : first misplaced start 1 (program text) ≡ first misplaced s number (programAt text at)
   pub at-is : address ≡ s .at
-  pub most : address ≤ 4096
+  pub most : address ≤ romSize
   pub flags : Flags (s .written) used
-  pub flag-count : length used ≡ 4096
+  pub flag-count : length used ≡ romSize
   pub stored : s .addresses ≡ take count addresses
 
-pub places : (text starts addresses used : List ℕ) (all : ℕ) → Settled text starts addresses all → used ≡ replicate 4096 0
+pub places : (text starts addresses used : List ℕ) (all : ℕ) → Settled text starts addresses all → used ≡ replicate romSize 0
     → Placing text starts addresses used all 0 1 0 0
 places text starts addresses used all settled u = record {
   s = start;
@@ -45,8 +46,8 @@ places text starts addresses used all settled u = record {
   found = refl;
   at-is = refl;
   most = omega arith;
-  flags = λ a h. rw (u, getD-replicate {A = ℕ} 4096 a 0 0 h) refl;
-  flag-count = ap length u ∙ length-replicate {A = ℕ} 4096 0;
+  flags = λ a h. rw (u, getD-replicate {A = ℕ} romSize a 0 0 h) refl;
+  flag-count = ap length u ∙ length-replicate {A = ℕ} romSize 0;
   stored = refl;
 }
 
@@ -68,10 +69,10 @@ module _ {text starts addresses used : List ℕ} {all at number count address : 
   stored-here : g .s .addresses ≡ take (length (namesAt text starts count)) addresses
   stored-here = g .stored ∙ ap (λ (n : ℕ). take n addresses) (sym (names-count text starts count few))
 
-  pub stray : (eqb (r .form) 0 && not (within 4096 (r .plus) (r .minus))) ≡ true → number ≡ first misplaced start 1 (program text)
+  pub stray : (eqb (r .form) 0 && not (within romSize (r .plus) (r .minus))) ≡ true → number ≡ first misplaced start 1 (program text)
   stray h = walk-found (g .walk) misplaced (g .found) (shows-stray x readable (g .s) names stored-here h)
 
-  module _ (inside : (eqb (r .form) 0 && not (within 4096 (r .plus) (r .minus))) ≡ false) (here size : ℕ)
+  module _ (inside : (eqb (r .form) 0 && not (within romSize (r .plus) (r .minus))) ≡ false) (here size : ℕ)
       (here-is : here ≡ pick (eqb (r .form) 0) (r .plus - r .minus) address) (size-is : size ≡ sizeIn (getD shapes (r .form) 0)) where
     here-at : here ≡ pick (eqb (r .form) 0) (r .plus - r .minus) (g .s .at)
     here-at = here-is ∙ ap (λ (a : ℕ). pick (eqb (r .form) 0) (r .plus - r .minus) a) (g .at-is)
@@ -80,7 +81,7 @@ module _ {text starts addresses used : List ℕ} {all at number count address : 
     free-is = shows-place-free x readable (g .s) names stored-here used (g .flags) (omega (arith, g .at-is, g .most)) inside
         ∙ rw (sym here-at, sym size-is) refl
 
-    pub here-most : (here ≤ 4096) × (size ≤ 2)
+    pub here-most : (here ≤ romSize) × (size ≤ 2)
     here-most = (
       case (eqb (r .form) 0) (λ e. org e) (λ e. let q : here ≡ address = here-is ∙ rw e refl in omega (arith, g .most)),
       omega
@@ -91,12 +92,12 @@ module _ {text starts addresses used : List ℕ} {all at number count address : 
         yes true q = refl
         yes false q = absurd (differ (sym q))
 
-        org : eqb (r .form) 0 ≡ true → here ≤ 4096
+        org : eqb (r .form) 0 ≡ true → here ≤ romSize
         org e =
             let q : here ≡ r .plus - r .minus = here-is ∙ rw e refl in
-            let i : not (within 4096 (r .plus) (r .minus)) ≡ false = rw e at inside in
-            let l = ltb-true (r .plus - r .minus) 4096
-            (both (leb (r .minus) (r .plus)) (ltb (r .plus - r .minus) 4096) (yes (within 4096 (r .plus) (r .minus)) i) .1) in
+            let i : not (within romSize (r .plus) (r .minus)) ≡ false = rw e at inside in
+            let l = ltb-true (r .plus - r .minus) romSize
+            (both (leb (r .minus) (r .plus)) (ltb (r .plus - r .minus) romSize) (yes (within romSize (r .plus) (r .minus)) i) .1) in
             omega arith
 
     pub crowded : isFree used here size ≡ false → number ≡ first misplaced start 1 (program text)
@@ -106,8 +107,8 @@ module _ {text starts addresses used : List ℕ} {all at number count address : 
       good-place : misplaced (g .s) st ≡ false
       good-place = free-is ∙ rw free refl
 
-      pub end-most : here + size ≤ 4096
-      end-most = leb-true (here + size) 4096 (both (leb (here + size) 4096) _ free .0)
+      pub end-most : here + size ≤ romSize
+      end-most = leb-true (here + size) romSize (both (leb (here + size) romSize) _ free .0)
 
       address-is : addressOf (g .s) st ≡ here
       address-is = shows-address x readable (g .s) names stored-here ∙ sym here-at

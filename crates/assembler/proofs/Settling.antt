@@ -8,6 +8,7 @@ use native.Mathlib.Omega.{arith}
 use lib.Dec.{eqb, ltb}
 use lib.ListN.{getD, length, set, take}
 use lib.Seq.{sets}
+use Rattle.assembler.specs.Forms.{romSize}
 use Rattle.isa.specs.Choice.{pick}
 use Rattle.operand.specs.Read.{namesAt, tokensAt}
 use Rattle.operand.proofs.Places.{names-count}
@@ -28,7 +29,7 @@ use Rattle.assembler.proofs.Walking.{walk-readable}
 pub record Going (text : List ℕ) (at number count address : ℕ) (s : Above) : Type 0 where
   pub walk : Walk text at number count s
   pub at-is : address ≡ s .at
-  pub most : address ≤ 4096
+  pub most : address ≤ romSize
   pub paired : length (s .addresses) ≡ length (s .names)
   pub placed : first misplaced start 1 (program text) ≡ first misplaced s number (programAt text at)
 
@@ -76,7 +77,7 @@ module _ {text starts addresses : List ℕ} {all : ℕ} (p : Placed text starts 
     address-is : addressOf s st ≡ here
     address-is = shows-address x readable s names stored ∙ sym here-at
 
-    pub going-most : (here ≤ 4096) × (size ≤ 2) × (here + size ≤ 4096)
+    pub going-most : (here ≤ romSize) × (size ≤ 2) × (here + size ≤ romSize)
     going-most =
         let q = shows-placed x readable s names stored in-place (omega (arith, g .at-is, g .most)) in
         let z = shows-size x readable in

@@ -12,7 +12,7 @@ use Rattle.isa.specs.Views.{view}
 use Rattle.isa.specs.declared.Instruction.{Instruction}
 use Rattle.isa.specs.declared.Instruction.the-variants as I
 use Rattle.mnemonic.specs.Line.{lineOf}
-use Rattle.assembler.specs.Forms.{always, operandDigits, forms, reaches, size}
+use Rattle.assembler.specs.Forms.{always, operandDigits, forms, reaches, size, romSize}
 use Rattle.assembler.specs.Shapes.{bytesIn, digitsIn, firsts, formAt, lowBytes, reachesIn, shapes, sizeIn}
 
 pub record Shaped (f : ℕ → Instruction) (first s : ℕ) : Type 0 where
@@ -44,10 +44,10 @@ module _ (a : ℕ) (h : T (leb a 240)) where
   low-byte : (v : ℕ) → v < 256 → lowBytes (bytesIn 6 a v) ≡ bytesIn 6 a v
   low-byte v l = let b = leb→le a 240 h in two (omega arith) (omega arith)
 
-  low-address : (v : ℕ) → v < 4096 → lowBytes (bytesIn 8 a v) ≡ bytesIn 8 a v
+  low-address : (v : ℕ) → v < romSize → lowBytes (bytesIn 8 a v) ≡ bytesIn 8 a v
   low-address v l = let b = leb→le a 240 h in two (omega arith) (omega arith)
 
-low-branch : (a : ℕ) (h : T (leb a 248)) (v : ℕ) → v < 4096 → lowBytes (bytesIn 7 a v) ≡ bytesIn 7 a v
+low-branch : (a : ℕ) (h : T (leb a 248)) (v : ℕ) → v < romSize → lowBytes (bytesIn 7 a v) ≡ bytesIn 7 a v
 low-branch a h v l = let b = leb→le a 248 h in two (omega arith) (omega arith)
 
 infixr 67 _and_

@@ -5,7 +5,7 @@ use mathlib.Core.Bool.{Bool, true}
 use mathlib.Core.List.{List, [], _∷_}
 use lib.Dec.{eqb}
 use lib.ListN.{length}
-use Rattle.isa.specs.Code.{bytesOf}
+use Rattle.isa.specs.Code.{addresses, bytesOf}
 use Rattle.isa.specs.Views.{View, on, jmp, branch, call, ret, reti, ei, view}
 use Rattle.isa.specs.declared.Pointer.{Pointer}
 use Rattle.isa.specs.declared.Pointer.the-variants.{R1R0, R3R2}
@@ -18,6 +18,10 @@ use Rattle.isa.specs.declared.Instruction.{Instruction}
 use Rattle.isa.specs.declared.Instruction.the-variants as I
 use Rattle.mnemonic.specs.Line.{lineOf}
 use Rattle.mnemonic.specs.Spelling.{Token, letters, mark, operand}
+
+-- under a name of its own: `addresses` is here where labels stand (Program, `Above`)
+abbrev pub romSize : ℕ
+romSize = addresses
 
 -- a line with no operand
 abbrev pub always : Instruction → ℕ → Instruction

@@ -15,7 +15,7 @@ use Rattle.rom.specs.Fetching.{movedBy}
 use Rattle.operand.specs.Text.{lines, tokens}
 use Rattle.operand.specs.Words.{among}
 use Rattle.operand.specs.Operand.{Term, minus, missing, plus}
-use Rattle.assembler.specs.Forms.{field, reaches, size}
+use Rattle.assembler.specs.Forms.{field, reaches, size, romSize}
 use Rattle.assembler.specs.Statement.{Statement, unreadable, blank, org, mnemonic, statement}
 use Rattle.assembler.specs.declared.assemble.Answer as Given
 
@@ -119,8 +119,8 @@ meets written (a ∷ more) = isIn written a || meets written more
 abbrev pub misplaced : Above → Statement → Bool
 misplaced s unreadable = false
 misplaced s blank = false
-misplaced s (org l ts) = not (within 4096 (plus (s .names) (s .addresses) ts) (minus (s .names) (s .addresses) ts))
-misplaced s (mnemonic l f ts) = ltb 4096 (s .at + size f) || meets (s .written) (span (s .at) (size f))
+misplaced s (org l ts) = not (within romSize (plus (s .names) (s .addresses) ts) (minus (s .names) (s .addresses) ts))
+misplaced s (mnemonic l f ts) = ltb romSize (s .at + size f) || meets (s .written) (span (s .at) (size f))
 
 -- a value in its field, and a branch that fits
 abbrev pub fitting : ℕ → (ℕ → Instruction) → ℕ → ℕ → Bool
@@ -150,7 +150,7 @@ put whole s (l ∷ ls) out = put whole (next s l) ls (sets out (s .at) (bytes wh
 
 -- "Bytes not written are 3E. The result has 4,096 bytes"
 abbrev pub image : List Statement → List ℕ
-image ls = put (end start ls) start ls (replicate 4096 0x3e)
+image ls = put (end start ls) start ls (replicate romSize 0x3e)
 
 -- refused with a number at a line, or the bytes
 pub data Answer : Type 0 where
@@ -176,7 +176,7 @@ assembled text = pick (ltb 65535 (length text)) (refused 12 1) (answerTo (progra
 
 -- "after 2 for a result buffer not 4,096"; it has no line, so 0
 unfoldable pub answered : List ℕ → List ℕ → Answer
-answered text out = pick (eqb (length out) 4096) (assembled text) (refused 2 0)
+answered text out = pick (eqb (length out) romSize) (assembled text) (refused 2 0)
 
 -- the number, the line, and the lent bytes then: "Nothing is written" where it is refused (document 01)
 abbrev pub refusal : Answer → ℕ

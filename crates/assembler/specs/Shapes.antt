@@ -10,7 +10,8 @@ use Rattle.isa.specs.declared.Instruction.{Instruction}
 use Rattle.isa.specs.declared.Instruction.the-variants as I
 use Rattle.mnemonic.specs.Spelling.{Token, letters, codes}
 use Rattle.operand.specs.Read.{kindOf, packed}
-use Rattle.assembler.specs.Forms.{always, forms, lead}
+use Rattle.rom.specs.Fetching.{movedBy}
+use Rattle.assembler.specs.Forms.{always, forms, lead, romSize}
 use Rattle.assembler.specs.declared.forms.Bytes.{Bytes}
 
 -- ORG is number 0, and stands for no instruction; NOP for it and for no form
@@ -83,9 +84,9 @@ abbrev pub isTaken : List ℕ → ℕ → Bool → Bool
 isTaken used at wanted = wanted && not (eqb (getD used at 0) 0)
 
 abbrev pub isFree : List ℕ → ℕ → ℕ → Bool
-isFree used at size = leb (at + size) 4096 && (not (isTaken used at (ltb 0 size)) && not (isTaken used (at + 1) (ltb 1 size)))
+isFree used at size = leb (at + size) romSize && (not (isTaken used at (ltb 0 size)) && not (isTaken used (at + 1) (ltb 1 size)))
 
 -- a value outside a field, or a branch that does not fit, by shape
 abbrev pub isMisfit : ℕ → ℕ → ℕ → ℕ → ℕ → Bool
 isMisfit size s at added taken =
-    ltb 0 size && not (leb taken added && ltb (added - taken) (16 ^ digitsIn s) && reachesIn s ((at + size) % 4096) (added - taken))
+    ltb 0 size && not (leb taken added && ltb (added - taken) (16 ^ digitsIn s) && reachesIn s (movedBy size at) (added - taken))

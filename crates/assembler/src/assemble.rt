@@ -2,12 +2,15 @@
 ghost use mathlib.Core.Path.{_≡_};
 ghost use Prim.Native.Nat.{_≤_};
 ghost use lib.ListN.{length, replicate};
+ghost use Rattle.assembler.specs.Forms.{romSize};
 ghost use Rattle.assembler.specs.Program.{Answered, answerTo, answered, program};
 use crate::passes::check_labels;
 use crate::passes::check_values;
 use crate::passes::place_lines;
 use crate::passes::read_lines;
 use crate::passes::write_lines;
+use isa::PLACES;
+use rom::reader::MASK;
 
 // The refusal, 0 for none, and its line.
 pub struct Answer {
@@ -35,8 +38,8 @@ fn judged(
     used: &mut [u8],
     out: &mut [u8],
 ) -> Answer
-    requires { ⌜ (length (now text) ≤ 65535) × (length (now out) ≡ 4096) ⌝ }
-    requires { ⌜ (length (now starts) ≡ 32768) × (length (now addresses) ≡ 32768) × (now used ≡ replicate 4096 0) ⌝ }
+    requires { ⌜ (length (now text) ≤ 65535) × (length (now out) ≡ romSize) ⌝ }
+    requires { ⌜ (length (now starts) ≡ 32768) × (length (now addresses) ≡ 32768) × (now used ≡ replicate romSize 0) ⌝ }
     ensures { λ r. ⌜ Answered (answerTo (program (now (text .entry)))) (now (out .entry)) r (now (out .exit)) ⌝ }
 {
     let read = read_lines(text, starts, addresses);
@@ -81,7 +84,7 @@ fn judged(
 pub fn assemble(text: &[u8], out: &mut [u8]) -> Answer
     ensures { λ r. ⌜ Answered (answered (now (text .entry)) (now (out .entry))) (now (out .entry)) r (now (out .exit)) ⌝ }
 {
-    if out.len() != 4096 {
+    if out.len() != MASK {
         return Answer {
             refusal: 2,
             line: 0,
@@ -96,6 +99,6 @@ pub fn assemble(text: &[u8], out: &mut [u8]) -> Answer
     // a label and its colon take two characters at least, so a text has no more than these
     let mut starts = [0u16; 32768];
     let mut addresses = [0u16; 32768];
-    let mut used = [0u8; 4096];
+    let mut used = [0u8; PLACES];
     judged(text, &mut starts, &mut addresses, &mut used, out)
 }

@@ -7,6 +7,7 @@ ghost use lib.Dec.{eqb};
 ghost use Rattle.isa.specs.Choice.{pick};
 ghost use Rattle.operand.specs.Words.{among};
 ghost use Rattle.operand.specs.Read.{namesAt, wordAt};
+ghost use Rattle.assembler.specs.Forms.{romSize};
 ghost use Rattle.assembler.specs.Program.{end, first, mislabelled, misfit, misplaced, program, put, start, within};
 ghost use Rattle.assembler.specs.Shapes.{isFree, isMisfit};
 ghost use Rattle.assembler.specs.Passing.{Collected, Placed, Settled, lineEnd};
@@ -20,6 +21,10 @@ use crate::forms::size_of;
 use crate::forms::values_of;
 use crate::lines::read_line;
 use operand::labels::find;
+use rom::reader::MASK;
+use rom::reader::moved_by;
+
+const LAST_ADDRESS: u64 = MASK as u64 - 1;
 
 // Where the line that starts here ends.
 fn line_end(text: &[u8], at: usize) -> usize
@@ -142,7 +147,7 @@ pub(crate) fn check_labels(text: &[u8], starts: &[u16], none: &[u16], all: usize
 
 // Whether a line is an ORG outside 0 to 4,095.
 fn strays(form: usize, plus: u64, minus: u64) -> bool
-    ensures { λ r. ⌜ r ≡ (eqb form 0 && not (within 4096 plus minus)) ⌝ }
+    ensures { λ r. ⌜ r ≡ (eqb form 0 && not (within romSize plus minus)) ⌝ }
 {
     if form != ORG {
         return false;
@@ -150,7 +155,7 @@ fn strays(form: usize, plus: u64, minus: u64) -> bool
     if plus < minus {
         return true;
     }
-    plus - minus > 4095
+    plus - minus > LAST_ADDRESS
 }
 
 // A line's address: an ORG's value, or the next one.
@@ -180,10 +185,10 @@ fn taken(used: &[u8], at: usize, wanted: bool) -> bool
 
 // Whether a line's bytes have a place.
 fn free(used: &[u8], at: usize, size: usize) -> bool
-    requires { ⌜ (at ≤ 4096) × (size ≤ 2) ⌝ }
+    requires { ⌜ (at ≤ romSize) × (size ≤ 2) ⌝ }
     ensures { λ r. ⌜ r ≡ isFree (now (used .entry)) at size ⌝ }
 {
-    if at + size > 4096 {
+    if at + size > MASK {
         return false;
     }
     if taken(used, at, size > 0) {
@@ -201,7 +206,7 @@ pub(crate) fn place_lines(
     all: usize,
 ) -> u32
     requires { ⌜ Settled (now text) (now starts) (now addresses) all ⌝ }
-    requires { ⌜ now used ≡ replicate 4096 0 ⌝ }
+    requires { ⌜ now used ≡ replicate romSize 0 ⌝ }
     ensures { λ r. ⌜ (r ≡ first misplaced start 1 (program (now (text .entry))))
         × (r ≡ 0 → Placed (now (text .entry)) (now (starts .entry)) (now (addresses .exit)) all) ⌝ }
 {
@@ -237,7 +242,7 @@ pub(crate) fn place_lines(
 
 // Whether a value is outside its field, or a branch does not fit, where a line has bytes at all.
 fn misfits(size: usize, shape: u8, address: usize, plus: u64, minus: u64) -> bool
-    requires { ⌜ (address ≤ 4096) × (size ≤ 2) ⌝ }
+    requires { ⌜ (address ≤ romSize) × (size ≤ 2) ⌝ }
     ensures { λ r. ⌜ r ≡ isMisfit size shape address plus minus ⌝ }
 {
     if size == 0 {
@@ -253,7 +258,7 @@ fn misfits(size: usize, shape: u8, address: usize, plus: u64, minus: u64) -> boo
     if shape != BRANCH {
         return false;
     }
-    let moved = (address + size) % 4096;
+    let moved = moved_by(address as u16, size as u8);
     value / 2048 != moved as u64 / 2048
 }
 

@@ -15,7 +15,7 @@ use Rattle.isa.specs.declared.Instruction.{Instruction}
 use Rattle.isa.proofs.Exact.{and-both}
 use Rattle.rom.specs.Fetching.{movedBy}
 use Rattle.operand.specs.Operand.{Term, plus, minus, missing}
-use Rattle.assembler.specs.Forms.{size, field, reaches}
+use Rattle.assembler.specs.Forms.{size, field, reaches, romSize}
 use Rattle.assembler.specs.Statement.{Statement, org, mnemonic}
 use Rattle.assembler.specs.Program.{Above, start, next, end, addressOf, span, first, unread, mislabelled, within, meets, misplaced, fitting, misfit}
 use Rattle.assembler.specs.Program.{put, Answer, written, judged, answerTo}
@@ -50,7 +50,7 @@ above-second a =
 second-at : (a : ℕ) → next start (org none (term a ∷ [])) .at ≡ a
 second-at a = ap (λ (s : Above). s .at) (above-second a)
 
-module _ (a : ℕ) (f : ℕ → Instruction) (ts : List Term) (v : ℕ) (room : a < 4096) (fits : a + size f ≤ 4096) (low : v < field f)
+module _ (a : ℕ) (f : ℕ → Instruction) (ts : List Term) (v : ℕ) (room : a < romSize) (fits : a + size f ≤ romSize) (low : v < field f)
     (reach : reaches f (movedBy (size f) a) v ≡ true) (added : plus [] [] ts ≡ v) (taken : minus [] [] ts ≡ 0) (known : missing [] ts ≡ false) where
   abbrev first-line : Statement
   first-line = org none (term a ∷ [])
@@ -70,8 +70,8 @@ module _ (a : ℕ) (f : ℕ → Instruction) (ts : List Term) (v : ℕ) (room : 
 
   placed : first misplaced start 1 both ≡ 0
   placed =
-      nothing-found misplaced first-line second-line (ap not (value-within 4096 a (a + 0) 0 (omega arith) refl room))
-      (subst (λ (s : Above). misplaced s second-line ≡ false) (sym (above-second a)) (rw (le-ltb 4096 (a + size f) fits) (nowhere (span a (size f)))))
+      nothing-found misplaced first-line second-line (ap not (value-within romSize a (a + 0) 0 (omega arith) refl room))
+      (subst (λ (s : Above). misplaced s second-line ≡ false) (sym (above-second a)) (rw (le-ltb romSize (a + size f) fits) (nowhere (span a (size f)))))
 
   fits-there : (at : ℕ) → at ≡ a → fitting at f (plus [] [] ts) (minus [] [] ts) ≡ true
   fits-there at e =
@@ -89,10 +89,10 @@ module _ (a : ℕ) (f : ℕ → Instruction) (ts : List Term) (v : ℕ) (room : 
       let d : plus [] [] ts - minus [] [] ts ≡ v = omega arith in
       ap₂ (λ (n m : ℕ). sets out n (bytesOf (f m))) (second-at a) d
 
-  pub answer : answerTo both ≡ written (sets (replicate 4096 0x3e) a (bytesOf (f v)))
+  pub answer : answerTo both ≡ written (sets (replicate romSize 0x3e) a (bytesOf (f v)))
   answer =
       not-refused 12 (first unread start 1 both) _ refl
       ∙ not-refused 14 (first (mislabelled (whole .names)) start 1 both) _ labelled
       ∙ not-refused 13 (first misplaced start 1 both) _ placed
       ∙ not-refused 13 (first (misfit whole) start 1 both) _ fitted
-      ∙ ap written (imaged (replicate 4096 0x3e))
+      ∙ ap written (imaged (replicate romSize 0x3e))

@@ -23,7 +23,7 @@ use Rattle.isa.proofs.Exact.{and-left, and-right}
 use Rattle.rom.specs.Fetching.{branchTo}
 use Rattle.mnemonic.specs.Line.{lineOf}
 use Rattle.mnemonic.specs.Placing.{placedAt}
-use Rattle.assembler.specs.Forms.{always, paired, addressed, branching, forms, lead, field, reaches}
+use Rattle.assembler.specs.Forms.{always, paired, addressed, branching, forms, lead, field, reaches, romSize}
 use Rattle.assembler.specs.Statement.{formIn}
 use Rattle.assembler.specs.Program.{span}
 use Rattle.assembler_laws.proofs.Each as Each
@@ -48,7 +48,7 @@ counted {P} a (suc n) (suc k) (p and ps) h = subst P (suc-add a k ∙ sym (add-s
 each-below : (P : ℕ → Type 0) (n k : ℕ) → Each P (span 0 n) → ltb k n ≡ true → P k
 each-below P n k ps h = subst P (zero-add k) (counted 0 n k ps (ltb-true k n h))
 
-module _ (moved : ℕ) (bound : moved < 4096) where
+module _ (moved : ℕ) (bound : moved < romSize) where
   with-value : {i : Instruction} (f : ℕ → Instruction) (v : ℕ) → formIn forms (lead f) ≡ some f → f v ≡ i → v < field f → reaches f moved v ≡ true
       → lineOf (placedAt moved i) ≡ line-of f v → Case moved i
   with-value f v e p h r l = record { form = f; value = v; found = e; is = p; low = h; reach = r; line = l }
@@ -68,7 +68,7 @@ module _ (moved : ℕ) (bound : moved < 4096) where
 
   -- a branch, whose whole target gives its low 11 bits back and has the bit 11 of the moved address
   to : (k : Condition) (t : ProgramAddress) → ltb (t .0) 2048 ≡ true → formIn forms (lead (branching k)) ≡ some (branching k)
-      → field (branching k) ≡ 4096 → lineOf (placedAt moved (I.Branch t k)) ≡ line-of (branching k) (branchTo moved t) → Case moved (I.Branch t k)
+      → field (branching k) ≡ romSize → lineOf (placedAt moved (I.Branch t k)) ≡ line-of (branching k) (branchTo moved t) → Case moved (I.Branch t k)
   unfolding view
   to k t h e d l =
       let b : t .0 < 2048 = ltb-true (t .0) 2048 h in
@@ -135,7 +135,7 @@ module _ (moved : ℕ) (bound : moved < 4096) where
   case (I.InA Ps) r = still refl tt refl refl
   case (I.InA Pp) r = still refl tt refl refl
   case I.OutPaA r = still refl tt refl refl
-  case (I.Jmp t) r = with-value (addressed I.Jmp) (t .0) refl refl (ltb-true (t .0) 4096 r) refl refl
+  case (I.Jmp t) r = with-value (addressed I.Jmp) (t .0) refl refl (ltb-true (t .0) romSize r) refl refl
   case (I.Branch t (Ja n)) r =
       each-below (λ (n : ℕ). Case moved (I.Branch t (Ja n))) 4 n (bits t (and-right (ltb n 4) (ltb (t .0) 2048) r))
       (and-left (ltb n 4) (ltb (t .0) 2048) r)
@@ -147,7 +147,7 @@ module _ (moved : ℕ) (bound : moved < 4096) where
   case (I.Branch t Jc) r = to Jc t r refl refl refl
   case (I.Branch t Jnc) r = to Jnc t r refl refl refl
   case (I.Branch t Jtmr) r = to Jtmr t r refl refl refl
-  case (I.Call t) r = with-value (addressed I.Call) (t .0) refl refl (ltb-true (t .0) 4096 r) refl refl
+  case (I.Call t) r = with-value (addressed I.Call) (t .0) refl refl (ltb-true (t .0) romSize r) refl refl
   case I.Ret r = still refl tt refl refl
   case I.Reti r = still refl tt refl refl
   case I.Clc r = still refl tt refl refl

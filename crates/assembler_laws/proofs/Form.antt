@@ -17,7 +17,7 @@ use Rattle.isa.proofs.Exact.{and-both, and-left, and-right}
 use Rattle.mnemonic.specs.Line.{lineOf}
 use Rattle.mnemonic.specs.Spelling.{Token, letters, codes}
 use Rattle.operand.specs.Operand.{Term, operandOf}
-use Rattle.assembler.specs.Forms.{always, forms, lead, operandDigits, size, field, reaches}
+use Rattle.assembler.specs.Forms.{always, forms, lead, operandDigits, size, field, reaches, romSize}
 use Rattle.assembler.specs.Statement.{Statement, unreadable, blank, org, mnemonic, before, after, equals, formIn, orgOf, codeOf, operandFor, coded}
 use Rattle.assembler.specs.Statement.{body, labelled, labelOf, afterTwo, statement}
 use Rattle.assembler_laws.specs.Lines.{GoesBy}
@@ -49,10 +49,10 @@ nibbles : (v : ℕ) → v < 256 → ltb (v % 16) 16 && ltb (v / 16) 16 ≡ true
 nibbles v h = and-both (ltb (v % 16) 16) (ltb (v / 16) 16) (lt-ltb (v % 16) 16 (omega arith)) (lt-ltb (v / 16) 16 (omega arith))
 
 -- the whole target, where bit 11 is the moved PC's
-whole-target : (moved v : ℕ) → v < 4096 → eqb (v / 2048) (moved / 2048) ≡ true → moved / 2048 * 2048 + v % 2048 % 2048 ≡ v
+whole-target : (moved v : ℕ) → v < romSize → eqb (v / 2048) (moved / 2048) ≡ true → moved / 2048 * 2048 + v % 2048 % 2048 ≡ v
 whole-target moved v h e = let q = eqb-true (v / 2048) (moved / 2048) e in omega arith
 
-low-bits : (v : ℕ) → v < 4096 → ltb (v % 2048) 2048 ≡ true
+low-bits : (v : ℕ) → v < romSize → ltb (v % 2048) 2048 ≡ true
 low-bits v h = lt-ltb (v % 2048) 2048 (omega arith)
 
 pub forms-fit : Each Fits forms

@@ -13,10 +13,12 @@ use Rattle.isa.specs.Code.{bytesOf}
 use Rattle.isa.specs.declared.Instruction.{Instruction}
 use Rattle.isa.proofs.Exact.{and-left, and-right}
 use Rattle.rom.specs.Fetching.{byteAt, movedBy}
+use Rattle.rom.specs.declared.reader.Code.{Code}
+use Rattle.rom.proofs.Fetching.{code-bytes}
 use Rattle.operand.specs.Text as Text
 use Rattle.operand.specs.Text.{tokens}
 use Rattle.operand.specs.Operand.{Term, plus, minus}
-use Rattle.assembler.specs.Forms.{size, field, reaches}
+use Rattle.assembler.specs.Forms.{size, field, reaches, romSize}
 use Rattle.assembler.specs.Statement.{Statement, unreadable, blank, org, mnemonic, statement}
 use Rattle.assembler.specs.Program.{Above, start, end, span, meets, within, misplaced, misfit, instruction, bytes, put, image, program}
 use Rattle.assembler_laws.specs.Lines.{Stands, here, there, BytesRead, LinesRead, LinesReadAll}
@@ -30,19 +32,19 @@ each-line (p and ps) here = p
 each-line (p and ps) (there h) = each-line ps h
 
 -- at most two bytes that stand at an address, as the two that are read there
-two-read : (xs bs : List ℕ) (a : ℕ) → length xs ≤ 2 → a + length xs ≤ 4096 → ((j : ℕ) → j < length xs → getD bs (a + j) 0 ≡ getD xs j 0)
+two-read : (xs bs : List ℕ) (a : ℕ) → length xs ≤ 2 → a + length xs ≤ romSize → ((j : ℕ) → j < length xs → getD bs (a + j) 0 ≡ getD xs j 0)
     → take (length xs) (byteAt bs a ∷ byteAt bs (a + 1) ∷ []) ≡ xs
 two-read [] bs a s h f = refl
 two-read (x ∷ []) bs a s h f =
-    let p : a % 4096 ≡ a + 0 = omega arith in
+    let p : a % romSize ≡ a + 0 = omega arith in
     ap (λ (n : ℕ). n ∷ []) (ap (λ (n : ℕ). getD bs n 0) p ∙ f 0 (lit< tt))
 two-read (x ∷ y ∷ []) bs a s h f =
-    let p : a % 4096 ≡ a + 0 = omega arith in
-    let q : (a + 1) % 4096 ≡ a + 1 = omega arith in
+    let p : a % romSize ≡ a + 0 = omega arith in
+    let q : (a + 1) % romSize ≡ a + 1 = omega arith in
     ap₂ (λ (n m : ℕ). n ∷ m ∷ []) (ap (λ (n : ℕ). getD bs n 0) p ∙ f 0 (lit< tt)) (ap (λ (n : ℕ). getD bs n 0) q ∙ f 1 (lit< tt))
 two-read (x ∷ y ∷ z ∷ xs) bs a s h f = absurd (omega arith)
 
-module _ (ls : List Statement) (out : List ℕ) (room : length out ≡ 4096) (fits : Each Formed ls)
+module _ (ls : List Statement) (out : List ℕ) (room : length out ≡ romSize) (fits : Each Formed ls)
     (placed : (u : Above) (k : Statement) → Stands start ls u k → misplaced u k ≡ false)
     (fitted : (u : Above) (k : Statement) → Stands start ls u k → misfit (end start ls) u k ≡ false) where
   abbrev whole : Above
@@ -62,7 +64,7 @@ module _ (ls : List Statement) (out : List ℕ) (room : length out ≡ 4096) (fi
       let q : length (bytesOf (instruction whole f ts)) ≡ size f = p .sized (added ts - taken ts) in
       record {
         spanned = ap (span (u .at)) (sym q);
-        clear = rw q (or-right (ltb 4096 (u .at + size f)) (meets (u .written) (span (u .at) (size f))) e);
+        clear = rw q (or-right (ltb romSize (u .at + size f)) (meets (u .written) (span (u .at) (size f))) e);
       }
 
   all-clear : (u : Above) (k : Statement) → Stands start ls u k → Clear whole u k
@@ -78,14 +80,16 @@ module _ (ls : List Statement) (out : List ℕ) (room : length out ≡ 4096) (fi
       let fit = not-false _ (fitted u (mnemonic l f ts) h) in
       let value = and-left (within (field f) (added ts) (taken ts)) (reaches f (movedBy (size f) (u .at)) v) fit in
       let low : v < field f = ltb-true v (field f) (and-right (leb (taken ts) (added ts)) (ltb v (field f)) value) in
-      let here : u .at + size f ≤ 4096 =
-      ltb-false 4096 (u .at + size f)
-      (or-left (ltb 4096 (u .at + size f)) (meets (u .written) (span (u .at) (size f))) (placed u (mnemonic l f ts) h)) in
-      let inside : u .at + length (bytesOf (f v)) ≤ 4096 = rw q here in
+      let here : u .at + size f ≤ romSize =
+      ltb-false romSize (u .at + size f)
+      (or-left (ltb romSize (u .at + size f)) (meets (u .written) (span (u .at) (size f))) (placed u (mnemonic l f ts) h)) in
+      let inside : u .at + length (bytesOf (f v)) ≤ romSize = rw q here in
       record {
         reads = record {
           fields = p .in-range v low;
-          bytes = two-read (bytesOf (f v)) (put whole start ls out) (u .at) short inside (λ j b. put-line whole out j all-clear h (rw room inside) b);
+          bytes =
+              ap (λ (k : Code). take (length (bytesOf (f v))) (k .first ∷ k .second ∷ [])) (code-bytes (put whole start ls out) (u .at))
+              ∙ two-read (bytesOf (f v)) (put whole start ls out) (u .at) short inside (λ j b. put-line whole out j all-clear h (rw room inside) b);
         };
         fits = here;
         in-field = value;
@@ -94,10 +98,10 @@ module _ (ls : List Statement) (out : List ℕ) (room : length out ≡ 4096) (fi
 
 module _ (text bs : List ℕ) (p : Passed (program text) bs) where
   abbrev blank-mask : List ℕ
-  blank-mask = replicate 4096 0x3e
+  blank-mask = replicate romSize 0x3e
 
-  room : length blank-mask ≡ 4096
-  room = length-replicate {A = ℕ} 4096 0x3e
+  room : length blank-mask ≡ romSize
+  room = length-replicate {A = ℕ} romSize 0x3e
 
   fits : Each Formed (program text)
   fits = each-map Formed statement formed (map tokens (Text.lines text))
@@ -115,7 +119,7 @@ module _ (text bs : List ℕ) (p : Passed (program text) bs) where
         lines = bytes-read (program text) blank-mask room fits placed fitted;
         others = λ a h e.
             unwritten (end start (program text)) start (program text) blank-mask a (all-clear (program text) blank-mask room fits placed fitted) e
-            ∙ getD-replicate {A = ℕ} 4096 a 0x3e 0 h;
+            ∙ getD-replicate {A = ℕ} romSize a 0x3e 0 h;
       }
 
 pub lines-read : LinesReadAll

@@ -17,7 +17,7 @@ use Rattle.mnemonic.specs.Placing.{placedAt}
 use Rattle.mnemonic.specs.Spelling.{Token, spelling}
 use Rattle.operand.specs.Text.{LF, tokens}
 use Rattle.operand.specs.Operand.{minus, missing}
-use Rattle.assembler.specs.Forms.{lead, operandDigits, size}
+use Rattle.assembler.specs.Forms.{lead, operandDigits, size, romSize}
 use Rattle.assembler.specs.Statement.{Statement, org, mnemonic, statement}
 use Rattle.assembler.specs.Program.{program, written, answerTo, assembled}
 use Rattle.assembler_laws.specs.Printed.{printed, PrintsBack}
@@ -54,7 +54,7 @@ module _ (s t : List Token) {u w : List Token} (p : Reread s u) (q : Reread t w)
   unfolding assembled
   short-text = rw (le-ltb 65535 (length joined) (omega (arith, length-append (spelling s) (LF ∷ spelling t), p .short, q .short))) refl
 
-module _ (i : Instruction) (a : ℕ) (fits : a + length (bytesOf i) ≤ 4096) (c : Case (movedBy (length (bytesOf i)) a) i) where
+module _ (i : Instruction) (a : ℕ) (fits : a + length (bytesOf i) ≤ romSize) (c : Case (movedBy (length (bytesOf i)) a) i) where
   abbrev f : ℕ → Instruction
   f = c .form
 
@@ -67,7 +67,7 @@ module _ (i : Instruction) (a : ℕ) (fits : a + length (bytesOf i) ≤ 4096) (c
   sized : length (bytesOf i) ≡ size f
   sized = ap (λ (j : Instruction). length (bytesOf j)) (sym (c .is)) ∙ subst (OfForm Fits) (c .found) (found (lead f) forms-fit) .sized v
 
-  room : a < 4096
+  room : a < romSize
   room = omega (arith, fits, sized, good .takes)
 
   small : v ≤ 65535
@@ -88,15 +88,15 @@ module _ (i : Instruction) (a : ℕ) (fits : a + length (bytesOf i) ≤ 4096) (c
       ∙ ap₂ (λ (l m : Statement). l ∷ m ∷ []) (org-said 2 a room (omega (arith, room)))
       (form-said f v (good .words) (c .found) (c .low) small)
 
-  text-assembled : assembled text ≡ written (sets (replicate 4096 0x3e) a (bytesOf (f v)))
+  text-assembled : assembled text ≡ written (sets (replicate romSize 0x3e) a (bytesOf (f v)))
   text-assembled =
       short-text (org-words ++ spoken 3 a) (line-of f v) (reads-org a) (reads-form f v (good .text))
       ∙ ap answerTo program-is
       ∙ answer a f (terms (operandDigits f) v) v room (rw sized at fits) (c .low) (rw sized at (c .reach))
       (plus-terms (operandDigits f) v (c .low)) (minus-terms (operandDigits f) v) (known-terms (operandDigits f) v)
 
-  pub assembles : assembled (printed a i) ≡ written (sets (replicate 4096 0x3e) a (bytesOf i))
-  assembles = ap assembled text-is ∙ text-assembled ∙ ap (λ (j : Instruction). written (sets (replicate 4096 0x3e) a (bytesOf j))) (c .is)
+  pub assembles : assembled (printed a i) ≡ written (sets (replicate romSize 0x3e) a (bytesOf i))
+  assembles = ap assembled text-is ∙ text-assembled ∙ ap (λ (j : Instruction). written (sets (replicate romSize 0x3e) a (bytesOf j))) (c .is)
 
 pub prints-back : PrintsBack
 prints-back i a r h = assembles i a h (case (movedBy (length (bytesOf i)) a) (omega arith) i r)

@@ -6,11 +6,12 @@ use mathlib.Core.Bool.{true, false}
 use mathlib.Core.List.{List, _∷_}
 use mathlib.Core.Option.{Option}
 use lib.ListN.{getD, length}
+use Rattle.assembler.specs.Forms.{romSize}
 use Rattle.isa.specs.Reading.{Reading}
 use Rattle.isa.specs.Views.{View, on, jmp, branch, call, ret, reti, ei, view}
 use Rattle.isa.specs.declared.Instruction.{Instruction}
 use Rattle.isa.specs.declared.decoder.Decoded.the-variants.{Read}
-use Rattle.rom.specs.Fetching.{branchTo, byteAt, movedBy}
+use Rattle.rom.specs.Fetching.{branchTo, codeAt, movedBy}
 use Rattle.operand.specs.Operand.{Term, minus, plus}
 use Rattle.assembler.specs.Forms as Forms
 use Rattle.assembler.specs.Statement.{Statement, mnemonic}
@@ -33,18 +34,18 @@ GoesBy ei moved v = Unit {0}
 
 -- a line with the form f and these terms, where this stands above it and `whole` above the end: its bytes read as its instruction
 pub record BytesRead (whole s : Above) (f : ℕ → Instruction) (ts : List Term) (bs : List ℕ) : Type 0 where
-  pub reads : Reading (byteAt bs (s .at)) (byteAt bs (s .at + 1)) (Read (instruction whole f ts))
-  pub fits : s .at + Forms.size f ≤ 4096
+  pub reads : Reading (codeAt bs (s .at) .first) (codeAt bs (s .at) .second) (Read (instruction whole f ts))
+  pub fits : s .at + Forms.size f ≤ romSize
   -- its operand has a value of its field, and a conditional branch goes to it
   pub in-field : within (Forms.field f) (plus (whole .names) (whole .addresses) ts) (minus (whole .names) (whole .addresses) ts) ≡ true
   pub goes : GoesBy (view (instruction whole f ts)) (movedBy (Forms.size f) (s .at))
       (plus (whole .names) (whole .addresses) ts - minus (whole .names) (whole .addresses) ts)
 
 pub record LinesRead (text bs : List ℕ) : Type 0 where
-  pub size : length bs ≡ 4096
+  pub size : length bs ≡ romSize
   pub lines : (s : Above) (l : Option (List ℕ)) (f : ℕ → Instruction) (ts : List Term) → Stands start (program text) s (mnemonic l f ts)
       → BytesRead (end start (program text)) s f ts bs
-  pub others : (a : ℕ) → a < 4096 → isIn (end start (program text) .written) a ≡ false → getD bs a 0 ≡ 0x3e
+  pub others : (a : ℕ) → a < romSize → isIn (end start (program text) .written) a ≡ false → getD bs a 0 ≡ 0x3e
 
 abbrev pub LinesReadAll : Type 0
 LinesReadAll = (text bs : List ℕ) → assembled text ≡ written bs → LinesRead text bs

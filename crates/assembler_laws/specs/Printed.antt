@@ -6,6 +6,7 @@ use mathlib.Core.Bool.{true}
 use mathlib.Core.List.{List, [], _∷_, _++_}
 use lib.ListN.{length, replicate}
 use lib.Seq.{sets}
+use Rattle.assembler.specs.Forms.{romSize}
 use Rattle.isa.specs.Code.{bytesOf, inRange}
 use Rattle.isa.specs.declared.Instruction.{Instruction}
 use Rattle.rom.specs.Fetching.{movedBy}
@@ -20,5 +21,5 @@ abbrev pub printed : ℕ → Instruction → List ℕ
 printed a i = codes "ORG " ++ number 3 a ++ (LF ∷ []) ++ textOf (placedAt (movedBy (length (bytesOf i)) a) i)
 
 abbrev pub PrintsBack : Type 0
-PrintsBack = (i : Instruction) (a : ℕ) → inRange i ≡ true → a + length (bytesOf i) ≤ 4096
-    → assembled (printed a i) ≡ written (sets (replicate 4096 0x3e) a (bytesOf i))
+PrintsBack = (i : Instruction) (a : ℕ) → inRange i ≡ true → a + length (bytesOf i) ≤ romSize
+    → assembled (printed a i) ≡ written (sets (replicate romSize 0x3e) a (bytesOf i))

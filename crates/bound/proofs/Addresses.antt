@@ -1,6 +1,6 @@
--- What stands at an address of a mask, as the walk has it: the addresses that follow, from the flow there, are below 4,096; an entry of document 01's list has
--- at most 2 cycles, by one computed test. Assumes nothing.
-use Prim.Native.Nat.{ℕ, zero, suc, _+_, _%_, _<_, _≤_}
+-- What stands at an address of a mask, as the walk has it: the addresses that follow, from the flow there, are addresses; an entry of document 01's
+-- list has at most 2 cycles, by one computed test. Assumes nothing.
+use Prim.Native.Nat.{ℕ, zero, suc, _%_, _<_, _≤_}
 use native.Mathlib.Omega.{arith}
 use mathlib.Core.Path.{_≡_, refl, sym, ap, ap₂, subst, _∙_}
 use mathlib.Core.Bool.{Bool, true, false, _&&_, false≢true}
@@ -8,15 +8,16 @@ use mathlib.Core.List.{List, [], _∷_}
 use lib.Dec.{ltb}
 use lib.ListN.{getD}
 use borrow.Author.Tests.{ltb-true}
-use Rattle.isa.specs.Timing.{Columns, entries, columnsOf}
+use Rattle.isa.specs.Code.{addresses}
+use Rattle.isa.specs.Timing.{entries, columnsOf}
 use Rattle.isa.specs.Views.{View, on, jmp, branch, call, ret, reti, ei, view}
-use Rattle.isa.proofs.Exact.{sound, timed}
 use Rattle.isa.specs.Reading.{opcodes, decoded}
-use Rattle.isa.proofs.List.{cycles-at}
 use Rattle.isa.specs.declared.Instruction.{Instruction}
 use Rattle.isa.specs.declared.decoder.Decoded.{Decoded}
 use Rattle.isa.specs.declared.decoder.Decoded.the-variants.{Read, Unreadable}
-use Rattle.rom.specs.Fetching.{Bytes, byteAt, readAt, cyclesAt, movedFrom}
+use Rattle.rom.specs.Fetching.{Bytes, codeAt, readAt, cyclesAt, movedFrom}
+use Rattle.rom.specs.declared.reader.Code.{Code}
+use Rattle.rom.proofs.Fetching.{read-code, read-cycles, cycles-entry}
 use Rattle.reach.specs.Walk.{Small}
 use Rattle.checker.specs.Marks.{flowBy, flowOf, flowRead, flowAt, fault}
 use Rattle.checker.specs.declared.flow.Flow.{Flow}
@@ -51,7 +52,7 @@ unfolding entries columnsOf opcodes cheap
 all-cheap = refl
 
 pub two-cycles : (mask : List ℕ) (a : ℕ) → cyclesAt mask a ≤ 2
-two-cycles mask a = subst (λ (n : ℕ). n ≤ 2) (cycles-at (byteAt mask a)) (cheap-at entries (byteAt mask a) all-cheap)
+two-cycles mask a = subst (λ (n : ℕ). n ≤ 2) (cycles-entry mask a) (cheap-at entries (codeAt mask a .first) all-cheap)
 
 -- a return takes one
 return-cycles : {i : Instruction} (v : View i) → flowBy v ≡ Back → columnsOf i .cycles ≡ 1
@@ -69,9 +70,7 @@ unfolding flowAt flowOf
 returned-cycles mask bytes a = go (readAt mask a) refl
   where
     go : (d : Decoded) → readAt mask a ≡ d → flowRead d ≡ Back → cyclesAt mask a ≡ 1
-    go (Read i) e b =
-        let y< = bytes ((a + 1) % 4096) in
-        ap (λ (c : Columns). c .cycles) (timed (byteAt mask a) .read (byteAt mask (a + 1)) i y< (sound (byteAt mask a) (byteAt mask (a + 1)) i y< e)) ∙ return-cycles (view i) b
+    go (Read i) e b = read-cycles mask a bytes i e ∙ return-cycles (view i) b
     go Unreadable e b = let z : _≡_ {A = ℕ} 0 1 = cc in absurd (omega arith)
 
 -- ---- what follows
@@ -80,10 +79,10 @@ module _ (mask : List ℕ) (a : ℕ) where
   unfolding within fault
   next-flow = refl
 
-  pub next-small : Bytes mask → Small 4096 (nextAddresses mask a)
-  next-small bytes = subst (Small 4096) (sym next-flow) (go (flowAt mask a) (flow-targets mask bytes a))
+  pub next-small : Bytes mask → Small addresses (nextAddresses mask a)
+  next-small bytes = subst (Small addresses) (sym next-flow) (go (flowAt mask a) (flow-targets mask bytes a))
     where
-      go : (f : Flow) → Targets f → Small 4096 (handedTo f (movedFrom mask a))
+      go : (f : Flow) → Targets f → Small addresses (handedTo f (movedFrom mask a))
       go Unread t = tt
       go On t = (omega arith, tt)
       go Enable t = (omega arith, tt)
@@ -92,18 +91,18 @@ module _ (mask : List ℕ) (a : ℕ) where
       go (Sub b) t = tt
       go Back t = tt
 
-  -- the ways of the two bytes there
-  pub stands : (x y moved : ℕ) (w : Ways) → x ≡ byteAt mask a → y ≡ byteAt mask (a + 1) → moved ≡ movedFrom mask a → HandedOn (decoded x y) moved w → StandsAt mask a w
+  -- the ways of the code there
+  pub stands : (c : Code) (moved : ℕ) (w : Ways) → c ≡ codeAt mask a → moved ≡ movedFrom mask a → HandedOn (decoded (c .first) (c .second)) moved w → StandsAt mask a w
   unfolding flowAt
-  stands x y moved w p q m = go w
+  stands c moved w at m = go w
     where
-      read : decoded x y ≡ readAt mask a
-      read = ap₂ decoded p q
+      read : decoded (c .first) (c .second) ≡ readAt mask a
+      read = ap (λ (c : Code). decoded (c .first) (c .second)) at ∙ read-code mask a
 
-      next : handedTo (flowRead (decoded x y)) moved ≡ nextAddresses mask a
+      next : handedTo (flowRead (decoded (c .first) (c .second))) moved ≡ nextAddresses mask a
       next = ap₂ (λ (d : Decoded) (n : ℕ). handedTo (flowRead d) n) read m ∙ sym next-flow
 
-      go : (w : Ways) → HandedOn (decoded x y) moved w → StandsAt mask a w
+      go : (w : Ways) → HandedOn (decoded (c .first) (c .second)) moved w → StandsAt mask a w
       go Stop h = sym read ∙ h
       go Out h = (λ e. h .0 (read ∙ e), subst (Follows Out) next (h .1))
       go (One q) h = (λ e. h .0 (read ∙ e), subst (Follows (One q)) next (h .1))

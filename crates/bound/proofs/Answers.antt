@@ -8,9 +8,10 @@ use lib.Dec.{eqb}
 use lib.ListN.{length}
 use borrow.Author.Tests.{eqb-true, eqb-false, ne-eqb}
 use Rattle.isa.specs.Choice.{pick}
-use Rattle.rom.specs.Fetching.{Bytes}
-use Rattle.checker.specs.Marks.{addresses, levels, Pair, pair, Reached}
-use Rattle.checker.specs.Verdicts.{Answers, Marked, Safe, isMarked}
+use Rattle.isa.specs.Code.{addresses}
+use Rattle.rom.specs.Fetching.{Bytes, sized}
+use Rattle.checker.specs.Marks.{levels, Pair, pair, Reached}
+use Rattle.checker.specs.Verdicts.{marksSize, Answers, Marked, Safe, isMarked}
 use Rattle.checker.specs.declared.check.Verdict.{Verdict}
 use Rattle.checker.specs.declared.check.Verdict.the-variants.{Passed, Failed, BadMask, BadMarks}
 use Rattle.bound.specs.Paths.{Longest}
@@ -24,7 +25,7 @@ use Rattle.bound.specs.declared.bound.Bound.the-variants.{BadMask as NoM
 use Rattle.bound.proofs.Levels.{told-unbounded, told-bounded, bounded-some}
 
 -- the checker's verdict on a mask and marks of their lengths
-module _ (mask old new : List ℕ) (size : length mask ≡ 4096) (room : length old ≡ 4096) where
+module _ (mask old new : List ℕ) (size : sized mask ≡ true) (room : length old ≡ marksSize) where
   pub fails : (v : Verdict) → Answers mask old new v → (v ≡ Passed → ⊥) → Safe mask → ⊥
   fails Passed h n s = n refl
   fails (Failed f a l) h n s = let k = h .1 in k .not-zero (sym (k .forbidden) ∙ s (pair a l) (k .reached))
@@ -35,7 +36,7 @@ module _ (mask old new : List ℕ) (size : length mask ≡ 4096) (room : length 
   passes v h e = let k = subst (Answers mask old new) e h in (k .0 .marked, k .1)
 
 -- a pair in range of a mask that passes
-module _ (mask new : List ℕ) (a l : ℕ) (size : length mask ≡ 4096) (h : a < addresses) (k : l < levels) (marks : Marked mask new) (safe : Safe mask) where
+module _ (mask new : List ℕ) (a l : ℕ) (size : sized mask ≡ true) (h : a < addresses) (k : l < levels) (marks : Marked mask new) (safe : Safe mask) where
   pub asked : Asked mask (pair a l)
   asked = record { mask-size = size; in-range = (h, k); passed = safe }
 

@@ -1,26 +1,29 @@
 -- The list of all bounds, address by address: what is remembered is true of every address, so one walk after the other goes on with it. Then the largest entry
 -- and the CALLs' targets, place by place. Assumes nothing.
-use Prim.Native.Nat.{ℕ, suc, _+_, _*_, _-_, _<_, _≤_}
+use Prim.Native.Nat.{ℕ, suc, _+_, _*_, _-_, _/_, _%_, _^_, _<_, _≤_}
 use native.Mathlib.Omega.{arith}
 use native.Mathlib.Decide.{ℕ-discrete}
 use mathlib.Core.Path.{_≡_, refl, sym, ap, subst, _∙_}
-use mathlib.Core.Bool.{Bool, true, false, false≢true}
+use mathlib.Core.Bool.{Bool, true, false, _&&_, false≢true}
 use mathlib.Core.List.{List}
 use mathlib.Core.Logic.{_⊎_, inl, inr}
+use lib.Dec.{eqb, ltb}
 use lib.ListN.{length, getD, set, replicate, length-set, length-replicate}
+use borrow.Author.Tests.{eq-eqb, lt-ltb, ltb-true}
 use Rattle.isa.specs.Choice.{pick}
+use Rattle.isa.specs.Code.{addresses}
 use Rattle.isa.specs.declared.ProgramAddress.{ProgramAddress}
-use Rattle.rom.specs.Fetching.{Bytes}
+use Rattle.rom.specs.Fetching.{Bytes, sized}
 use Rattle.reach.specs.Walk.{zeros}
 use Rattle.reach.proofs.Count.{after-set, getD-zeros}
-use Rattle.checker.specs.Marks.{addresses, levels, pair, flowAt}
+use Rattle.checker.specs.Marks.{levels, pair, flowAt}
 use Rattle.checker.specs.Verdicts.{Marked, Safe, isMarked}
 use Rattle.checker.specs.declared.flow.Flow.{Flow}
 use Rattle.checker.specs.declared.flow.Flow.the-variants.{Unread, On, Enable, Jump, To, Sub, Back}
 use Rattle.checker.proofs.Reach.{Targets, flow-targets}
 use Rattle.bound.specs.Paths.{Endless}
 use Rattle.bound.specs.Bounds.{BoundAnswers}
-use Rattle.bound.specs.Lists.{boundAt, placeOf, Entries, Largest, Called, CallTargets}
+use Rattle.bound.specs.Lists.{boundAt, boundsSize, placeOf, entryOf, Entries, Largest, Called, CallTargets}
 use Rattle.bound.specs.Paths.{Leads}
 use Rattle.bound.specs.Lists.{endless}
 use Rattle.bound.specs.Walk.{nextAddresses, HaltsAt, ToldOf, RemembersOf, TargetOf}
@@ -33,20 +36,24 @@ cases (inl a) f g = f a
 cases (inr b) f g = g b
 
 -- ---- the entries
-module _ (mask marks : List ℕ) (bytes : Bytes mask) (size : length mask ≡ 4096) (marked : Marked mask marks) (safe : Safe mask) where
+-- the entry of a pair above main
+pub entry-at : (list : List ℕ) (a l : ℕ) → length list ≡ boundsSize → a < addresses → 0 < l → l < levels → entryOf list a l ≡ getD list (placeOf a l) 0
+entry-at list a l e h z k = rw (eq-eqb (length list) boundsSize e, lt-ltb a addresses h, lt-ltb 0 l z, lt-ltb l levels k) refl
+
+module _ (mask marks : List ℕ) (bytes : Bytes mask) (size : sized mask ≡ true) (marked : Marked mask marks) (safe : Safe mask) where
   -- the entries of the addresses before a
   pub record Filling (list found : List ℕ) (a : ℕ) : Type 0 where
-    pub room : length list ≡ 8192
+    pub room : length list ≡ boundsSize
     pub known : RemembersOf mask (λ (k : ℕ). ⊥) found
-    pub few : zeros found ≤ 4096
+    pub few : zeros found ≤ addresses
     pub done : (b l : ℕ) → b < a → 0 < l → l < levels → BoundAnswers mask (pair b l) (boundAt (getD list (placeOf b l) 0))
 
-  pub filling-start : (list : List ℕ) → length list ≡ 8192 → Filling list (replicate 4096 0) 0
+  pub filling-start : (list : List ℕ) → length list ≡ boundsSize → Filling list (replicate addresses 0) 0
   filling-start list e = record { room = e; known = fresh mask (λ (k : ℕ). ⊥); few = fresh-left; done = λ b l h. absurd (omega arith) }
 
   -- what the walk from the next address is told
-  pub filling-given : (list found : List ℕ) (a : ℕ) → Filling list found a → a < 4096
-      → ((a < 4096) × (zeros found ≤ 4096)) × RemembersOf mask (λ (k : ℕ). Leads (nextAddresses mask) k a) found
+  pub filling-given : (list found : List ℕ) (a : ℕ) → Filling list found a → a < addresses
+      → ((a < addresses) × (zeros found ≤ addresses)) × RemembersOf mask (λ (k : ℕ). Leads (nextAddresses mask) k a) found
   filling-given list found a f h =
       ((h, f .few), record { size = f .known .size; unbounded = λ k e. sure k (f .known .unbounded k e); bounded = f .known .bounded })
     where
@@ -54,7 +61,7 @@ module _ (mask marks : List ℕ) (bytes : Bytes mask) (size : length mask ≡ 40
       sure k (inl e) = inl e
 
   -- the two entries of the address
-  pub filling-next : (list found new : List ℕ) (a n x y : ℕ) → Filling list found a → a < 4096 → Turned mask a found new n
+  pub filling-next : (list found new : List ℕ) (a n x y : ℕ) → Filling list found a → a < addresses → Turned mask a found new n
       → x ≡ pick (isMarked marks a 1) n 0 → y ≡ pick (isMarked marks a 2) n 0 → Filling (set (set list (a * 2) x) (a * 2 + 1) y) new (a + 1)
   filling-next list found new a n x y f h t ex ey =
       record {
@@ -87,8 +94,9 @@ module _ (mask marks : List ℕ) (bytes : Bytes mask) (size : length mask ≡ 40
           (λ g. at b l 1 x (omega arith) (omega arith) z k ex)
           (λ g. f .done b l (omega (arith, e, g)) z k))
 
-  pub filling-end : (list found : List ℕ) (a : ℕ) → Filling list found a → 4096 ≤ a → (length list ≡ 8192) × Entries mask list
-  filling-end list found a f h = (f .room, λ b l i. f .done b l (omega arith))
+  pub filling-end : (list found : List ℕ) (a : ℕ) → Filling list found a → addresses ≤ a → (length list ≡ boundsSize) × Entries mask list
+  filling-end list found a f h =
+      (f .room, λ b l i z k. subst (λ (n : ℕ). BoundAnswers mask (pair b l) (boundAt n)) (sym (entry-at list b l (f .room) i z k)) (f .done b l (omega arith) z k))
 
 -- ---- the largest entry
 pub record Best (list : List ℕ) (best place : ℕ) : Type 0 where
@@ -137,7 +145,7 @@ module _ (list : List ℕ) (best place : ℕ) (b : Best list best place) where
 
 -- ---- the CALLs' targets
 -- a target below 4,096 is a marked CALL's
-called : (m : Bool) (f : Flow) (r : ℕ) → TargetOf (pick m f Unread) r → r < 4096 → (m ≡ true) × (t : ProgramAddress) × (f ≡ Sub t) × (t .0 ≡ r)
+called : (m : Bool) (f : Flow) (r : ℕ) → TargetOf (pick m f Unread) r → r < addresses → (m ≡ true) × (t : ProgramAddress) × (f ≡ Sub t) × (t .0 ≡ r)
 called true Unread r e h = absurd (omega (arith, e))
 called true On r e h = absurd (omega (arith, e))
 called true Enable r e h = absurd (omega (arith, e))
@@ -147,22 +155,30 @@ called true (Sub t) r e h = (refl, t, refl, sym e)
 called true Back r e h = absurd (omega (arith, e))
 called false f r e h = absurd (omega (arith, e))
 
+-- a marked pair is in range
+marked-inside : (marks : List ℕ) (a l : ℕ) → isMarked marks a l ≡ true → a < addresses
+marked-inside marks a l = go (ltb a addresses) (ltb l levels) (eqb (getD marks a 0 / 2 ^ l % 2) 1) (ltb-true a addresses)
+  where
+    go : (b d t : Bool) → (b ≡ true → a < addresses) → (b && d && t) ≡ true → a < addresses
+    go true d t f e = f refl
+    go false d t f e = absurd (false≢true e)
+
 module _ (mask marks : List ℕ) where
   -- the CALLs before address a
   pub record Calling (flags : List ℕ) (a : ℕ) : Type 0 where
-    pub size : length flags ≡ 4096
+    pub size : length flags ≡ addresses
     pub flags-two : (t : ℕ) → getD flags t 0 ≤ 1
     pub sound : (t : ℕ) → getD flags t 0 ≡ 1 → Called mask marks t
     pub full : (t : ℕ) → t < addresses → (k : Called mask marks t) → k .from < a → getD flags t 0 ≡ 1
 
-  pub calling-start : Calling (replicate 4096 0) 0
+  pub calling-start : Calling (replicate addresses 0) 0
   calling-start =
-      record { size = length-replicate {A = ℕ} 4096 0; flags-two = λ t. omega (arith, getD-zeros 4096 t); sound = λ t e. absurd (omega (arith, getD-zeros 4096 t)); full = λ t h k z. absurd (omega arith) }
+      record { size = length-replicate {A = ℕ} addresses 0; flags-two = λ t. omega (arith, getD-zeros addresses t); sound = λ t e. absurd (omega (arith, getD-zeros addresses t)); full = λ t h k z. absurd (omega arith) }
 
   abbrev pub TargetAt : ℕ → ℕ → Type 0
   TargetAt a r = TargetOf (pick (isMarked marks a 0) (flowAt mask a) Unread) r
 
-  module _ (flags : List ℕ) (a r : ℕ) (c : Calling flags a) (h : a < 4096) (target : TargetAt a r) where
+  module _ (flags : List ℕ) (a r : ℕ) (c : Calling flags a) (h : a < addresses) (target : TargetAt a r) where
     -- where a CALL at the address goes
     goes : (t : ℕ) (k : Called mask marks t) → k .from ≡ a → r ≡ t
     goes t k e = subst (λ (f : Flow). TargetOf f r) both target ∙ k .there
@@ -170,7 +186,7 @@ module _ (mask marks : List ℕ) where
         both : pick (isMarked marks a 0) (flowAt mask a) Unread ≡ Sub (k .target)
         both = subst (λ (a : ℕ). pick (isMarked marks a 0) (flowAt mask a) Unread ≡ Sub (k .target)) e (rw (k .marked) (k .calls))
 
-    pub calling-new : r < 4096 → Calling (set flags r 1) (a + 1)
+    pub calling-new : r < addresses → Calling (set flags r 1) (a + 1)
     calling-new l =
         record {
           size = length-set flags r 1 ∙ c .size;
@@ -183,12 +199,12 @@ module _ (mask marks : List ℕ) where
         new : (t : ℕ) → t ≡ r → Called mask marks t
         new t e =
             let x = called (isMarked marks a 0) (flowAt mask a) r target l in
-            record { from = a; in-range = h; target = x .1; calls = x .2; there = x .3 ∙ sym e; marked = x .0 }
+            record { from = a; target = x .1; calls = x .2; there = x .3 ∙ sym e; marked = x .0 }
 
         earlier : (t : ℕ) (k : Called mask marks t) → k .from < a + 1 → (k .from ≡ a → ⊥) → k .from < a
         earlier t k z n = omega (arith, n)
 
-    pub calling-old : 4096 ≤ r → Calling flags (a + 1)
+    pub calling-old : addresses ≤ r → Calling flags (a + 1)
     calling-old l =
         record {
           size = c .size;
@@ -200,10 +216,10 @@ module _ (mask marks : List ℕ) where
         earlier : (t : ℕ) → t < addresses → (k : Called mask marks t) → k .from < a + 1 → (k .from ≡ a → ⊥) → k .from < a
         earlier t i k z n = omega (arith, n)
 
-  pub calling-end : (flags : List ℕ) (a : ℕ) → Calling flags a → 4096 ≤ a → CallTargets mask marks flags
+  pub calling-end : (flags : List ℕ) (a : ℕ) → Calling flags a → addresses ≤ a → CallTargets mask marks flags
   calling-end flags a c h =
       record {
-        called = λ t i k. let l = k .in-range in c .full t i k (omega arith);
+        called = λ t i k. c .full t i k (omega (arith, marked-inside marks (k .from) 0 (k .marked)));
         others = λ t i n. none (getD flags t 0) (c .flags-two t) (λ e. n (c .sound t e));
       }
     where

@@ -9,6 +9,7 @@ use mathlib.Core.List.{List}
 use lib.Dec.{ltb}
 use lib.ListN.{length, getD, set, replicate, length-replicate}
 use Rattle.isa.specs.Choice.{pick}
+use Rattle.isa.specs.Code.{addresses}
 use Rattle.rom.specs.Fetching.{Bytes, cyclesAt}
 use Rattle.reach.specs.Chains.{Member, here, there}
 use Rattle.reach.specs.Walk.{zeros}
@@ -16,7 +17,7 @@ use Rattle.reach.proofs.Chains.{all-member}
 use Rattle.reach.proofs.Count.{zeros-replicate, getD-zeros}
 use Rattle.bound.specs.Paths.{Leads}
 use Rattle.bound.specs.Lists.{endless}
-use Rattle.bound.specs.Walk.{settled, Remembers, Told, nextAddresses, HaltsAt, ToldOf, RemembersOf, StandsAt}
+use Rattle.bound.specs.Walk.{mostCycles, settled, Remembers, Told, nextAddresses, HaltsAt, ToldOf, RemembersOf, StandsAt}
 use Rattle.bound.specs.declared.ways.Ways.{Ways}
 use Rattle.bound.specs.declared.ways.Ways.the-variants.{Stop, Out, One, Two}
 use Rattle.bound.proofs.Addresses.{two-cycles, next-small}
@@ -31,31 +32,31 @@ abbrev pub Turned : List ℕ → ℕ → List ℕ → List ℕ → ℕ → Type 
 Turned mask a old new r = ToldOf mask a r × Left mask old new
 
 -- nothing is found yet
-pub fresh : (mask : List ℕ) (P : ℕ → Type 0) → RemembersOf mask P (replicate 4096 0)
+pub fresh : (mask : List ℕ) (P : ℕ → Type 0) → RemembersOf mask P (replicate addresses 0)
 fresh mask P =
     record {
-      size = length-replicate {A = ℕ} 4096 0;
-      unbounded = λ k e. absurd (omega (arith, getD-zeros 4096 k));
-      bounded = λ k n. absurd (n (getD-zeros 4096 k));
+      size = length-replicate {A = ℕ} addresses 0;
+      unbounded = λ k e. absurd (omega (arith, getD-zeros addresses k));
+      bounded = λ k n. absurd (n (getD-zeros addresses k));
     }
 
-pub fresh-left : zeros (replicate 4096 0) ≤ 4096
-fresh-left = omega (arith, zeros-replicate 4096)
+pub fresh-left : zeros (replicate addresses 0) ≤ addresses
+fresh-left = omega (arith, zeros-replicate addresses)
 
 module _ (mask : List ℕ) (bytes : Bytes mask) where
   -- a number of an address is 65,535 or small
-  pub told-small : (q n : ℕ) → q < 4096 → ToldOf mask q n → (n ≡ endless → ⊥) → n ≤ 8192
+  pub told-small : (q n : ℕ) → q < addresses → ToldOf mask q n → (n ≡ endless → ⊥) → n ≤ mostCycles
   told-small q n h t f =
       finite-small (nextAddresses mask) (HaltsAt mask) (cyclesAt mask) (λ k. next-small mask k bytes) (two-cycles mask) q n h (t .bounded f)
 
-  pub told-most : (q n : ℕ) → q < 4096 → ToldOf mask q n → n ≤ endless
+  pub told-most : (q n : ℕ) → q < addresses → ToldOf mask q n → n ≤ endless
   told-most q n h t = go (ℕ-discrete n endless)
     where
       go : Dec (n ≡ endless) → n ≤ endless
       go (yes e) = omega arith
       go (no f) = let l = told-small q n h t f in omega arith
 
-  module _ (a left : ℕ) (found : List ℕ) (h : a < 4096) (l : zeros found ≤ left)
+  module _ (a left : ℕ) (found : List ℕ) (h : a < addresses) (l : zeros found ≤ left)
       (before : RemembersOf mask (λ (k : ℕ). Leads (nextAddresses mask) k a) found) where
     pub known : (getD found a 0 ≡ 0 → ⊥) → Turned mask a found found (getD found a 0)
     known n = (
@@ -80,11 +81,11 @@ module _ (mask : List ℕ) (bytes : Bytes mask) where
           record { opened = opened (nextAddresses mask) (HaltsAt mask) (cyclesAt mask) a found before h; fewer = omega (arith, marked) }
 
       -- a successor's turn: what it is told, and what it leaves
-      pub inside : (q : ℕ) → Member q (nextAddresses mask a) → q < 4096
-      inside q m = all-member (λ (k : ℕ). k < 4096) m (next-small mask a bytes)
+      pub inside : (q : ℕ) → Member q (nextAddresses mask a) → q < addresses
+      inside q m = all-member (λ (k : ℕ). k < addresses) m (next-small mask a bytes)
 
       pub given : (q : ℕ) (now : List ℕ) → Walked now → Member q (nextAddresses mask a)
-          → ((q < 4096) × (zeros now ≤ left - 1)) × RemembersOf mask (λ (k : ℕ). Leads (nextAddresses mask) k q) now
+          → ((q < addresses) × (zeros now ≤ left - 1)) × RemembersOf mask (λ (k : ℕ). Leads (nextAddresses mask) k q) now
       given q now w m =
           let f = w .fewer in
           ((inside q m, omega arith), descend (nextAddresses mask) (HaltsAt mask) (cyclesAt mask) a found before h q now (w .opened) m)
@@ -108,7 +109,7 @@ module _ (mask : List ℕ) (bytes : Bytes mask) where
       halts e r p = closes (set found a endless) begun r (subst (ToldOf mask a) (sym p) (told-halt (nextAddresses mask) (HaltsAt mask) (cyclesAt mask) a e))
 
       settles : (now : List ℕ) (w r : ℕ) → Walked now → (HaltsAt mask a → ⊥)
-          → Worst (nextAddresses mask) (HaltsAt mask) (cyclesAt mask) (nextAddresses mask a) w → ((w ≡ endless → ⊥) → w ≤ 8192)
+          → Worst (nextAddresses mask) (HaltsAt mask) (cyclesAt mask) (nextAddresses mask a) w → ((w ≡ endless → ⊥) → w ≤ mostCycles)
           → r ≡ settled w (cyclesAt mask a) → Turned mask a found (set now a r) r
       settles now w r k n worst s e =
           closes now k r
@@ -139,10 +140,10 @@ module _ (mask : List ℕ) (bytes : Bytes mask) where
         pub two-second : Member s (nextAddresses mask a)
         two-second = subst (Member s) (k .1) (there here)
 
-        pub two-small : (n m : ℕ) → ToldOf mask q n → ToldOf mask s m → (pick (ltb n m) m n ≡ endless → ⊥) → pick (ltb n m) m n ≤ 8192
+        pub two-small : (n m : ℕ) → ToldOf mask q n → ToldOf mask s m → (pick (ltb n m) m n ≡ endless → ⊥) → pick (ltb n m) m n ≤ mostCycles
         two-small n m t u = go (ltb n m)
           where
-            go : (b : Bool) → (pick b m n ≡ endless → ⊥) → pick b m n ≤ 8192
+            go : (b : Bool) → (pick b m n ≡ endless → ⊥) → pick b m n ≤ mostCycles
             go true e = told-small s m (inside s two-second) u e
             go false e = told-small q n (inside q two-first) t e
 

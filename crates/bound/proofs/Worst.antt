@@ -13,6 +13,7 @@ use lib.ListN.{length, getD, set, length-set}
 use lib.Seq.{getD-set-same, getD-set-other}
 use borrow.Author.Tests.{eqb-true, eqb-false, eq-eqb, ne-eqb, ltb-true, ltb-false}
 use Rattle.isa.specs.Choice.{pick}
+use Rattle.isa.specs.Code.{addresses}
 use Rattle.reach.specs.Chains.{Member, here, there, Chain, one, more, Reaches}
 use Rattle.reach.specs.Walk.{Small, zeros}
 use Rattle.reach.proofs.Chains.{all-member, reached-start, reached-next}
@@ -20,7 +21,7 @@ use Rattle.reach.proofs.Count.{after-set}
 use Rattle.bound.specs.Paths.{Loop, Endless, total, Spends, Longest}
 use Rattle.bound.specs.Paths.{Leads}
 use Rattle.bound.specs.Lists.{endless}
-use Rattle.bound.specs.Walk.{settled, Last, Finite, Told, Remembers}
+use Rattle.bound.specs.Walk.{mostCycles, settled, Last, Finite, Told, Remembers}
 use Rattle.bound.proofs.Loops.{endless-over, endless-loop, few}
 
 -- ---- counting what is not found yet
@@ -137,7 +138,7 @@ module _ (next : ℕ → List ℕ) (Halt : ℕ → Type 0) (cost : ℕ → ℕ) 
         go {e} (more {q = q} {ps = ps} m c) l =
             let h = worst .most f q (total cost ps) m (record { chain = ps; end = e; links = c; ends = l; spent = refl }) in omega arith
 
-    pub told-settled : ((w ≡ endless → ⊥) → w ≤ 8192) → cost a ≤ 2 → Told next Halt cost a (settled w (cost a))
+    pub told-settled : ((w ≡ endless → ⊥) → w ≤ mostCycles) → cost a ≤ 2 → Told next Halt cost a (settled w (cost a))
     told-settled h k = go (eqb w endless) (eqb-true w endless) (eqb-false w endless)
       where
         go : (b : Bool) → (b ≡ true → w ≡ endless) → (b ≡ false → w ≡ endless → ⊥) → Told next Halt cost a (pick b endless (w + cost a))
@@ -156,16 +157,16 @@ module _ (next : ℕ → List ℕ) (Halt : ℕ → Type 0) (cost : ℕ → ℕ) 
   told-halt a h = record { unbounded = λ e. record { at = a; reached = reached-start; shown = inr h }; bounded = λ n. absurd (n refl) }
 
   -- ---- how large a number is
-  module _ (small : (k : ℕ) → Small 4096 (next k)) (cheap : (k : ℕ) → cost k ≤ 2) where
+  module _ (small : (k : ℕ) → Small addresses (next k)) (cheap : (k : ℕ) → cost k ≤ 2) where
     total-most : (ps : List ℕ) → total cost ps ≤ 2 * length ps
     unfolding total
     total-most [] = omega arith
     total-most (p ∷ ps) = let h = total-most ps in let k = cheap p in omega arith
 
-    pub finite-small : (a n : ℕ) → a < 4096 → Finite next Halt cost a n → n ≤ 8192
+    pub finite-small : (a n : ℕ) → a < addresses → Finite next Halt cost a n → n ≤ mostCycles
     finite-small a n h f =
         let s = f .longest .met in
-        let l = few 4096 next small {Halts = Halt} h (s .links) (f .ends) in
+        let l = few addresses next small {Halts = Halt} h (s .links) (f .ends) in
         let t = total-most (s .chain) in
         omega (arith, s .spent)
 
@@ -185,7 +186,7 @@ module _ (next : ℕ → List ℕ) (Halt : ℕ → Type 0) (cost : ℕ → ℕ) 
     abbrev Open : List ℕ → Type 0
     Open = Remembers next Halt cost (λ (k : ℕ). getD (set found a endless) k 0 ≡ endless)
 
-    module _ (h : a < 4096) where
+    module _ (h : a < addresses) where
       pub opened : Open (set found a endless)
       opened =
           record {

@@ -2,14 +2,14 @@
 -- says. Assumes nothing.
 use Prim.Native.Nat.{ℕ, _<_}
 use mathlib.Core.Path.{_≡_}
-use mathlib.Core.Bool.{cond}
+use mathlib.Core.Bool.{true, cond}
 use mathlib.Core.List.{List}
 use lib.Dec.{eqb}
-use lib.ListN.{length}
+use Rattle.isa.specs.Code.{addresses}
 use Rattle.isa.specs.declared.Instruction.the-variants as I
 use Rattle.isa.specs.declared.decoder.Decoded.the-variants.{Read}
-use Rattle.rom.specs.Fetching.{readAt, cyclesAt, movedFrom}
-use Rattle.checker.specs.Marks.{addresses, levels, Pair, flowAt, onward, unlessForbidden, Reached}
+use Rattle.rom.specs.Fetching.{sized, readAt, cyclesAt, movedFrom}
+use Rattle.checker.specs.Marks.{levels, Pair, flowAt, onward, unlessForbidden, Reached}
 use Rattle.checker.specs.Verdicts.{Safe}
 use Rattle.checker.specs.declared.flow.Flow.the-variants.{Back}
 use Rattle.bound.specs.Paths.{Endless, Longest}
@@ -48,7 +48,7 @@ InRange p = (p .address < addresses) × (p .level < levels)
 
 -- "Asked for a pair of a passed mask": nothing is refused
 pub record Asked (mask : List ℕ) (p : Pair) : Type 0 where
-  pub mask-size : length mask ≡ 4096
+  pub mask-size : sized mask ≡ true
   pub in-range : InRange p
   pub passed : Safe mask
 
@@ -70,9 +70,9 @@ boundRefusal MaskFails = 15
 abbrev pub BoundSays : List ℕ → Pair → ℕ → Type 0
 BoundSays mask p n =
     cond (eqb n 0) (Asked mask p)
-    (cond (eqb n 1) (length mask ≡ 4096 → ⊥)
-    (cond (eqb n 5) ((length mask ≡ 4096) × (InRange p → ⊥))
-    (cond (eqb n 15) ((length mask ≡ 4096) × InRange p × (Safe mask → ⊥))
+    (cond (eqb n 1) (sized mask ≡ true → ⊥)
+    (cond (eqb n 5) ((sized mask ≡ true) × (InRange p → ⊥))
+    (cond (eqb n 15) ((sized mask ≡ true) × InRange p × (Safe mask → ⊥))
     ⊥)))
 
 -- an answer says what its number says, and what it tells of the pair

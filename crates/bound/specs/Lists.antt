@@ -7,8 +7,10 @@ use mathlib.Core.List.{List}
 use lib.Dec.{eqb, ltb}
 use lib.ListN.{length, getD}
 use Rattle.isa.specs.Choice.{pick}
+use Rattle.isa.specs.Code.{addresses}
 use Rattle.isa.specs.declared.ProgramAddress.{ProgramAddress}
-use Rattle.checker.specs.Marks.{addresses, levels, pair, flowAt}
+use Rattle.rom.specs.Fetching.{sized}
+use Rattle.checker.specs.Marks.{levels, pair, flowAt}
 use Rattle.checker.specs.Verdicts.{Safe, isMarked}
 use Rattle.checker.specs.declared.flow.Flow.the-variants.{Sub}
 use Rattle.bound.specs.Bounds.{BoundAnswers}
@@ -28,17 +30,21 @@ boundOf n = pick (eqb n endless) NoBound (Cycles n)
 abbrev pub boundAt : ℕ → Bound
 boundAt n = pick (eqb n 0) NotReached (boundOf n)
 
+-- how many entries there are: two an address
+abbrev pub boundsSize : ℕ
+boundsSize = addresses * 2
+
 -- a pair's place, by address and then level
 abbrev pub placeOf : ℕ → ℕ → ℕ
 placeOf a l = a * 2 + (l - 1)
 
 -- the entry of a pair above level 0; 0, 'not reached', for any other pair, and for a list of another length
 abbrev pub entryOf : List ℕ → ℕ → ℕ → ℕ
-entryOf list a l = pick (eqb (length list) 8192 && ltb a addresses && ltb 0 l && ltb l levels) (getD list (placeOf a l) 0) 0
+entryOf list a l = pick (eqb (length list) boundsSize && ltb a addresses && ltb 0 l && ltb l levels) (getD list (placeOf a l) 0) 0
 
 -- each entry is the answer for its pair
 abbrev pub Entries : List ℕ → List ℕ → Type 0
-Entries mask list = (a l : ℕ) → a < addresses → 0 < l → l < levels → BoundAnswers mask (pair a l) (boundAt (getD list (placeOf a l) 0))
+Entries mask list = (a l : ℕ) → a < addresses → 0 < l → l < levels → BoundAnswers mask (pair a l) (boundAt (entryOf list a l))
 
 -- the number of each answer: wish 5's, but for a pair's; 2 for a list of another length, as document 01 has it for marks
 abbrev pub boundsRefusal : Bounds → ℕ
@@ -50,16 +56,16 @@ boundsRefusal MaskFails = 15
 -- what each refusal says
 abbrev pub BoundsRefused : List ℕ → List ℕ → ℕ → Type 0
 BoundsRefused mask old n =
-    cond (eqb n 1) (length mask ≡ 4096 → ⊥)
-    (cond (eqb n 2) ((length mask ≡ 4096) × (length old ≡ 8192 → ⊥))
-    (cond (eqb n 15) ((length mask ≡ 4096) × (length old ≡ 8192) × (Safe mask → ⊥))
+    cond (eqb n 1) (sized mask ≡ true → ⊥)
+    (cond (eqb n 2) ((sized mask ≡ true) × (length old ≡ boundsSize → ⊥))
+    (cond (eqb n 15) ((sized mask ≡ true) × (length old ≡ boundsSize) × (Safe mask → ⊥))
     ⊥))
 
 -- what each answer says, by its number, of the mask and of the list at entry and at exit: 0, that each entry is there; after a refusal the list is as
 -- it was
 abbrev pub BoundsAnswer : List ℕ → List ℕ → List ℕ → Bounds → Type 0
 BoundsAnswer mask old new b =
-    cond (eqb (boundsRefusal b) 0) ((length old ≡ 8192) × (length new ≡ 8192) × Entries mask new)
+    cond (eqb (boundsRefusal b) 0) ((length old ≡ boundsSize) × (length new ≡ boundsSize) × Entries mask new)
     (BoundsRefused mask old (boundsRefusal b) × (new ≡ old))
 
 -- the first place whose entry is the largest
@@ -71,7 +77,6 @@ pub record Largest (list : List ℕ) (place : ℕ) : Type 0 where
 -- an address that a CALL marked in level 0 has as its target
 pub record Called (mask marks : List ℕ) (t : ℕ) : Type 0 where
   pub from : ℕ
-  pub in-range : from < addresses
   pub target : ProgramAddress
   pub calls : flowAt mask from ≡ Sub target
   pub there : target .0 ≡ t

@@ -1,12 +1,13 @@
 -- The walk, as the private functions state it, over any successor function on addresses: what a number says of an address, and what is remembered.
 -- Then what stands at an address of a mask. No promise of an exported function cites it. Assumes nothing.
-use Prim.Native.Nat.{ℕ, _+_}
+use Prim.Native.Nat.{ℕ, _+_, _*_}
 use mathlib.Core.Path.{_≡_}
 use mathlib.Core.List.{List, [], _∷_, map}
 use mathlib.Core.Logic.{_⊎_}
 use lib.Dec.{eqb}
 use lib.ListN.{length, getD}
 use Rattle.isa.specs.Choice.{pick}
+use Rattle.isa.specs.Code.{addresses}
 use Rattle.isa.specs.declared.Instruction.the-variants as I
 use Rattle.isa.specs.declared.decoder.Decoded.{Decoded}
 use Rattle.isa.specs.declared.decoder.Decoded.the-variants.{Read}
@@ -19,6 +20,10 @@ use Rattle.bound.specs.Bounds.{within}
 use Rattle.bound.specs.Lists.{endless}
 use Rattle.bound.specs.declared.ways.Ways.{Ways}
 use Rattle.bound.specs.declared.ways.Ways.the-variants.{Stop, Out, One, Two}
+
+-- no total is larger: a chain without a loop has each address once, and an address takes two cycles at most
+abbrev pub mostCycles : ℕ
+mostCycles = addresses * 2
 
 -- the cycles of an address before the most that can follow
 abbrev pub settled : ℕ → ℕ → ℕ
@@ -41,7 +46,7 @@ module _ (next : ℕ → List ℕ) (Halt : ℕ → Type 0) (cost : ℕ → ℕ) 
   -- what is remembered for each address: nothing, no bound, or the largest total. An address on the way to the one that is walked has no bound too, though
   -- it may not be known yet
   pub record Remembers (OnTheWay : ℕ → Type 0) (found : List ℕ) : Type 0 where
-    pub size : length found ≡ 4096
+    pub size : length found ≡ addresses
     pub unbounded : (k : ℕ) → getD found k 0 ≡ endless → Endless next Halt k ⊎ OnTheWay k
     pub bounded : (k : ℕ) → (getD found k 0 ≡ 0 → ⊥) → (getD found k 0 ≡ endless → ⊥) → Finite k (getD found k 0)
 
@@ -89,10 +94,10 @@ StandsAt mask a (Two q r) = (HaltsAt mask a → ⊥) × Follows (Two q r) (nextA
 
 -- the target of a CALL; 4,096 where there is none
 abbrev pub TargetOf : Flow → ℕ → Type 0
-TargetOf Unread n = n ≡ 4096
-TargetOf On n = n ≡ 4096
-TargetOf Enable n = n ≡ 4096
-TargetOf (Jump t) n = n ≡ 4096
-TargetOf (To t) n = n ≡ 4096
+TargetOf Unread n = n ≡ addresses
+TargetOf On n = n ≡ addresses
+TargetOf Enable n = n ≡ addresses
+TargetOf (Jump t) n = n ≡ addresses
+TargetOf (To t) n = n ≡ addresses
 TargetOf (Sub t) n = n ≡ t .0
-TargetOf Back n = n ≡ 4096
+TargetOf Back n = n ≡ addresses

@@ -5,9 +5,13 @@ ghost use Rattle.bound.specs.Bounds.{BoundAnswers};
 ghost use Rattle.bound.specs.Lists.{boundOf};
 use crate::longest::ENDLESS;
 use crate::longest::longest;
+use checker::check::MARKS;
 use checker::check::Verdict;
 use checker::check::check;
 use checker::check::is_marked;
+use isa::ADDRESSES;
+use isa::PLACES;
+use rom::reader::mask_ok;
 
 pub enum Bound {
     // The pair is unmarked, or in level 0.
@@ -38,16 +42,16 @@ fn told(found: u16) -> Bound
 pub fn bound_of(mask: &[u8], address: u16, level: u8) -> Bound
     ensures { λ r. ⌜ BoundAnswers (now (mask .entry)) (pair address level) r ⌝ }
 {
-    if mask.len() != 4096 {
+    if !mask_ok(mask) {
         return Bound::BadMask;
     }
-    if 4095 < address {
+    if ADDRESSES <= address {
         return Bound::BadPair;
     }
     if 2 < level {
         return Bound::BadPair;
     }
-    let mut marks = [0u8; 4096];
+    let mut marks = [0u8; MARKS];
     let verdict = check(mask, &mut marks);
     let Verdict::Passed = verdict else {
         return Bound::MaskFails;
@@ -58,6 +62,6 @@ pub fn bound_of(mask: &[u8], address: u16, level: u8) -> Bound
     if !is_marked(&marks, address, level) {
         return Bound::NotReached;
     }
-    let mut found = [0u16; 4096];
-    told(longest(mask, &mut found, address, 4096))
+    let mut found = [0u16; PLACES];
+    told(longest(mask, &mut found, address, ADDRESSES))
 }

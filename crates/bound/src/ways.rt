@@ -5,6 +5,7 @@ ghost use mathlib.Core.Path.{_≡_};
 ghost use Rattle.isa.specs.Reading.{decoded};
 ghost use Rattle.rom.specs.Fetching.{movedBy};
 ghost use Rattle.bound.specs.Walk.{HandedOn};
+use rom::reader::moved_by;
 
 pub enum Ways {
     // HALT.
@@ -15,11 +16,11 @@ pub enum Ways {
     Two(u16, u16),
 }
 
-// The moved address, by an entry of the list of lengths and cycles.
+// The moved address: the length is the high nibble of an entry of the list.
 fn moved(address: u16, timing: u8) -> u16
     ensures { λ r. ⌜ r ≡ movedBy (timing / 16) address ⌝ }
 {
-    (address % 4096 + (timing / 16) as u16) % 4096
+    moved_by(address, timing / 16)
 }
 
 // The addresses that two bytes at an address hand the program on to. The tests go as those of the entry do, so that the compiler can make one chain

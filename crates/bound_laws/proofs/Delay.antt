@@ -17,7 +17,7 @@ use Rattle.datapath.specs.declared.timer.Count.{Count}
 use Rattle.cpu.specs.State.{State, address, withPc, withHeld, withLevel, withStack, withPins}
 use Rattle.cpu.specs.Step.{timed, entered, vectorOf, step}
 use Rattle.cpu.specs.Range.{valid}
-use Rattle.cpu.specs.Run.{ran}
+use Rattle.cpu.specs.Run.{ran, yielded}
 use Rattle.cpu.specs.declared.Cpu.{Cpu}
 use Rattle.cpu.specs.declared.Pins.{Pins}
 use Rattle.cpu.proofs.Leaves.{Standing, standing, ticked-same, counting-same}
@@ -108,7 +108,7 @@ module _ (mask : List ℕ) (safe : Safe mask) (bytes : Bytes mask) (n : ℕ) whe
 
     input-one : (given : List ℕ) (i : Input) → UnderMask mask (record { mask = given; input = i }) → NoRestart (record { mask = given; input = i })
         → One k given i m
-    unfolding applied happened pinned interrupted counting stepsOf spentIn
+    unfolding applied happened pinned interrupted counting stepsOf yielded
     input-one given (power options image) u q = absurd (q .0 options image refl)
     input-one given (named Unknown) u q = inl (answered-waits (pick (valid (stateOf m)) 7 5) m stays)
     input-one given (named (Known (Run r))) u q = subst (λ (g : List ℕ). One k g (named (Known (Run r))) m) (sym (u r refl)) (run-one r)

@@ -10,6 +10,7 @@ use lib.Dec.{eqb}
 use lib.ListN.{length}
 use borrow.Author.Tests.{eq-eqb, ne-eqb}
 use Rattle.isa.specs.Choice.{pick}
+use Rattle.isa.specs.Code.{addresses}
 use Rattle.rom.specs.Fetching.{Bytes, movedFrom}
 use Rattle.reach.specs.Chains.{Member, here, there, Chain, one, more}
 use Rattle.reach.proofs.Chains.{map-length}
@@ -117,20 +118,20 @@ module _ (mask : List ℕ) where
           go (inr x) rest = walks-over f (x .1) (rest (x .0) (within-waits q (x .0) w (x .1)))
 
       -- a chain has at most as many pairs as there are addresses
-      short : (q r : Pair) (ps : List Pair) → Waits q → Chain (within mask) q ps r → length ps ≡ suc 4096 → ⊥
+      short : (q r : Pair) (ps : List Pair) → Waits q → Chain (within mask) q ps r → length ps ≡ suc addresses → ⊥
       short q r ps w c e =
           let ends : Endless (nextAddresses mask) (HaltsAt mask) (q .address) → ⊥ = λ u. w .ends (endless-pairs mask (q .level) (w .above) (q .address) u) in
           omega (
             arith,
             e,
             map-length addressOf ps,
-            few 4096 (nextAddresses mask) (λ k. next-small mask k bytes) (reached-address mask bytes q (w .reached))
+            few addresses (nextAddresses mask) (λ k. next-small mask k bytes) (reached-address mask bytes q (w .reached))
                 (chain-addresses mask (q .level) (w .above) refl c .1) ends,
           )
 
       pub finds : (q : Pair) → Waits q → Finds q
-      finds q w = go (walked 4096 q w)
+      finds q w = go (walked addresses q w)
         where
-          go : Walks 4096 q → Finds q
+          go : Walks addresses q → Finds q
           go (inl f) = f
           go (inr x) = absurd (short q (x .1) (x .0) w (x .2) (x .3))

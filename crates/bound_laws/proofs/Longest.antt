@@ -2,7 +2,7 @@
 -- nothing.
 use Prim.Native.Nat.{ℕ, _<_, _≤_}
 use native.Mathlib.Omega.{arith}
-use mathlib.Core.Path.{_≡_, refl}
+use mathlib.Core.Path.{_≡_, refl, subst}
 use mathlib.Core.Bool.{Bool, true, false}
 use mathlib.Core.List.{List}
 use lib.Dec.{eqb}
@@ -12,7 +12,8 @@ use Rattle.isa.specs.Choice.{pick}
 use Rattle.checker.specs.Marks.{Pair, pair}
 use Rattle.checker.proofs.Reach.{reached-address, reached-level}
 use Rattle.bound.specs.Bounds.{BoundAnswers, ReachedAbove}
-use Rattle.bound.specs.Lists.{endless, placeOf}
+use Rattle.bound.specs.Lists.{endless, placeOf, boundAt}
+use Rattle.bound.proofs.Filling.{entry-at}
 use Rattle.bound.specs.declared.bound.Bound.the-variants.{NotReached, NoBound, Cycles}
 use Rattle.bound_laws.specs.Delay.{LongestWait}
 use Rattle.bound_laws.proofs.Delay.{delay-bounded}
@@ -34,7 +35,8 @@ longest-wait mask old list bytes listed small place largest known m r awake no-f
     let l = reached-level mask p (r .1) in
     let k = placeOf (p .address) (p .level) in
     let h = largest .most k (omega (arith, listed .1)) in
-    let b = bounded mask p (getD list k 0) (getD list place 0) r h (small place) known (listed .2 (p .address) (p .level) a (r .0) l) in
+    let e = entry-at list (p .address) (p .level) (listed .1) a (r .0) l in
+    let b = bounded mask p (getD list k 0) (getD list place 0) r h (small place) known (subst (λ (n : ℕ). BoundAnswers mask p (boundAt n)) e (listed .2 (p .address) (p .level) a (r .0) l)) in
     let c = delay-bounded mask bytes (getD list k 0) m b awake no-fault calls under steady (omega arith) in
     record {
       until = c .until;

@@ -15,7 +15,7 @@ use Rattle.rom.specs.Fetching.{readAt, lengthAt, cyclesAt}
 use Rattle.cpu.specs.State.{State, onCpu, withFault}
 use Rattle.cpu.specs.Effect.{effect}
 use Rattle.cpu.specs.Step.{ticked, entered, moved, settled, instructed, executed, vectorOf, stepped, stopped, step}
-use Rattle.cpu.specs.Run.{ran}
+use Rattle.cpu.specs.Run.{ran, yielded}
 use Rattle.cpu.specs.Range.{valid}
 use Rattle.cpu.specs.declared.Cpu.{Cpu}
 use Rattle.cpu.specs.declared.Options.{Options}
@@ -112,7 +112,7 @@ both : (a b c d : ℕ) → c ≡ (a + b) % 2 ^ 32 → (c + d) % 2 ^ 32 ≡ (a + 
 both a b c d e = omega arith
 
 ran-counts : (mask : List ℕ) (n : ℕ) (s : State) → s .cpu .cycles < 2 ^ 32 → ran mask n s .cpu .cycles ≡ (s .cpu .cycles + spentIn mask n s) % 2 ^ 32
-unfolding ran spentIn
+unfolding ran yielded
 ran-counts mask zero s h = none mask s h
 ran-counts mask (suc n) s h =
     let e = step-counts mask s h in
@@ -128,7 +128,7 @@ module _ (mask : List ℕ) (m : Machine) (small : m .cpu .cycles < 2 ^ 32) where
   same-count e = e ∙ none mask (stateOf m) small
 
   happened-counts : (e : Event) → happened mask e m .cpu .cycles ≡ (m .cpu .cycles + spentIn mask (stepsOf (named (Known e))) (stateOf m)) % 2 ^ 32
-  unfolding happened pinned interrupted counting stepsOf spentIn
+  unfolding happened pinned interrupted counting stepsOf yielded
   happened-counts (Run n) = ran-counts mask n (stateOf m) small
   happened-counts (Pins pm ps pp) = same-count (pick-cycles (wakes pm ps pp (m .cpu)) (woken (m .cpu)) (m .cpu) refl refl)
   happened-counts (Int level) =
@@ -148,7 +148,7 @@ module _ (mask : List ℕ) (m : Machine) (small : m .cpu .cycles < 2 ^ 32) where
   input-counts : (i : Input) → ((options : Options) (image : List ℕ) → i ≡ power options image → ⊥)
       → answerTo mask i m .machine .cpu .cycles
       ≡ (m .cpu .cycles + pick (eqb (answerTo mask i m .refusal) 0) (spentIn mask (stepsOf i) (stateOf m)) 0) % 2 ^ 32
-  unfolding applied stepsOf spentIn
+  unfolding applied stepsOf yielded
   input-counts (power options image) q = absurd (q options image refl)
   input-counts (named (Known e)) q =
       answered-counts (refusalOf mask e m) (spentIn mask (stepsOf (named (Known e))) (stateOf m)) (happened mask e m) (happened-counts e)

@@ -17,7 +17,7 @@ use Rattle.rom.specs.Fetching.{readAt, lengthAt, cyclesAt, movedFrom}
 use Rattle.cpu.specs.State.{State, onCpu}
 use Rattle.cpu.specs.Effect.{effect}
 use Rattle.cpu.specs.Step.{ticked, moved, settled, instructed, executed, vectorOf, step}
-use Rattle.cpu.specs.Run.{ran}
+use Rattle.cpu.specs.Run.{ran, yielded}
 use Rattle.cpu.specs.declared.Cpu.{Cpu}
 use Rattle.cpu.proofs.Leaves.{Standing, standing, ticked-same, Leaves, leaves}
 use Rattle.cpu.proofs.Steps.{runs}
@@ -160,7 +160,7 @@ module _ (mask : List ℕ) (safe : Safe mask) (n : ℕ) where
   joined P {d = d} x y e = record { stands = subst (λ (j : ℕ). P j (standing d)) e (y .stands); awake = y .awake; held = λ z. y .held (x .held z) }
 
   pub ran-on : (r k : ℕ) (s : State) → Waiting k (standing (s .cpu)) → s .cpu .status .halted ≡ 0 → Ran k r s
-  unfolding ran spentIn
+  unfolding ran yielded
   ran-on zero k s w a = inl (record { stands = rw add-zero w; awake = a; held = λ z. z })
   ran-on (suc r) k s w a = go (step-next k s w a) (ran-on r (k + spentBy mask s) (step mask s))
     where

@@ -2,7 +2,7 @@
 -- halted or faulted: once its steps have spent that many cycles, it has come to level 0". One claim over whole lists. It speaks of what the exported
 -- functions promise: `bound_of` promises `BoundAnswers`, `bounds_of` `BoundsAnswer`, and the machine's functions `answerTo` of each input, which `after`
 -- puts together. Assumes nothing.
-use Prim.Native.Nat.{ℕ, zero, suc, _+_, _%_, _^_, _<_, _≤_}
+use Prim.Native.Nat.{ℕ, _+_, _%_, _^_, _<_, _≤_}
 use mathlib.Core.Path.{_≡_}
 use mathlib.Core.List.{List, [], _∷_}
 use lib.Dec.{eqb}
@@ -11,6 +11,7 @@ use Rattle.isa.specs.Choice.{pick}
 use Rattle.rom.specs.Fetching.{Bytes, cyclesAt}
 use Rattle.cpu.specs.State.{State}
 use Rattle.cpu.specs.Step.{executed, vectorOf, stopped, step}
+use Rattle.cpu.specs.Run.{yielded}
 use Rattle.cpu.specs.declared.Cpu.{Cpu}
 use Rattle.cpu.specs.declared.Options.{Options}
 use Rattle.machine.specs.Machine.{stateOf}
@@ -35,9 +36,8 @@ spentBy mask s =
     2)
 
 -- n steps
-unfoldable pub spentIn : List ℕ → ℕ → State → ℕ
-spentIn mask zero s = 0
-spentIn mask (suc n) s = spentBy mask s + spentIn mask n (step mask s)
+abbrev pub spentIn : List ℕ → ℕ → State → ℕ
+spentIn mask n s = yielded 0 _+_ (spentBy mask) mask n s
 
 -- a list of inputs, each on the machine that the one before answered; a refused one takes no steps
 unfoldable pub spent : List Call → Machine → ℕ

@@ -11,9 +11,11 @@ use lib.Dec.{eqb, ltb}
 use lib.ListN.{length, getD}
 use lib.Seq.{ext-getD}
 use borrow.Author.Tests.{lt-ltb, eq-eqb, eqb-true, eqb-false, ltb-true, ltb-false}
+use Rattle.isa.specs.Code.{addresses}
+use Rattle.rom.specs.Fetching.{sized}
 use Rattle.reach.specs.Walk.{Found, Names}
-use Rattle.checker.specs.Marks.{addresses, levels, Pair, pair, fault, Reached}
-use Rattle.checker.specs.Verdicts.{isMarked, Marked, rank, Lowest, Safe, Written, Answers, AnswersDetermine, numberOf}
+use Rattle.checker.specs.Marks.{levels, Pair, pair, fault, Reached}
+use Rattle.checker.specs.Verdicts.{marksSize, isMarked, Marked, rank, Lowest, Safe, Written, Answers, AnswersDetermine, numberOf}
 use Rattle.checker.specs.Walk.{pairs, nextCodes, faultAt, markOf, Packed, verdictOf}
 use Rattle.checker.specs.declared.walk.Named.{Named}
 use Rattle.checker.specs.declared.check.Verdict.{Verdict}
@@ -77,7 +79,7 @@ module _ (mask seen : List ℕ) (s : Found pairs (nextCodes mask) seen) where
         go (yes e) = e
         go (no z) = absurd (omega (arith, not-lower p r z, flagged p r .0))
 
-    pub answered : (old marks : List ℕ) → length mask ≡ 4096 → length old ≡ 4096 → Packed seen marks → Answers mask old marks (verdictOf m)
+    pub answered : (old marks : List ℕ) → sized mask ≡ true → length old ≡ marksSize → Packed seen marks → Answers mask old marks (verdictOf m)
     answered old marks e f p = go (ltb (m .code) pairs) refl
       where
         go : (b : Bool) → ltb (m .code) pairs ≡ b → Answers mask old marks (pick b (Failed (m .fault) (m .code / levels) (m .code % levels)) Passed)
@@ -140,7 +142,7 @@ same-lowest mask f a l g b m v w =
     rw (e .0, e .1, r) refl
 
 -- what a mask and marks of the right lengths are answered, by what is reached
-module _ (mask old new : List ℕ) (m : length mask ≡ 4096) (o : length old ≡ 4096) where
+module _ (mask old new : List ℕ) (m : sized mask ≡ true) (o : length old ≡ marksSize) where
   pub answer-passed : (v : Verdict) → Safe mask → Answers mask old new v → v ≡ Passed
   answer-passed Passed s w = refl
   answer-passed (Failed f a l) s w = absurd (w .1 .not-zero (sym (w .1 .forbidden) ∙ s (pair a l) (w .1 .reached)))

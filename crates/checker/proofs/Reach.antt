@@ -8,19 +8,19 @@ use mathlib.Core.List.{List, [], map}
 use lib.Dec.{eqb}
 use borrow.Author.Tests.{ltb-true}
 use Rattle.isa.specs.Choice.{pick}
-use Rattle.isa.specs.Code.{inRange}
+use Rattle.isa.specs.Code.{addresses, inRange}
 use Rattle.isa.specs.Views.{View, on, jmp, branch, call, ret, reti, ei, view}
-use Rattle.isa.proofs.Exact.{sound}
 use Rattle.isa.specs.declared.decoder.Decoded.{Decoded}
 use Rattle.isa.specs.declared.decoder.Decoded.the-variants.{Read, Unreadable}
 use Rattle.isa.specs.declared.Instruction.{Instruction}
-use Rattle.rom.specs.Fetching.{Bytes, byteAt, readAt, movedFrom}
+use Rattle.rom.specs.Fetching.{Bytes, readAt, movedFrom}
+use Rattle.rom.proofs.Fetching.{read-fields}
 use Rattle.reach.specs.Chains.{Member, Reaches, Shortest}
 use Rattle.reach.specs.Walk.{All, Small}
 use Rattle.reach.proofs.Chains.{all-member, all-of, all-map, reached-all, of-code, to-code, shortest-at, shortest-code}
 use Rattle.checker.specs.declared.flow.Flow.{Flow}
 use Rattle.checker.specs.declared.flow.Flow.the-variants.{Unread, On, Enable, Jump, To, Sub, Back}
-use Rattle.checker.specs.Marks.{addresses, levels, Pair, pair, flowBy, flowOf, flowRead, flowAt, handed, fault, successors, Reached}
+use Rattle.checker.specs.Marks.{levels, Pair, pair, flowBy, flowOf, flowRead, flowAt, handed, fault, successors, Reached}
 use Rattle.checker.specs.Verdicts.{rank}
 use Rattle.checker.specs.Walk.{pairs, pairOf, nextCodes}
 
@@ -119,7 +119,7 @@ module _ (mask : List ℕ) where
     flow-targets a = go (readAt mask a) refl
       where
         go : (d : Decoded) → readAt mask a ≡ d → Targets (flowRead d)
-        go (Read i) e = targets i (sound (byteAt mask a) (byteAt mask (a + 1)) i (bytes ((a + 1) % 4096)) e .fields)
+        go (Read i) e = targets i (read-fields mask a bytes i e)
         go Unreadable e = tt
 
     next-address : (p q : Pair) → Member q (successors mask p) → InAddresses q

@@ -5,12 +5,20 @@ use mathlib.Core.Path.{_≡_, sym, ap, ap₂, subst, _∙_}
 use mathlib.Core.List.{List, [], map}
 use lib.Dec.{eqb}
 use Rattle.isa.specs.Choice.{pick}
-use Rattle.rom.specs.Fetching.{Bytes, movedFrom}
+use Rattle.isa.specs.Reading.{decoded}
+use Rattle.rom.specs.Fetching.{Bytes, codeAt, movedFrom}
+use Rattle.rom.specs.declared.reader.Code.{Code}
+use Rattle.rom.proofs.Fetching.{read-code}
 use Rattle.checker.specs.declared.flow.Flow.{Flow}
-use Rattle.checker.specs.Marks.{levels, flowAt, faultIn, handed, fault, successors}
+use Rattle.checker.specs.Marks.{levels, flowRead, flowAt, faultIn, handed, fault, successors}
 use Rattle.checker.specs.Verdicts.{rank}
 use Rattle.checker.specs.Walk.{pairOf, nextCodes}
 use Rattle.checker.proofs.Reach.{Targets, flow-targets}
+
+-- the flow of the code at an address
+pub flow-there : (mask : List ℕ) (a : ℕ) (c : Code) → c ≡ codeAt mask a → flowRead (decoded (c .first) (c .second)) ≡ flowAt mask a
+unfolding flowAt
+flow-there mask a c at = ap (λ (c : Code). flowRead (decoded (c .first) (c .second))) at ∙ ap flowRead (read-code mask a)
 
 -- the codes that a flow hands on
 abbrev pub handed-on : Flow → ℕ → ℕ → List ℕ

@@ -3,8 +3,10 @@
 use Prim.Native.Nat.{ℕ, _/_, _%_, _<_}
 use native.Mathlib.Omega.{arith}
 use mathlib.Core.Path.{_≡_, refl, sym, ap, subst, _∙_}
+use mathlib.Core.Bool.{true}
 use mathlib.Core.List.{List, map}
 use lib.ListN.{length, getD}
+use Rattle.rom.specs.Fetching.{sized}
 use Rattle.reach.specs.Chains.{Chain, Shortest}
 use Rattle.reach.specs.Walk.{Found, Names}
 use Rattle.reach.specs.Trail.{Stands, StandsFirst, Traced, Counted, Up, stay}
@@ -50,7 +52,7 @@ module _ (mask seen queue starts : List ℕ) (s : Found pairs (nextCodes mask) s
     pairs-length : (js : List ℕ) → length (pairsAt queue js) ≡ length js
     pairs-length js = map-length pairOf (map (λ (j : ℕ). getD queue j 0) js) ∙ map-length (λ (j : ℕ). getD queue j 0) js
 
-    pub answered : (old new : List ℕ) (r : Listing) → length mask ≡ 4096 → ListedTo queue starts (m .code) old new r → WayAnswers mask old new r
+    pub answered : (old new : List ℕ) (r : Listing) → sized mask ≡ true → ListedTo queue starts (m .code) old new r → WayAnswers mask old new r
     answered old new (Listed n) e x =
         let p = x .listings in
         let l : Lists mask old new n =

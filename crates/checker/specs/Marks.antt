@@ -13,10 +13,7 @@ use Rattle.reach.specs.Chains.{Reaches}
 use Rattle.checker.specs.declared.flow.Flow.{Flow}
 use Rattle.checker.specs.declared.flow.Flow.the-variants.{Unread, On, Enable, Jump, To, Sub, Back}
 
--- "A program address counts to 4,095"; "level (0 main, 1 subroutine, 2 interrupt)"
-abbrev pub addresses : ℕ
-addresses = 4096
-
+-- "level (0 main, 1 subroutine, 2 interrupt)"
 abbrev pub levels : ℕ
 levels = 3
 

@@ -6,9 +6,15 @@ use mathlib.Core.List.{List}
 use lib.ListN.{length, getD}
 use lib.Dec.{eqb, ltb}
 use Rattle.isa.specs.Choice.{pick}
-use Rattle.checker.specs.Marks.{addresses, levels, Pair, pair, fault, Reached}
+use Rattle.isa.specs.Code.{addresses}
+use Rattle.rom.specs.Fetching.{sized}
+use Rattle.checker.specs.Marks.{levels, Pair, pair, fault, Reached}
 use Rattle.checker.specs.declared.check.Verdict.{Verdict}
 use Rattle.checker.specs.declared.check.Verdict.the-variants.{Passed, Failed, BadMask, BadMarks}
+
+-- "2: .. marks .. not .. 4,096": how many mark bytes there are
+abbrev pub marksSize : ℕ
+marksSize = 4096
 
 -- "mark bytes: 1 level 0, 2 level 1, 4 level 2, added": the bit of a level in the byte of an address. No pair out of range has one
 abbrev pub isMarked : List ℕ → ℕ → ℕ → Bool
@@ -16,7 +22,7 @@ isMarked marks a l = ltb a addresses && ltb l levels && eqb (getD marks a 0 / 2 
 
 -- "The checker writes 4,096 mark bytes .. for exactly the pairs that chains from address 0, level 0 reach"
 pub record Marked (mask marks : List ℕ) : Type 0 where
-  pub size : length marks ≡ addresses
+  pub size : length marks ≡ marksSize
   pub rest : (a : ℕ) → a < addresses → getD marks a 0 < 8
   pub sound : (a l : ℕ) → a < addresses → l < levels → isMarked marks a l ≡ true → Reached mask (pair a l)
   pub full : (a l : ℕ) → a < addresses → l < levels → Reached mask (pair a l) → isMarked marks a l ≡ true
@@ -38,8 +44,8 @@ Safe mask = (p : Pair) → Reached mask p → fault mask p ≡ 0
 
 -- neither length is refused, and the marks are written
 pub record Written (mask old new : List ℕ) : Type 0 where
-  pub mask-size : length mask ≡ 4096
-  pub marks-size : length old ≡ 4096
+  pub mask-size : sized mask ≡ true
+  pub marks-size : length old ≡ marksSize
   pub marked : Marked mask new
 
 -- what each answer says of the mask, and of the marks at entry and at exit: document 01's numbers are 1 "mask not 4,096 bytes" and 2
@@ -47,8 +53,8 @@ pub record Written (mask old new : List ℕ) : Type 0 where
 abbrev pub Answers : List ℕ → List ℕ → List ℕ → Verdict → Type 0
 Answers mask old new Passed = Written mask old new × Safe mask
 Answers mask old new (Failed f a l) = Written mask old new × Lowest mask f a l
-Answers mask old new BadMask = (length mask ≡ 4096 → ⊥) × (new ≡ old)
-Answers mask old new BadMarks = (length mask ≡ 4096) × (length old ≡ 4096 → ⊥) × (new ≡ old)
+Answers mask old new BadMask = (sized mask ≡ true → ⊥) × (new ≡ old)
+Answers mask old new BadMarks = (sized mask ≡ true) × (length old ≡ marksSize → ⊥) × (new ≡ old)
 
 -- the answer and the marks depend on the mask and the marks at entry alone
 abbrev pub AnswersDetermine : Type 0
@@ -64,4 +70,4 @@ numberOf BadMarks = 2
 
 -- "1: mask not 4,096 bytes"; "2: .. marks .. not .. 4,096"; the lowest number wins
 abbrev pub checkRefusal : List ℕ → List ℕ → ℕ
-checkRefusal mask marks = pick (eqb (length mask) 4096) (pick (eqb (length marks) 4096) 0 2) 1
+checkRefusal mask marks = pick (sized mask) (pick (eqb (length marks) marksSize) 0 2) 1

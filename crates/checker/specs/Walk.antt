@@ -6,8 +6,9 @@ use mathlib.Core.List.{List, [], _∷_, map}
 use lib.Dec.{ltb}
 use lib.ListN.{length, getD}
 use Rattle.isa.specs.Choice.{pick}
-use Rattle.checker.specs.Marks.{addresses, levels, Pair, pair, fault, successors}
-use Rattle.checker.specs.Verdicts.{rank}
+use Rattle.isa.specs.Code.{addresses}
+use Rattle.checker.specs.Marks.{levels, Pair, pair, fault, successors}
+use Rattle.checker.specs.Verdicts.{marksSize, rank}
 use Rattle.checker.specs.declared.check.Verdict.{Verdict}
 use Rattle.checker.specs.declared.check.Verdict.the-variants.{Passed, Failed}
 use Rattle.checker.specs.declared.next.Codes.{Codes}
@@ -57,7 +58,7 @@ abbrev pub markOf : List ℕ → ℕ → ℕ
 markOf seen a = getD seen (a * 3) 0 + getD seen (a * 3 + 1) 0 * 2 + getD seen (a * 3 + 2) 0 * 4
 
 pub record Packed (seen marks : List ℕ) : Type 0 where
-  pub size : length marks ≡ addresses
+  pub size : length marks ≡ marksSize
   pub byte : (a : ℕ) → a < addresses → getD marks a 0 ≡ markOf seen a
 
 abbrev pub verdictOf : Named → Verdict

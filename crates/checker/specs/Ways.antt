@@ -2,13 +2,14 @@
 -- is held to a relation; the answer and the count are determined. Assumes nothing.
 use Prim.Native.Nat.{ℕ, _*_, _/_, _%_, _<_, _≤_}
 use mathlib.Core.Path.{_≡_}
-use mathlib.Core.Bool.{cond}
+use mathlib.Core.Bool.{true, cond}
 use mathlib.Core.List.{List, [], _∷_, _++_}
 use lib.Dec.{eqb}
 use lib.ListN.{length, drop}
-use Rattle.rom.specs.Fetching.{Bytes}
+use Rattle.isa.specs.Code.{addresses}
+use Rattle.rom.specs.Fetching.{Bytes, sized}
 use Rattle.reach.specs.Chains.{Shortest}
-use Rattle.checker.specs.Marks.{addresses, levels, Pair, pair, successors}
+use Rattle.checker.specs.Marks.{levels, Pair, pair, successors}
 use Rattle.checker.specs.Verdicts.{Lowest, Safe, Answers}
 use Rattle.checker.specs.declared.check.Verdict.the-variants.{Failed}
 use Rattle.checker.specs.declared.way.Listing.{Listing}
@@ -29,7 +30,7 @@ pub record Way (mask : List ℕ) (chain : List Pair) : Type 0 where
 
 -- "It is written into a lent list ..; bytes after it stay, and the answer is its count of pairs"
 pub record Lists (mask old new : List ℕ) (count : ℕ) : Type 0 where
-  pub mask-size : length mask ≡ 4096
+  pub mask-size : sized mask ≡ true
   pub chain : List Pair
   pub way : Way mask chain
   pub counted : count ≡ length chain
@@ -38,7 +39,7 @@ pub record Lists (mask old new : List ℕ) (count : ℕ) : Type 0 where
 
 -- "11 if the list is too short": for a shortest chain
 pub record TooShort (mask old : List ℕ) : Type 0 where
-  pub mask-size : length mask ≡ 4096
+  pub mask-size : sized mask ≡ true
   pub chain : List Pair
   pub way : Way mask chain
   pub short : length old < 3 * length chain
@@ -60,7 +61,7 @@ wayCount BadList = 0
 -- what each refusal says: document 01's "1: mask not 4,096 bytes"; "10 if the mask passes, after 1; 11 if the list is too short, after 10"
 abbrev pub WayRefused : List ℕ → List ℕ → ℕ → Type 0
 WayRefused mask old n =
-    cond (eqb n 1) (length mask ≡ 4096 → ⊥) (cond (eqb n 10) ((length mask ≡ 4096) × Safe mask) (cond (eqb n 11) (TooShort mask old) ⊥))
+    cond (eqb n 1) (sized mask ≡ true → ⊥) (cond (eqb n 10) ((sized mask ≡ true) × Safe mask) (cond (eqb n 11) (TooShort mask old) ⊥))
 
 -- what each answer says, by its number, of the mask and of the list at entry and at exit: 0, that so many pairs are listed; after a refusal the list
 -- is as it was. "Which of several is free": the bytes listed are those of some shortest chain

@@ -2,14 +2,17 @@
 ghost use mathlib.Core.Path.{_≡_};
 ghost use Prim.Native.Nat.{ℕ, _≤_};
 ghost use lib.ListN.{getD, length};
-ghost use Rattle.checker.specs.Marks.{addresses};
-ghost use Rattle.checker.specs.Verdicts.{Answers, checkRefusal, isMarked, numberOf};
+ghost use Rattle.checker.specs.Verdicts.{Answers, checkRefusal, isMarked, marksSize, numberOf};
 ghost use Rattle.checker.specs.Walk.{Packed, verdictOf};
-use crate::walk::ADDRESSES;
 use crate::walk::NO_PAIR;
 use crate::walk::Named;
 use crate::walk::PAIRS;
 use crate::walk::walk;
+use isa::ADDRESSES;
+use rom::reader::mask_ok;
+
+// How many mark bytes there are; today one for each address.
+pub const MARKS: usize = 4096;
 
 pub enum Verdict {
     // No reached pair is forbidden.
@@ -24,12 +27,12 @@ pub enum Verdict {
 
 // The mark byte of each address: the flags of its three codes, as bits.
 fn pack(seen: &[u8; PAIRS], marks: &mut [u8])
-    requires { ⌜ length (now marks) ≡ addresses ⌝ }
+    requires { ⌜ length (now marks) ≡ marksSize ⌝ }
     requires { ⌜ ((k : ℕ) → getD (now seen) k 0 ≤ 1) ⌝ }
     ensures { λ r. ⌜ Packed (now (seen .entry)) (now (marks .exit)) ⌝ }
 {
     let mut address: usize = 0;
-    while address < ADDRESSES {
+    while address < MARKS {
         let code = address * 3;
         marks[address] = seen[code] + seen[code + 1] * 2 + seen[code + 2] * 4;
         address += 1;
@@ -51,10 +54,10 @@ pub fn check(mask: &[u8], marks: &mut [u8]) -> Verdict
     ensures { λ r. ⌜ Answers (now (mask .entry)) (now (marks .entry)) (now (marks .exit)) r ⌝ }
     ensures { λ r. ⌜ numberOf r ≡ checkRefusal (now (mask .entry)) (now (marks .entry)) ⌝ }
 {
-    if mask.len() != 4096 {
+    if !mask_ok(mask) {
         return Verdict::BadMask;
     }
-    if marks.len() != ADDRESSES {
+    if marks.len() != MARKS {
         return Verdict::BadMarks;
     }
     let mut seen = [0u8; PAIRS];
@@ -66,10 +69,10 @@ pub fn check(mask: &[u8], marks: &mut [u8]) -> Verdict
 }
 
 // Whether a pair is marked: its level's bit in the mark byte of its address. A pair out of range is not.
-pub fn is_marked(marks: &[u8; ADDRESSES], address: u16, level: u8) -> bool
+pub fn is_marked(marks: &[u8; MARKS], address: u16, level: u8) -> bool
     ensures { λ r. ⌜ r ≡ isMarked (now (marks .entry)) address level ⌝ }
 {
-    if 4095 < address {
+    if ADDRESSES <= address {
         return false;
     }
     let byte = marks[address as usize];

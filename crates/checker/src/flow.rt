@@ -5,7 +5,7 @@ ghost use Prim.Native.Nat.{_/_};
 ghost use Rattle.isa.specs.Reading.{decoded};
 ghost use Rattle.checker.specs.Marks.{flowAt, flowRead, levels};
 use isa::ProgramAddress;
-use rom::reader::byte_at;
+use rom::reader::code_at;
 
 pub enum Flow {
     // Nowhere: the bytes read as no instruction.
@@ -93,6 +93,6 @@ pub(crate) fn flow_by(first: u8, second: u8) -> Flow
 pub fn flow_at(mask: &[u8], code: u16) -> Flow
     ensures { λ r. ⌜ r ≡ flowAt (now (mask .entry)) (code / levels) ⌝ }
 {
-    let address = code / 3;
-    flow_by(byte_at(mask, address), byte_at(mask, address + 1))
+    let bytes = code_at(mask, code / 3);
+    flow_by(bytes.first, bytes.second)
 }

@@ -1,10 +1,10 @@
 // What the instruction at a pair says of it. A pair's code is three times its address, and its level added: 0 to 12,287.
 ghost use mathlib.Core.Path.{_≡_};
 ghost use Rattle.checker.specs.Walk.{Faults, codesOf, faultAt, nextCodes};
-ghost use Rattle.rom.specs.Fetching.{movedBy};
 use crate::flow::Flow;
 use crate::flow::flow_by;
-use rom::reader::byte_at;
+use rom::reader::code_at;
+use rom::reader::moved_by;
 use rom::timing::length;
 
 // The vectors 4 and 8 in level 2, where EI lets an interrupt go.
@@ -23,13 +23,6 @@ pub enum Codes {
     Three(u16, u16, u16),
 }
 
-// The moved address.
-fn moved_by(address: u16, length: u8) -> u16
-    ensures { λ r. ⌜ r ≡ movedBy length address ⌝ }
-{
-    (address % 4096 + length as u16) % 4096
-}
-
 // The successors of a pair, or its fault. Nothing stands between the tests of the length and those of the flow, which are the same.
 pub(crate) fn next_codes(mask: &[u8], code: u16) -> Codes
     ensures { λ r. ⌜ codesOf r ≡ nextCodes (now (mask .entry)) code ⌝ }
@@ -37,10 +30,9 @@ pub(crate) fn next_codes(mask: &[u8], code: u16) -> Codes
 {
     let address = code / 3;
     let level = code % 3;
-    let first = byte_at(mask, address);
-    let second = byte_at(mask, address + 1);
-    let size = length(first);
-    let flow = flow_by(first, second);
+    let bytes = code_at(mask, address);
+    let size = length(bytes.first);
+    let flow = flow_by(bytes.first, bytes.second);
     match flow {
         Flow::Unread => Codes::Forbidden(1),
         Flow::On => Codes::One(moved_by(address, size) * 3 + level),

@@ -7,11 +7,10 @@ ghost use Rattle.reach.specs.Walk.{Found, Names, Room, Small, pushed, pushedAll
 ghost use Rattle.checker.specs.Walk.{codesOf, faultAt, lowered, nextCodes, pairs};
 use crate::next::Codes;
 use crate::next::next_codes;
-
-pub(crate) const ADDRESSES: usize = 4096;
+use isa::ADDRESSES;
 
 // How many pairs there are, and codes of them: an address in three levels.
-pub(crate) const PAIRS: usize = ADDRESSES * 3;
+pub(crate) const PAIRS: usize = ADDRESSES as usize * 3;
 
 // What is named where no pair is forbidden: no pair's code.
 pub(crate) const NO_PAIR: u16 = PAIRS as u16;

@@ -10,6 +10,7 @@ ghost use Rattle.checker.specs.Ways.{WayAnswers, listed};
 use crate::walk::NO_PAIR;
 use crate::walk::PAIRS;
 use crate::walk::walk;
+use rom::reader::mask_ok;
 
 const LAST_PLACE: u16 = NO_PAIR - 1;
 
@@ -113,7 +114,7 @@ fn list_to(list: &mut [u8], queue: &[u16; PAIRS], starts: &[u16; PAIRS], code: u
 pub fn way(mask: &[u8], list: &mut [u8]) -> Listing
     ensures { λ r. ⌜ WayAnswers (now (mask .entry)) (now (list .entry)) (now (list .exit)) r ⌝ }
 {
-    if mask.len() != 4096 {
+    if !mask_ok(mask) {
         return Listing::BadMask;
     }
     let mut seen = [0u8; PAIRS];

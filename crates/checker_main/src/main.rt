@@ -3,9 +3,11 @@
 //     marks AAA:M ..
 // The marks are the first two, and each that is not the one two addresses before it. Addresses are hexadecimal, three digits.
 // The stored masks are in masks.bin, after a little-endian two-byte count.
+use checker::check::MARKS;
 use checker::check::Verdict;
 use checker::check::check;
 use libc::STDOUT_FILENO;
+use rom::reader::MASK;
 
 // What the mark bytes hold before the checker writes them.
 const KEPT: u8 = 255;
@@ -73,10 +75,10 @@ fn put_case(mask: &[u8], marks: &mut [u8]) {
 
 // Refusals 1 and 2, and both: the marks stay.
 fn put_refused() {
-    let short = [0x3eu8; 4095];
-    let mask = [0x3eu8; 4096];
-    let mut marks = [KEPT; 4096];
-    let mut long = [KEPT; 4097];
+    let short = [0x3eu8; MASK - 1];
+    let mask = [0x3eu8; MASK];
+    let mut marks = [KEPT; MARKS];
+    let mut long = [KEPT; MARKS + 1];
     put(b"short mask");
     put_case(&short, &mut marks);
     put(b"long marks");
@@ -87,8 +89,8 @@ fn put_refused() {
 
 // The mask that is this byte throughout.
 fn put_filled(byte: u8) {
-    let mask = [byte; 4096];
-    let mut marks = [KEPT; 4096];
+    let mask = [byte; MASK];
+    let mut marks = [KEPT; MARKS];
     put(b"all ");
     io::print_hex(STDOUT_FILENO, byte as u64, 2);
     put_case(&mask, &mut marks);
@@ -96,8 +98,8 @@ fn put_filled(byte: u8) {
 
 // The next stored mask.
 fn put_stored(fd: i32, number: u16) {
-    let mut mask = [0u8; 4096];
-    let mut marks = [KEPT; 4096];
+    let mut mask = [0u8; MASK];
+    let mut marks = [KEPT; MARKS];
     let got = io::read_full(fd, &mut mask);
     io::print_decimal(STDOUT_FILENO, number as u64);
     put_case(&mask[..got], &mut marks);

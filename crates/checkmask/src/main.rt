@@ -4,23 +4,33 @@
 ghost use mathlib.Core.Path.{_≡_};
 ghost use Prim.Native.Nat.{_*_, _≤_};
 ghost use lib.ListN.{length};
+ghost use Rattle.bound.specs.Lists.{boundsSize};
+use bound::bounds::BOUNDS;
 use bound::bounds::bounds_of;
 use bound::bounds::entry_of;
 use bound::bounds::largest;
 use bound::calls::call_targets;
+use checker::check::MARKS;
 use checker::check::Verdict;
 use checker::check::check;
 use checker::way::Listing;
 use checker::way::way;
 use files::read_file;
+use isa::ADDRESSES;
 use isa::Instruction;
+use isa::PLACES;
 use isa::decoder::Decoded;
 use isa::decoder::decode;
 use libc::STDOUT_FILENO;
 use mnemonic::letters::digit;
 use mnemonic::line::placed;
 use mnemonic::line::text_of;
-use rom::reader::byte_at;
+use rom::reader::MASK;
+use rom::reader::code_at;
+use rom::reader::moved_by;
+
+// A list with room for a way through every pair: three bytes each, an address in three levels.
+const WAY: usize = PLACES * 3 * 3;
 
 fn put(text: &[u8]) {
     io::write_all(STDOUT_FILENO, text);
@@ -66,24 +76,23 @@ fn put_instruction(instruction: Instruction) {
 
 // A line of the way, for a pair's three bytes.
 fn put_pair(mask: &[u8], low: u8, high: u8, level: u8) {
-    let address = (low as u16 + high as u16 * 256) % 4096;
+    let address = (low as u16 + high as u16 * 256) % ADDRESSES;
     put_address(address);
     put_level(level);
-    let first = byte_at(mask, address);
-    let second = byte_at(mask, address + 1);
-    let length = rom::timing::length(first);
-    put_bytes(first, second, length);
-    match decode(first, second) {
+    let code = code_at(mask, address);
+    let length = rom::timing::length(code.first);
+    put_bytes(code.first, code.second, length);
+    match decode(code.first, code.second) {
         Decoded::Read(instruction) => put_instruction(placed(
             instruction,
-            (address + length as u16) % 4096,
+            moved_by(address, length),
         )),
         Decoded::Unreadable => put(b"cannot be read"),
     }
     put(b"\n");
 }
 
-fn put_pairs(mask: &[u8], list: &[u8; 36864], count: u16)
+fn put_pairs(mask: &[u8], list: &[u8; WAY], count: u16)
     requires { ⌜ 3 * count ≤ 36864 ⌝ }
 {
     let mut number: u16 = 0;
@@ -94,9 +103,9 @@ fn put_pairs(mask: &[u8], list: &[u8; 36864], count: u16)
     }
 }
 
-// The list holds a way through every pair, so a mask that fails always has one here.
+// A mask that fails always has a way here.
 fn put_way(mask: &[u8]) {
-    let mut list = [0u8; 36864];
+    let mut list = [0u8; WAY];
     let listing = way(mask, &mut list);
     match listing {
         Listing::Listed(count) => put_pairs(mask, &list, count),
@@ -138,9 +147,9 @@ fn put_bound(list: &[u16], address: u16, level: u8) {
     put(b"\n");
 }
 
-fn put_targets(list: &[u16], targets: &[u8; 4096]) {
+fn put_targets(list: &[u16], targets: &[u8; PLACES]) {
     let mut address: u16 = 0;
-    while address < 4096 {
+    while address < ADDRESSES {
         if targets[address as usize] == 1 {
             put_bound(list, address, 1);
         }
@@ -150,7 +159,7 @@ fn put_targets(list: &[u16], targets: &[u8; 4096]) {
 
 // The longest of all, and the first pair that has it.
 fn put_wait(list: &[u16])
-    requires { ⌜ length (now list) ≡ 8192 ⌝ }
+    requires { ⌜ length (now list) ≡ boundsSize ⌝ }
 {
     let place = largest(list);
     let address = (place / 2) as u16;
@@ -166,8 +175,8 @@ fn put_wait(list: &[u16])
 }
 
 // How long an edge can be held under a mask that passes: from both vectors, from each CALL target, and the longest of all.
-fn put_bounds(mask: &[u8], marks: &[u8; 4096]) {
-    let mut list = [0u16; 8192];
+fn put_bounds(mask: &[u8], marks: &[u8; MARKS]) {
+    let mut list = [0u16; BOUNDS];
     bounds_of(mask, &mut list); // not refused: the mask passed, and the list has its length
     put_bound(&list, 4, 2);
     put_bound(&list, 8, 2);
@@ -177,7 +186,7 @@ fn put_bounds(mask: &[u8], marks: &[u8; 4096]) {
 }
 
 fn checkmask(mask: &[u8]) {
-    let mut marks = [0u8; 4096];
+    let mut marks = [0u8; MARKS];
     let verdict = check(mask, &mut marks);
     match verdict {
         Verdict::Passed => {
@@ -195,7 +204,7 @@ fn checkmask(mask: &[u8]) {
 
 // One byte more than a mask has is read, so that a longer file is refused.
 fn main() {
-    let mut mask = [0u8; 4097];
+    let mut mask = [0u8; MASK + 1];
     let n = read_file(b"mask.bin", &mut mask);
     checkmask(&mask[..n]);
 }

@@ -12,9 +12,9 @@ use lib.ListN.{getD}
 use lib.Bits.{and-lt, or-lt, xor-lt}
 use borrow.Author.Tests.{ltb-true, eqb-true, not-false}
 use Rattle.isa.specs.Choice.{pick}
-use Rattle.rom.specs.Fetching.{Bytes, branchTo}
-use Rattle.isa.specs.Code.{inRange}
-use Rattle.isa.specs.Reading.{decoded}
+use Rattle.rom.specs.Fetching.{Bytes, branchTo, readAt}
+use Rattle.rom.proofs.Fetching.{read-fields}
+use Rattle.isa.specs.Code.{addresses, inRange}
 use Rattle.isa.specs.declared.ProgramAddress.{ProgramAddress}
 use Rattle.isa.specs.declared.decoder.Decoded.{Decoded}
 use Rattle.isa.specs.declared.decoder.Decoded.the-variants.{Read, Unreadable}
@@ -26,7 +26,7 @@ use Rattle.isa.specs.declared.Condition.{Condition}
 use Rattle.isa.specs.declared.Condition.the-variants.{Ja, JnzR0, JnzR1, JnzR4, Jz, JnzA, Jc, Jnc, Jtmr}
 use Rattle.isa.specs.declared.Instruction.{Instruction}
 use Rattle.isa.specs.declared.Instruction.the-variants as I
-use Rattle.isa.proofs.Exact.{and-left, and-right, sound}
+use Rattle.isa.proofs.Exact.{and-left, and-right}
 use Rattle.datapath.specs.Alu.{flag, nibbleOf, summed, adjusted}
 use Rattle.datapath.specs.Timer.{clocks, counted}
 use Rattle.datapath.specs.declared.alu.Sum.{Sum}
@@ -127,10 +127,10 @@ module _ {c : Cpu} (v : CpuIn c) where
   unfolding branched
   branched-in k t = one-of CpuIn (holds k c) (pc-in (tested-in k) (address (branchTo (c .control .pc .0) t)) (within (c .control .pc .0) (t .0) (v .control .pc))) (tested-in k)
     where
-      within : (a b : ℕ) → a < 4096 → a / 2048 * 2048 + b % 2048 < 4096
+      within : (a b : ℕ) → a < addresses → a / 2048 * 2048 + b % 2048 < addresses
       within a b h = omega arith
 
-  called-in : (t : ProgramAddress) → t .0 < 4096 → c .status .halted ≡ 0 → CpuIn (called t c)
+  called-in : (t : ProgramAddress) → t .0 < addresses → c .status .halted ≡ 0 → CpuIn (called t c)
   unfolding called
   called-in t h e =
       one-of CpuIn (eqb (c .interrupts .level) 0)
@@ -204,9 +204,9 @@ module _ (mask : List ℕ) (s : State) (b : Bytes mask) (v : Valid s) (e : s .cp
   effect-valid I.RrcA r = sum (record { value = bits _ _ _ _; carry = odd _ })
   effect-valid (I.InA p) r = to-acc (port-in (v .cpu) p)
   effect-valid I.OutPaA r = on (pa-in (v .cpu) _ acc)
-  effect-valid (I.Jmp t) r = on (pc-in (v .cpu) t (ltb-true (t .0) 4096 r))
+  effect-valid (I.Jmp t) r = on (pc-in (v .cpu) t (ltb-true (t .0) addresses r))
   effect-valid (I.Branch t k) r = on (branched-in (v .cpu) k t)
-  effect-valid (I.Call t) r = on (called-in (v .cpu) t (ltb-true (t .0) 4096 r) e)
+  effect-valid (I.Call t) r = on (called-in (v .cpu) t (ltb-true (t .0) addresses r) e)
   effect-valid I.Ret r = on (returned-in (v .cpu) e)
   effect-valid I.Reti r = on (returned-with-carry-in (v .cpu) e)
   effect-valid I.Clc r = on (cf-in (v .cpu) 0 (odd 0))
@@ -250,10 +250,10 @@ module _ {c : Cpu} (v : CpuIn c) where
   moved-in : (n : ℕ) → CpuIn (moved n c)
   moved-in n = pc-in v _ (around (c .control .pc .0 + n))
     where
-      around : (n : ℕ) → n % 4096 < 4096
+      around : (n : ℕ) → n % addresses < addresses
       around n = omega arith
 
-entered-in : {c : Cpu} (a : ℕ) → a < 4096 → CpuIn c → CpuIn (entered a c)
+entered-in : {c : Cpu} (a : ℕ) → a < addresses → CpuIn c → CpuIn (entered a c)
 unfolding entered
 entered-in {c} a h v = ticked-in (stack-in (level-in (pc-in v (address a) h) 2 (omega arith)) _ (record { address = v .control .pc; carry = v .control .cf })) 2
 
@@ -266,14 +266,14 @@ module _ (mask : List ℕ) (s : State) (b : Bytes mask) (v : Valid s) where
         (record { cpu = ticked-in (w .cpu) n; memory = w .memory })
         (record { cpu = fault-in (v .cpu) (t .cpu .status .fault) e (w .cpu .status .fault); memory = v .memory })
 
-    instructed-valid : (d : Decoded) (x y l n : ℕ) → y < 256 → decoded x y ≡ d → Valid (instructed mask d l n s)
-    instructed-valid (Read i) x y l n h q =
-        settled-valid n _ (effect-valid mask (onCpu (moved l) s) b (record { cpu = moved-in (v .cpu) l; memory = v .memory }) e f i (sound x y i h q .fields))
-    instructed-valid Unreadable x y l n h q = record { cpu = fault-in (v .cpu) 1 e (omega arith); memory = v .memory }
+    instructed-valid : (d : Decoded) (l n : ℕ) → readAt mask (s .cpu .control .pc .0) ≡ d → Valid (instructed mask d l n s)
+    instructed-valid (Read i) l n q =
+        settled-valid n _ (effect-valid mask (onCpu (moved l) s) b (record { cpu = moved-in (v .cpu) l; memory = v .memory }) e f i (read-fields mask (s .cpu .control .pc .0) b i q))
+    instructed-valid Unreadable l n q = record { cpu = fault-in (v .cpu) 1 e (omega arith); memory = v .memory }
 
     executed-valid : Valid (executed mask s)
     unfolding executed
-    executed-valid = instructed-valid _ _ _ _ _ (b _) refl
+    executed-valid = instructed-valid _ _ _ refl
 
     stepped-valid : Valid (stepped mask s)
     unfolding stepped

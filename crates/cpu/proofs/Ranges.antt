@@ -9,11 +9,12 @@ use mathlib.Core.List.{List, [], _∷_}
 use lib.Dec.{ltb, eqb}
 use lib.ListN.{length, getD, set, length-set}
 use borrow.Author.Tests.{ltb-true, lt-ltb, eq-eqb}
+use Rattle.isa.specs.Code.{addresses}
 use Rattle.isa.specs.Choice.{pick}
 use Rattle.isa.specs.declared.DataAddress.{DataAddress}
 use Rattle.isa.specs.declared.ProgramAddress.{ProgramAddress}
 use Rattle.isa.proofs.Exact.{and-left, and-right, and-both}
-use Rattle.datapath.specs.Memory.{loaded, stored}
+use Rattle.datapath.specs.Memory.{memorySize, loaded, stored}
 use Rattle.cpu.specs.State.{State, withRegisters, withControl, withTimer, withInterrupts, withStack, withStatus, withOutputs, withCycles, withAcc, withR0, withR1, withR2, withR3}
 use Rattle.cpu.specs.State.{withR4, withPc, withCf, withTf, withCount, withRunning, withEnabled, withHeld, withLevel, withHalted, withFault, withPa, withChannel, withMode}
 use Rattle.cpu.specs.Range.{nibbles, registersOk, controlOk, timerOk, interruptsOk, stackOk, statusOk, outputsOk, pinsOk, optionsOk, cpuOk, memoryOk, valid}
@@ -37,7 +38,7 @@ pub record RegistersIn (r : Registers) : Type 0 where
   pub r4 : r .r4 < 16
 
 pub record ControlIn (k : Control) : Type 0 where
-  pub pc : k .pc .0 < 4096
+  pub pc : k .pc .0 < addresses
   pub cf : k .cf < 2
   pub tf : k .tf < 2
 
@@ -51,7 +52,7 @@ pub record InterruptsIn (i : Interrupts) : Type 0 where
   pub level : i .level < 3
 
 pub record StackIn (k : Stack) : Type 0 where
-  pub address : k .address .0 < 4096
+  pub address : k .address .0 < addresses
   pub carry : k .carry < 2
 
 pub record StatusIn (s : Status) : Type 0 where
@@ -103,7 +104,7 @@ registers-from r e =
 control-from : (k : Control) → controlOk k ≡ true → ControlIn k
 unfolding controlOk
 control-from k e =
-    let a = below (k .pc .0) 4096 _ e in
+    let a = below (k .pc .0) addresses _ e in
     let b = below (k .cf) 2 _ (a .1) in
     record { pc = a .0; cf = b .0; tf = ltb-true (k .tf) 2 (b .1) }
 
@@ -123,7 +124,7 @@ interrupts-from i e =
 stack-from : (k : Stack) → stackOk k ≡ true → StackIn k
 unfolding stackOk
 stack-from k e =
-    let a = below (k .address .0) 4096 _ e in
+    let a = below (k .address .0) addresses _ e in
     record { address = a .0; carry = ltb-true (k .carry) 2 (a .1) }
 
 status-from : (s : Status) → statusOk s ≡ true → StatusIn s
@@ -191,7 +192,7 @@ registers-to r v =
 
 control-to : (k : Control) → ControlIn k → controlOk k ≡ true
 unfolding controlOk
-control-to k v = rw (lt-ltb (k .pc .0) 4096 (v .pc), lt-ltb (k .cf) 2 (v .cf)) (lt-ltb (k .tf) 2 (v .tf))
+control-to k v = rw (lt-ltb (k .pc .0) addresses (v .pc), lt-ltb (k .cf) 2 (v .cf)) (lt-ltb (k .tf) 2 (v .tf))
 
 timer-to : (t : Timer) → TimerIn t → timerOk t ≡ true
 unfolding timerOk
@@ -203,7 +204,7 @@ interrupts-to i v = rw (lt-ltb (i .enabled) 2 (v .enabled), lt-ltb (i .held) 2 (
 
 stack-to : (k : Stack) → StackIn k → stackOk k ≡ true
 unfolding stackOk
-stack-to k v = rw (lt-ltb (k .address .0) 4096 (v .address)) (lt-ltb (k .carry) 2 (v .carry))
+stack-to k v = rw (lt-ltb (k .address .0) addresses (v .address)) (lt-ltb (k .carry) 2 (v .carry))
 
 status-to : (s : Status) → StatusIn s → statusOk s ≡ true
 unfolding statusOk
@@ -285,7 +286,7 @@ module _ {c : Cpu} (v : CpuIn c) where
   pub r4-in : (x : ℕ) → x < 16 → CpuIn (withR4 x c)
   r4-in x h = registers-in _ (record { acc = v .registers .acc; r0 = v .registers .r0; r1 = v .registers .r1; r2 = v .registers .r2; r3 = v .registers .r3; r4 = h })
 
-  pub pc-in : (x : ProgramAddress) → x .0 < 4096 → CpuIn (withPc x c)
+  pub pc-in : (x : ProgramAddress) → x .0 < addresses → CpuIn (withPc x c)
   pc-in x h = control-in _ (record { pc = h; cf = v .control .cf; tf = v .control .tf })
 
   pub cf-in : (x : ℕ) → x < 2 → CpuIn (withCf x c)
@@ -344,12 +345,12 @@ nibbles-set (y ∷ m) (suc k) x h e =
 module _ (m : List ℕ) (v : memoryOk m ≡ true) where
   at-in : (k : ℕ) → getD m k 0 < 16
   unfolding memoryOk
-  at-in k = nibbles-at m k (both (eqb (length m) 160) _ v .1)
+  at-in k = nibbles-at m k (both (eqb (length m) memorySize) _ v .1)
 
   set-in : (k x : ℕ) → x < 16 → memoryOk (set m k x) ≡ true
   unfolding memoryOk
   set-in k x h =
-      let a = both (eqb (length m) 160) _ v in
+      let a = both (eqb (length m) memorySize) _ v in
       rw length-set (and-both _ _ (a .0) (nibbles-set m k x h (a .1)))
 
   pub loaded-in : (a : DataAddress) → loaded m a < 16

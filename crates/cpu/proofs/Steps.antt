@@ -1,5 +1,5 @@
--- What the proofs of one step share, on definitions alone: a faulting instruction sets the fault alone, and what the bytes at the
--- PC, read and timed, make of a step. Assumes nothing.
+-- What the proofs of one step share, on definitions alone: a faulting instruction sets the fault alone, and what the code at the
+-- PC, read and timed, makes of a step. Assumes nothing.
 use Prim.Native.Nat.{ℕ, _+_, _%_, _<_, _^_}
 use mathlib.Core.Path.{_≡_, refl, sym, ap, ap₂, subst, _∙_}
 use mathlib.Core.Bool.{Bool, true, false}
@@ -7,16 +7,17 @@ use mathlib.Core.List.{List}
 use mathlib.Core.Logic.{inl, inr}
 use native.Mathlib.Omega.{arith}
 use lib.Dec.{eqb}
-use lib.ListN.{getD}
 use borrow.Author.Tests.{eq-eqb, ne-eqb}
 use Rattle.isa.specs.Choice.{pick}
-use Rattle.rom.specs.Fetching.{byteAt, readAt}
-use Rattle.isa.specs.Reading.{Reading, decoded}
-use Rattle.isa.specs.Timing.{columnsOf, columnsAt, lengthOf, cyclesOf}
+use Rattle.rom.specs.Fetching.{codeAt, readAt, lengthAt, cyclesAt, movedBy}
+use Rattle.rom.specs.declared.reader.Code.{Code}
+use Rattle.rom.proofs.Fetching.{read-there, length-code, cycles-code}
+use Rattle.isa.specs.Reading.{Reading}
+use Rattle.isa.specs.Timing.{Columns, columnsOf, columnsAt}
 use Rattle.isa.specs.Views.{View, on, jmp, branch, call, ret, reti, ei, view}
 use Rattle.isa.specs.declared.decoder.Decoded.{Decoded}
 use Rattle.isa.specs.declared.decoder.Decoded.the-variants.{Read}
-use Rattle.isa.proofs.Exact.{reading, timed as timed-at}
+use Rattle.isa.proofs.Exact.{timed as timed-at}
 use Rattle.isa.specs.declared.ProgramAddress.{ProgramAddress}
 use Rattle.isa.specs.declared.Instruction.{Instruction}
 use Rattle.datapath.specs.Timer.{clocks, counted}
@@ -85,49 +86,45 @@ finished mask i s t l n {r} e z p =
     ∙ ap (onCpu (ticked n)) e
     ∙ rw (eq-eqb (effect mask i (onCpu (moved l) s) .cpu .status .fault) 0 (ap (λ (x : State). x .cpu .status .fault) (sym e) ∙ z)) refl
 
--- the bytes at the PC, as the code fetches them: what they read as, and what that does
-module _ (mask : List ℕ) (s : State) (x y : ℕ) (d : Decoded) (p : x ≡ byteAt mask (s .cpu .control .pc .0 % 4096)) (q : y ≡ byteAt mask (s .cpu .control .pc .0 % 4096 + 1)) (h : y < 256)
-    (r : Reading x y d) where
-  again : (n : ℕ) → n % 4096 % 4096 ≡ n % 4096
-  again n = omega arith
+-- the code at the PC: what it reads as, and what that does
+module _ (mask : List ℕ) (s : State) (k : Code) (d : Decoded) (at : k ≡ codeAt mask (s .cpu .control .pc .0)) (h : k .second < 256) (r : Reading (k .first) (k .second) d) where
+  abbrev pc : ℕ
+  pc = s .cpu .control .pc .0
 
-  next : (n : ℕ) → (n % 4096 + 1) % 4096 ≡ (n + 1) % 4096
-  next n = omega arith
+  pub read : d ≡ readAt mask pc
+  read = read-there mask pc k at h d r
 
-  first : x ≡ byteAt mask (s .cpu .control .pc .0)
-  first = p ∙ ap (λ (n : ℕ). getD mask n 0) (again (s .cpu .control .pc .0))
+  columns-first : (i : Instruction) → d ≡ Read i → columnsOf i ≡ columnsAt (codeAt mask pc .first)
+  columns-first i e = sym (timed-at (k .first) .read (k .second) i h (subst (Reading (k .first) (k .second)) e r)) ∙ ap (λ (k : Code). columnsAt (k .first)) at
 
-  pub read : d ≡ readAt mask (s .cpu .control .pc .0)
-  read = reading x y d h r ∙ ap₂ decoded first (q ∙ ap (λ (n : ℕ). getD mask n 0) (next (s .cpu .control .pc .0)))
+  -- length and cycles by what was read are those of the code
+  pub size-read : (i : Instruction) → d ≡ Read i → columnsOf i .bytes ≡ lengthAt mask pc
+  size-read i e = ap (λ (c : Columns). c .bytes) (columns-first i e) ∙ length-code mask pc
 
-  -- length and cycles by what was read are those of the first byte
-  pub columns-read : (i : Instruction) → d ≡ Read i → columnsOf i ≡ columnsAt x
-  columns-read i e = sym (timed-at x .read y i h (subst (Reading x y) e r))
+  pub cycles-read : (i : Instruction) → d ≡ Read i → columnsOf i .cycles ≡ cyclesAt mask pc
+  cycles-read i e = ap (λ (c : Columns). c .cycles) (columns-first i e) ∙ cycles-code mask pc
 
-  pub fetched : instructed mask d (lengthOf x) (cyclesOf x) s ≡ executed mask s
+  pub fetched : instructed mask d (lengthAt mask pc) (cyclesAt mask pc) s ≡ executed mask s
   unfolding executed
-  fetched = ap₂ (λ (d : Decoded) (x : ℕ). instructed mask d (lengthOf x) (cyclesOf x) s) read first
-
--- the PC moved on by the length, as the code does it
-pub moved-on : (c : Cpu) (x a n : ℕ) → n ≡ lengthOf x → a ≡ (c .control .pc .0 % 4096 + n) % 4096 → withPc (address a) c ≡ moved (lengthOf x) c
-moved-on c x a n q p = ap (λ (a : ℕ). withPc (address a) c) (p ∙ sum (c .control .pc .0) n) ∙ ap (λ (n : ℕ). moved n c) q
-  where
-    sum : (a b : ℕ) → (a % 4096 + b) % 4096 ≡ (a + b) % 4096
-    sum a b = omega arith
+  fetched = ap (λ (d : Decoded). instructed mask d (lengthAt mask pc) (cyclesAt mask pc) s) read
 
 -- the whole instruction, at the two ways out that the code has behind its effect, t
-pub record Ended (mask : List ℕ) (s t : State) (x : ℕ) : Type 0 where
+pub record Ended (mask : List ℕ) (s t : State) : Type 0 where
   pub in-fault : s .cpu .status .fault ≡ 0 → (t .cpu .status .fault ≡ 0 → ⊥) → state (withPc (address (s .cpu .control .pc .0)) (t .cpu)) (t .memory) ≡ executed mask s
-  pub in-time : {r : Cpu} (n : ℕ) → t .cpu .status .fault ≡ 0 → n ≡ cyclesOf x → r ≡ ticked n (t .cpu) → state r (t .memory) ≡ executed mask s
+  pub in-time : {r : Cpu} (n : ℕ) → t .cpu .status .fault ≡ 0 → n ≡ cyclesAt mask (s .cpu .control .pc .0) → r ≡ ticked n (t .cpu) → state r (t .memory) ≡ executed mask s
 
-pub whole : (mask : List ℕ) (s t : State) (x : ℕ) (i : Instruction) (d : Decoded) (k : Cpu) → d ≡ Read i → instructed mask d (lengthOf x) (cyclesOf x) s ≡ executed mask s
-    → k ≡ moved (lengthOf x) (s .cpu) → t ≡ effect mask i (state k (s .memory)) → Ended mask s t x
-whole mask s t x i d k known at went done =
-    let reached : t ≡ effect mask i (onCpu (moved (lengthOf x)) s) = done ∙ ap (λ (k : Cpu). effect mask i (state k (s .memory))) went in
-    let all : settled (cyclesOf x) s (effect mask i (onCpu (moved (lengthOf x)) s)) ≡ executed mask s = ap (λ (d : Decoded). instructed mask d (lengthOf x) (cyclesOf x) s) (sym known) ∙ at in
+pub whole : (mask : List ℕ) (s t : State) (i : Instruction) (d : Decoded) (n to : ℕ) → d ≡ Read i
+    → instructed mask d (lengthAt mask (s .cpu .control .pc .0)) (cyclesAt mask (s .cpu .control .pc .0)) s ≡ executed mask s
+    → n ≡ lengthAt mask (s .cpu .control .pc .0) → to ≡ movedBy n (s .cpu .control .pc .0) → t ≡ effect mask i (state (withPc (address to) (s .cpu)) (s .memory)) → Ended mask s t
+whole mask s t i d n to known at size went done =
+    let l = lengthAt mask (s .cpu .control .pc .0) in
+    let m = cyclesAt mask (s .cpu .control .pc .0) in
+    let there : to ≡ movedBy l (s .cpu .control .pc .0) = went ∙ ap (λ (n : ℕ). movedBy n (s .cpu .control .pc .0)) size in
+    let reached : t ≡ effect mask i (onCpu (moved l) s) = done ∙ ap (λ (a : ℕ). effect mask i (state (withPc (address a) (s .cpu)) (s .memory))) there in
+    let all : settled m s (effect mask i (onCpu (moved l) s)) ≡ executed mask s = ap (λ (d : Decoded). instructed mask d l m s) (sym known) ∙ at in
     record {
-      in-fault = λ z f. faulted mask i s t (lengthOf x) (cyclesOf x) reached z f ∙ all;
-      in-time = λ {r} n z q p. finished mask i s t (lengthOf x) (cyclesOf x) reached z (p ∙ ap (λ (n : ℕ). ticked n (t .cpu)) q) ∙ all;
+      in-fault = λ z f. faulted mask i s t l m reached z f ∙ all;
+      in-time = λ {r} n z q p. finished mask i s t l m reached z (p ∙ ap (λ (n : ℕ). ticked n (t .cpu)) q) ∙ all;
     }
 
 -- a timer that runs, and one that does not

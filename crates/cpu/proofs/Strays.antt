@@ -23,6 +23,7 @@ use Rattle.cpu.specs.State.{State, withPc}
 use Rattle.cpu.specs.Effect.{placeOf, effect}
 use Rattle.cpu.specs.Gap.{pointers, accesses, accessesOf, straysAt, straysBy, straysIn}
 use Rattle.cpu.specs.Step.{executed, vectorOf, step}
+use Rattle.cpu.specs.Run.{yielded}
 use Rattle.cpu.specs.declared.Cpu.{Cpu}
 use Rattle.cpu.proofs.Leaves.{standing, Leaves, leaves}
 
@@ -98,14 +99,14 @@ no-vector c = go (eqb (c .interrupts .level) 0 && eqb (c .interrupts .enabled) 1
 -- ---- n steps: a state that a step neither changes nor counts, and one step of those left
 module _ (mask : List ℕ) (s : State) (count : ℕ) where
   pub stopped-counts-none : (n : ℕ) → s ≡ step mask s → count ≡ tallied count (straysBy mask s) → count ≡ tallied count (straysIn mask n s)
-  unfolding straysIn tallied
+  unfolding yielded tallied
   stopped-counts-none zero e z = refl
   stopped-counts-none (suc n) e z =
       stopped-counts-none n e z ∙ ap₂ (λ (k : ℕ) (x : State). tallied k (straysIn mask n x)) z e
       ∙ tallied-add count (straysBy mask s) (straysIn mask n (step mask s))
 
   pub next-counts : (n : ℕ) → 0 < n → tallied (tallied count (straysBy mask s)) (straysIn mask (n - 1) (step mask s)) ≡ tallied count (straysIn mask n s)
-  unfolding straysIn
+  unfolding yielded
   next-counts n h =
       tallied-add count (straysBy mask s) (straysIn mask (n - 1) (step mask s))
       ∙ subst (λ (k : ℕ). tallied count (straysBy mask s + straysIn mask (n - 1) (step mask s)) ≡ tallied count (straysIn mask k s)) (back n h) refl

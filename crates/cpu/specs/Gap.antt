@@ -1,6 +1,6 @@
 -- Document 02, wish 6: "Every data read and write shall also tell whether it fell in the gap, and the machine counts such accesses". Which data
 -- accesses an instruction makes, and how many of a step's, and of a Run's, fall in the gap. No number here has a limit. Assumes nothing.
-use Prim.Native.Nat.{ℕ, zero, suc, _+_}
+use Prim.Native.Nat.{ℕ, _+_}
 use mathlib.Core.List.{List, [], _∷_, map}
 use lib.Dec.{eqb}
 use Rattle.isa.specs.Choice.{pick}
@@ -15,7 +15,8 @@ use Rattle.rom.specs.Fetching.{readAt}
 use Rattle.datapath.specs.Memory.{strays}
 use Rattle.cpu.specs.State.{State}
 use Rattle.cpu.specs.Effect.{placeOf}
-use Rattle.cpu.specs.Step.{executed, vectorOf, stopped, step}
+use Rattle.cpu.specs.Step.{executed, vectorOf, stopped}
+use Rattle.cpu.specs.Run.{yielded}
 use Rattle.cpu.specs.declared.Cpu.{Cpu}
 
 -- The data accesses of an instruction, by the register pair that addresses each. The lines "Operation" of document 001 have an M on the right for a
@@ -101,6 +102,5 @@ unfoldable pub straysBy : List ℕ → State → ℕ
 straysBy mask s = pick (stopped s) 0 (pick (eqb (vectorOf (s .cpu)) 0) (straysAt mask s) 0)
 
 -- n steps
-unfoldable pub straysIn : List ℕ → ℕ → State → ℕ
-straysIn mask zero s = 0
-straysIn mask (suc n) s = straysBy mask s + straysIn mask n (step mask s)
+abbrev pub straysIn : List ℕ → ℕ → State → ℕ
+straysIn mask n s = yielded 0 _+_ (straysBy mask) mask n s

@@ -16,6 +16,8 @@ use Rattle.cpu.specs.declared.Outputs.{Outputs}
 use Rattle.cpu.specs.declared.Pins.{Pins}
 use Rattle.cpu.specs.declared.Options.{Options}
 use Rattle.cpu.specs.declared.Cpu.{Cpu}
+use Rattle.datapath.specs.Memory.{memorySize}
+use Rattle.isa.specs.Code.{addresses}
 
 -- "A nibble is 0 to 15"
 abbrev pub nibble : ℕ → Bool
@@ -34,7 +36,7 @@ registersOk r = nibble (r .acc) && (nibble (r .r0) && (nibble (r .r1) && (nibble
 
 -- "PC (12 bits); CF and TF"
 unfoldable pub controlOk : Control → Bool
-controlOk k = ltb (k .pc .0) 4096 && (bit (k .cf) && bit (k .tf))
+controlOk k = ltb (k .pc .0) addresses && (bit (k .cf) && bit (k .tf))
 
 -- "timer (8 bits) and its running flag"
 unfoldable pub timerOk : Timer → Bool
@@ -46,7 +48,7 @@ interruptsOk i = bit (i .enabled) && (bit (i .held) && ltb (i .level) 3)
 
 -- "stack address and stack carry"
 unfoldable pub stackOk : Stack → Bool
-stackOk k = ltb (k .address .0) 4096 && bit (k .carry)
+stackOk k = ltb (k .address .0) addresses && bit (k .carry)
 
 -- "halted; fault (0 to 3)", and not halted with a fault
 unfoldable pub statusOk : Status → Bool
@@ -81,7 +83,7 @@ cpuOk c =
 
 -- "data memory 00h-7Fh and E0h-FFh in nibbles"
 unfoldable pub memoryOk : List ℕ → Bool
-memoryOk m = eqb (length m) 160 && nibbles m
+memoryOk m = eqb (length m) memorySize && nibbles m
 
 unfoldable pub valid : State → Bool
 valid s = cpuOk (s .cpu) && memoryOk (s .memory)

@@ -22,6 +22,7 @@ use datapath::alu::rotate_right;
 use datapath::alu::rotate_right_through;
 use datapath::alu::subtract;
 use datapath::alu::xor;
+use datapath::memory::MEMORY;
 use isa::Condition;
 use isa::Instruction;
 use isa::Pointer;
@@ -33,7 +34,7 @@ impl Cpu {
         mut self,
         instruction: Instruction,
         mask: &[u8],
-        memory: &mut [u8; 160],
+        memory: &mut [u8; MEMORY],
         gap: &mut u16,
     ) -> Cpu
         ensures { λ r. ⌜ state r (now (memory .exit)) ≡ effect (now (mask .entry)) instruction (state self (now (memory .entry))) ⌝ }

@@ -6,6 +6,7 @@ ghost use Rattle.cpu.specs.Effect.{nibbleAt, placeOf, registerOf, taking
 ghost use Rattle.cpu.specs.State.{state, withAcc};
 use crate::Cpu;
 use datapath::alu::Sum;
+use datapath::memory::MEMORY;
 use datapath::memory::load;
 use datapath::memory::pointer;
 use datapath::memory::store;
@@ -25,7 +26,7 @@ impl Cpu {
     }
 
     // The nibble there. `gap` counts the read where it strays.
-    pub(crate) fn operand(self, p: Pointer, memory: &[u8; 160], gap: &mut u16) -> u8
+    pub(crate) fn operand(self, p: Pointer, memory: &[u8; MEMORY], gap: &mut u16) -> u8
         ensures { λ r. ⌜ r ≡ nibbleAt p (state self (now (memory .entry))) ⌝ }
         ensures { λ _. ⌜ now (gap .exit) ≡ tallied (now (gap .entry)) (strays (placeOf p self ∷ [])) ⌝ }
     {
@@ -36,7 +37,7 @@ impl Cpu {
     }
 
     // Writes the nibble there. `gap` counts the write where it strays.
-    pub(crate) fn put(self, p: Pointer, memory: &mut [u8; 160], value: u8, gap: &mut u16)
+    pub(crate) fn put(self, p: Pointer, memory: &mut [u8; MEMORY], value: u8, gap: &mut u16)
         ensures { λ _. ⌜ state self (now (memory .exit)) ≡ withNibble p value (state self (now (memory .entry))) ⌝ }
         ensures { λ _. ⌜ now (gap .exit) ≡ tallied (now (gap .entry)) (strays (placeOf p self ∷ [])) ⌝ }
     {

@@ -2,28 +2,22 @@
 ghost use mathlib.Core.Path.{_≡_};
 ghost use lib.Dec.{eqb};
 ghost use Rattle.isa.specs.Choice.{pick};
-ghost use Rattle.rom.specs.Fetching.{movedBy};
 ghost use Rattle.datapath.specs.Memory.{tallied};
 ghost use Rattle.cpu.specs.Gap.{straysAt, straysBy};
 ghost use Rattle.cpu.specs.State.{state, withHeld, withTf};
 ghost use Rattle.cpu.specs.Step.{entered, executed, step, ticked, timed, vectorOf};
 use crate::Cpu;
+use datapath::memory::MEMORY;
 use datapath::timer::Count;
 use datapath::timer::advance;
 use datapath::timer::clock;
 use isa::decoder::Decoded;
 use isa::decoder::decode;
-use rom::reader::byte_at;
+use rom::reader::code_at;
+use rom::reader::moved_by;
 use rom::timing::cycles_of;
 use rom::timing::length_of;
 use std::num::wrapping_add_u32;
-
-// The address `length` bytes on, modulo 4,096.
-fn address_after(pc: u16, length: u8) -> u16
-    ensures { λ r. ⌜ r ≡ movedBy length pc ⌝ }
-{
-    (pc % 4096 + length as u16) % 4096
-}
 
 // One of two numbers.
 fn chosen(first: bool, a: u8, b: u8) -> u8
@@ -104,21 +98,20 @@ impl Cpu {
 
     // One instruction, on a processor without a fault. One that faults sets the fault alone, so the PC goes back and no copy is kept.
     // Length and cycles are asked for by the instruction, the length first: behind the decoder's jump both are constants.
-    fn execute(mut self, mask: &[u8], memory: &mut [u8; 160], gap: &mut u16) -> Cpu
+    fn execute(mut self, mask: &[u8], memory: &mut [u8; MEMORY], gap: &mut u16) -> Cpu
         requires { ⌜ self .status .fault ≡ 0 ⌝ }
         ensures { λ r. ⌜ state r (now (memory .exit)) ≡ executed (now (mask .entry)) (state self (now (memory .entry))) ⌝ }
         ensures { λ _. ⌜ now (gap .exit) ≡ tallied (now (gap .entry)) (straysAt (now (mask .entry)) (state self (now (memory .entry)))) ⌝ }
     {
-        let pc = self.control.pc.0 % 4096;
-        let first = byte_at(mask, pc);
-        let Decoded::Read(instruction) = decode(first, byte_at(mask, pc + 1)) else {
+        let before = self.control.pc.0;
+        let code = code_at(mask, before);
+        let Decoded::Read(instruction) = decode(code.first, code.second) else {
             self.status.fault = 1;
             return self;
         };
-        let before = self.control.pc.0;
         let size = length_of(instruction);
         let spent = cycles_of(instruction);
-        let next = address_after(pc, size);
+        let next = moved_by(before, size);
         self.control.pc.0 = next;
         let mut after = self.effect(instruction, mask, memory, gap);
         if after.status.fault != 0 {
@@ -129,7 +122,7 @@ impl Cpu {
     }
 
     // A step of a processor that is neither halted nor faulted.
-    pub(crate) fn go_on(self, mask: &[u8], memory: &mut [u8; 160], gap: &mut u16) -> Cpu
+    pub(crate) fn go_on(self, mask: &[u8], memory: &mut [u8; MEMORY], gap: &mut u16) -> Cpu
         requires { ⌜ (self .status .halted ≡ 0) × (self .status .fault ≡ 0) ⌝ }
         ensures { λ r. ⌜ state r (now (memory .exit)) ≡ step (now (mask .entry)) (state self (now (memory .entry))) ⌝ }
         ensures { λ _. ⌜ now (gap .exit) ≡ tallied (now (gap .entry)) (straysBy (now (mask .entry)) (state self (now (memory .entry)))) ⌝ }
@@ -142,7 +135,7 @@ impl Cpu {
     }
 
     // One step, on the data memory that is lent.
-    pub fn step(self, mask: &[u8], memory: &mut [u8; 160], gap: &mut u16) -> Cpu
+    pub fn step(self, mask: &[u8], memory: &mut [u8; MEMORY], gap: &mut u16) -> Cpu
         ensures { λ r. ⌜ state r (now (memory .exit)) ≡ step (now (mask .entry)) (state self (now (memory .entry))) ⌝ }
         ensures { λ _. ⌜ now (gap .exit) ≡ tallied (now (gap .entry)) (straysBy (now (mask .entry)) (state self (now (memory .entry)))) ⌝ }
     {

@@ -10,6 +10,10 @@ use Rattle.isa.specs.declared.DataAddress.{DataAddress}
 use Rattle.datapath.specs.Alu.{flag}
 use Rattle.datapath.specs.declared.memory.Access.{Access}
 
+-- how many nibbles there are
+abbrev pub memorySize : ℕ
+memorySize = 160
+
 -- the address that a register pair names: 255 is the last
 abbrev pub pointed : ℕ → ℕ → DataAddress
 pointed high low = record { 0 = (16 * high + low) % 256 }

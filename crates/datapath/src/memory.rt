@@ -4,6 +4,9 @@ ghost use Rattle.datapath.specs.Alu.{flag};
 ghost use Rattle.datapath.specs.Memory.{accessed, inGap, pointed, stored, tallied};
 use isa::DataAddress;
 
+// How many nibbles there are: 00h-7Fh, then E0h-FFh.
+pub const MEMORY: usize = 160;
+
 // What a read gives: the nibble, and whether the address is in the gap.
 pub struct Access {
     pub nibble: u8,
@@ -18,7 +21,7 @@ pub fn pointer(high: u8, low: u8) -> DataAddress
 }
 
 // The nibble at an address; 80h-DFh read 0.
-pub fn load(memory: &[u8; 160], address: DataAddress) -> Access
+pub fn load(memory: &[u8; MEMORY], address: DataAddress) -> Access
     ensures { λ r. ⌜ r ≡ accessed (now (memory .entry)) address ⌝ }
 {
     let a = address.0 as usize;
@@ -41,7 +44,7 @@ pub fn load(memory: &[u8; 160], address: DataAddress) -> Access
 }
 
 // Writes the nibble at an address; 80h-DFh ignore it. The answer tells whether the address is one of those.
-pub fn store(memory: &mut [u8; 160], address: DataAddress, value: u8) -> bool
+pub fn store(memory: &mut [u8; MEMORY], address: DataAddress, value: u8) -> bool
     ensures { λ _. ⌜ now (memory .exit) ≡ stored (now (memory .entry)) address value ⌝ }
     ensures { λ r. ⌜ r ≡ inGap address ⌝ }
 {

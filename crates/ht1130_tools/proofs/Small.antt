@@ -9,6 +9,7 @@ use lib.Dec.{leb, eqb}
 use lib.ListN.{length}
 use borrow.Author.Tests.{leb-true}
 use Rattle.isa.specs.Choice.{pick}
+use Rattle.rom.specs.Fetching.{sized}
 use Rattle.records.specs.Records.{sizeAt, kindAt, offsetsFrom, offsets}
 use Rattle.records.proofs.Offsets.{each}
 use Rattle.script.specs.Check.{refused, fine, unless, firstRefused, first, ruled, checked}
@@ -59,4 +60,4 @@ rest s room n h =
 
 pub small : (mask s : List ℕ) (room : ℕ) → checked mask s room .offset ≤ 65535
 unfolding checked
-small mask s room = either 65535 _ _ (tested 65535 (eqb (length mask) 4096) 1) (bounded s _ (λ h. rest s room 65535 h)) .bound
+small mask s room = either 65535 _ _ (tested 65535 (sized mask) 1) (bounded s _ (λ h. rest s room 65535 h)) .bound

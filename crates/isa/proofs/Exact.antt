@@ -11,7 +11,7 @@ use lib.Dec.{ltb, eqb, lit<}
 use lib.ListN.{length, take, getD}
 use borrow.Author.Tests.{ltb-true, eqb-true, lt-ltb, le-ltb, ne-eqb}
 use Rattle.isa.specs.Choice.{pick}
-use Rattle.isa.specs.Code.{bytesOf, inRange, leading, bitInRange}
+use Rattle.isa.specs.Code.{addresses, bytesOf, inRange, leading, bitInRange}
 use Rattle.isa.specs.Reading.{Reads, Reading, Entry, undefined, whole, fixed, nibble, byte, opcodes, complete, decoded, ReadingDetermines}
 use Rattle.isa.specs.Timing.{Columns, columns, columnsOf, columnsAt, entryColumns, Timed}
 use Rattle.isa.specs.declared.decoder.Decoded.{Decoded}
@@ -86,8 +86,8 @@ module _ (a b : ℕ) where
       field 16 (λ (k : ℕ). x + k) high (pair p high) e low (and-left (ltb low 16) (ltb high 16) h)
       ∙ passed {t = ltb high 16} (Read (I.MovPairXX p low high)) (and-right (ltb low 16) (ltb high 16) h)
 
-  jump : (f : ProgramAddress → Instruction) (x : ℕ) (t : ProgramAddress) → values 16 (λ (k : ℕ). decoded (x + k) (t .0 % 256)) ≡ values 16 (to f (t .0 % 256)) → ltb (t .0) 4096 ≡ true → decoded (x + t .0 / 256) (t .0 % 256) ≡ Read (f t)
-  jump f x t e h = address 16 f x t e (omega (arith, ltb-true (t .0) 4096 h))
+  jump : (f : ProgramAddress → Instruction) (x : ℕ) (t : ProgramAddress) → values 16 (λ (k : ℕ). decoded (x + k) (t .0 % 256)) ≡ values 16 (to f (t .0 % 256)) → ltb (t .0) addresses ≡ true → decoded (x + t .0 / 256) (t .0 % 256) ≡ Read (f t)
+  jump f x t e h = address 16 f x t e (omega (arith, ltb-true (t .0) addresses h))
 
   target : (k : Condition) (x : ℕ) (t : ProgramAddress) → values 8 (λ (k : ℕ). decoded (x + k) (t .0 % 256)) ≡ values 8 (to (λ (t : ProgramAddress). I.Branch t k) (t .0 % 256)) → ltb (t .0) 2048 ≡ true → decoded (x + t .0 / 256) (t .0 % 256) ≡ Read (I.Branch t k)
   target k x t e h = address 8 (λ (t : ProgramAddress). I.Branch t k) x t e (omega (arith, ltb-true (t .0) 2048 h))
@@ -369,10 +369,10 @@ unfolding inRange
 to-pair p x a b e m l u h =
     two-byte (and-both (ltb (a % 16) 16) (ltb b 16) (lt-ltb (a % 16) 16 (omega arith)) (lt-ltb b 16 h)) e (omega arith) refl
 
-pub to-address : (f : ProgramAddress → Instruction) (x a b : ℕ) → inRange (f (record { 0 = a % 16 * 256 + b })) ≡ ltb (a % 16 * 256 + b) 4096
+pub to-address : (f : ProgramAddress → Instruction) (x a b : ℕ) → inRange (f (record { 0 = a % 16 * 256 + b })) ≡ ltb (a % 16 * 256 + b) addresses
     → bytesOf (f (record { 0 = a % 16 * 256 + b })) ≡ (x + (a % 16 * 256 + b) / 256) ∷ ((a % 16 * 256 + b) % 256) ∷ []
     → b < 256 → a / 16 * 16 ≡ x → Reads a b (f (record { 0 = a % 16 * 256 + b }))
-to-address f x a b r e h m = two-byte (r ∙ lt-ltb (a % 16 * 256 + b) 4096 (omega arith)) e (omega arith) (omega arith)
+to-address f x a b r e h m = two-byte (r ∙ lt-ltb (a % 16 * 256 + b) addresses (omega arith)) e (omega arith) (omega arith)
 
 pub to-register : (f : ℕ → Instruction) (x a b : ℕ) → inRange (f (a % 16 / 2)) ≡ ltb (a % 16 / 2) 5 → bytesOf (f (a % 16 / 2)) ≡ (x + 2 * (a % 16 / 2)) ∷ []
     → (a % 16 / 2 < 5) × (a ≡ x + 2 * (a % 16 / 2)) → Reads a b (f (a % 16 / 2))

@@ -17,6 +17,10 @@ use Rattle.isa.specs.declared.Condition.the-variants.{Ja, JnzR0, JnzR1, 
 use Rattle.isa.specs.declared.Instruction.{Instruction}
 use Rattle.isa.specs.declared.Instruction.the-variants as I
 
+-- "A program address counts to 4,095": how many there are
+abbrev pub addresses : ℕ
+addresses = 4096
+
 -- the five leading bits of a conditional branch
 unfoldable pub leading : Condition → ℕ
 leading (Ja n) = 0b1000_0000 + 8 * n
@@ -151,9 +155,9 @@ inRange I.RrA = true
 inRange I.RrcA = true
 inRange (I.InA p) = true
 inRange I.OutPaA = true
-inRange (I.Jmp t) = ltb (t .0) 4096
+inRange (I.Jmp t) = ltb (t .0) addresses
 inRange (I.Branch t k) = bitInRange k && ltb (t .0) 2048
-inRange (I.Call t) = ltb (t .0) 4096
+inRange (I.Call t) = ltb (t .0) addresses
 inRange I.Ret = true
 inRange I.Reti = true
 inRange I.Clc = true

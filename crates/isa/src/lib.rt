@@ -1,6 +1,12 @@
 // The instruction set of the HT1130: its addresses and instructions, and the decoder.
 pub mod decoder;
 
+// How many addresses the program ROM has.
+pub const ADDRESSES: u16 = 4096;
+
+// The same, for a list with an element for each.
+pub const PLACES: usize = ADDRESSES as usize;
+
 // An address of the program ROM, 0 to 4,095 (document 01: "A program address counts to 4,095").
 #[repr(C)]
 pub struct ProgramAddress(pub u16);

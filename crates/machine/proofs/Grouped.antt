@@ -10,6 +10,8 @@ use Rattle.cpu.specs.State.{state}
 use Rattle.cpu.specs.Range.{bit, cpuOk, memoryOk, nibble, nibbles, optionsOk, registersOk, valid}
 use Rattle.cpu.specs.declared.Cpu.{Cpu}
 use Rattle.cpu.proofs.Ranges.{CpuIn, from, to}
+use Rattle.datapath.specs.Memory.{memorySize}
+use Rattle.isa.specs.Code.{addresses}
 
 -- two tests that pass together
 same : (x y : Bool) → (x ≡ true → y ≡ true) → (y ≡ true → x ≡ true) → x ≡ y
@@ -25,17 +27,17 @@ both : (x y : Bool) → x && y ≡ true → (x ≡ true) × (y ≡ true)
 both x y e = (and-left x y e, and-right x y e)
 
 -- a memory in range, to say of a processor what is said of a state
-zeros : memoryOk (replicate 160 0) ≡ true
+zeros : memoryOk (replicate memorySize 0) ≡ true
 unfolding memoryOk nibbles
 zeros = refl
 
 bounds : (c : Cpu) → cpuOk c ≡ true → CpuIn c
 unfolding valid
-bounds c e = from (state c (replicate 160 0)) (and-both (cpuOk c) (memoryOk (replicate 160 0)) e zeros) .cpu
+bounds c e = from (state c (replicate memorySize 0)) (and-both (cpuOk c) (memoryOk (replicate memorySize 0)) e zeros) .cpu
 
 tests : (c : Cpu) → CpuIn c → cpuOk c ≡ true
 unfolding valid
-tests c v = and-left (cpuOk c) (memoryOk (replicate 160 0)) (to (state c (replicate 160 0)) (record { cpu = v; memory = zeros }))
+tests c v = and-left (cpuOk c) (memoryOk (replicate memorySize 0)) (to (state c (replicate memorySize 0)) (record { cpu = v; memory = zeros }))
 
 module _ (c : Cpu) where
   abbrev pub small : Bool
@@ -49,8 +51,8 @@ module _ (c : Cpu) where
       (bit (c .control .cf) && (bit (c .control .tf) && (bit (c .stack .carry) && bit (c .status .halted))))
       && (bit (c .interrupts .enabled) && (bit (c .interrupts .held) && (bit (c .timer .running) && (bit (c .outputs .mode) && bit (c .pins .int)))))
 
-  abbrev pub addresses : Bool
-  addresses = ltb (c .control .pc .0) 4096 && ltb (c .stack .address .0) 4096
+  abbrev pub bothAddresses : Bool
+  bothAddresses = ltb (c .control .pc .0) addresses && ltb (c .stack .address .0) addresses
 
   abbrev pub rated : Bool
   rated = ltb (c .options .rate) 14 && not (eqb (c .options .rate) 6) || eqb (c .options .rate) 255
@@ -66,12 +68,12 @@ module _ (c : Cpu) where
       && (ltb (c .outputs .channel) 17 && (rated && common))))
 
   module _ (count : c .timer .count < 256) (cycles : c .cycles < 2 ^ 32) where
-    to-parts : small && (flags && (addresses && others)) ≡ true → CpuIn c
+    to-parts : small && (flags && (bothAddresses && others)) ≡ true → CpuIn c
     unfolding registersOk optionsOk
     to-parts e =
         let s = both small _ e in
         let f = both flags _ (s .1) in
-        let p = both addresses _ (f .1) in
+        let p = both bothAddresses _ (f .1) in
         let r = both (registersOk (c .registers)) _ (s .0) in
         let n = both (nibble (c .outputs .pa) && (nibble (c .pins .pm) && (nibble (c .pins .ps) && nibble (c .pins .pp)))) _ (r .1) in
         let acc = below (c .registers .acc) 16 _ (r .0) in
@@ -90,7 +92,7 @@ module _ (c : Cpu) where
         let held = below (c .interrupts .held) 2 _ (enabled .1) in
         let running = below (c .timer .running) 2 _ (held .1) in
         let mode = below (c .outputs .mode) 2 _ (running .1) in
-        let pc = below (c .control .pc .0) 4096 _ (p .0) in
+        let pc = below (c .control .pc .0) addresses _ (p .0) in
         let level = below (c .interrupts .level) 3 _ (p .1) in
         let fault = below (c .status .fault) 4 _ (level .1) in
         let either = both (eqb (c .status .halted) 0 || eqb (c .status .fault) 0) _ (fault .1) in
@@ -101,7 +103,7 @@ module _ (c : Cpu) where
           control = record { pc = pc .0; cf = cf .0; tf = tf .0 };
           timer = record { count = count; running = running .0 };
           interrupts = record { enabled = enabled .0; held = held .0; level = level .0 };
-          stack = record { address = ltb-true (c .stack .address .0) 4096 (pc .1); carry = carry .0 };
+          stack = record { address = ltb-true (c .stack .address .0) addresses (pc .1); carry = carry .0 };
           status = record { halted = ltb-true (c .status .halted) 2 (carry .1); fault = fault .0; either = either .0 };
           outputs = record { pa = pa .0; channel = channel .0; mode = mode .0 };
           pins = record { pm = pm .0; ps = ps .0; pp = ltb-true (c .pins .pp) 16 (ps .1); int = ltb-true (c .pins .int) 2 (mode .1) };
@@ -109,7 +111,7 @@ module _ (c : Cpu) where
           cycles = cycles;
         }
 
-    of-parts : CpuIn c → small && (flags && (addresses && others)) ≡ true
+    of-parts : CpuIn c → small && (flags && (bothAddresses && others)) ≡ true
     unfolding registersOk optionsOk
     of-parts v =
         let r = v .registers in
@@ -141,8 +143,8 @@ module _ (c : Cpu) where
           lt-ltb (c .outputs .mode) 2 (v .outputs .mode),
           lt-ltb (c .pins .int) 2 (q .int),
         ) refl)
-        (and-both addresses _ (rw (lt-ltb (c .control .pc .0) 4096 (v .control .pc), lt-ltb (c .stack .address .0) 4096 (v .stack .address)) refl)
+        (and-both bothAddresses _ (rw (lt-ltb (c .control .pc .0) addresses (v .control .pc), lt-ltb (c .stack .address .0) addresses (v .stack .address)) refl)
         (rw (lt-ltb (c .interrupts .level) 3 (v .interrupts .level), lt-ltb (c .status .fault) 4 (v .status .fault), v .status .either, lt-ltb (c .outputs .channel) 17 (v .outputs .channel), o .0) (w .0))))
 
-    pub grouped : small && (flags && (addresses && others)) ≡ cpuOk c
-    grouped = same (small && (flags && (addresses && others))) (cpuOk c) (λ e. tests c (to-parts e)) (λ e. of-parts (bounds c e))
+    pub grouped : small && (flags && (bothAddresses && others)) ≡ cpuOk c
+    grouped = same (small && (flags && (bothAddresses && others))) (cpuOk c) (λ e. tests c (to-parts e)) (λ e. of-parts (bounds c e))

@@ -9,6 +9,7 @@ use mathlib.Core.List.{List, [], _∷_}
 use lib.Dec.{ltb, eqb, lit<}
 use lib.ListN.{length, getD, drop, length-drop}
 use borrow.Author.Tests.{ltb-true, eqb-true, eq-eqb}
+use Rattle.datapath.specs.Memory.{memorySize}
 use Rattle.isa.specs.Choice.{pick}
 use Rattle.isa.proofs.Exact.{and-left, and-right, and-both}
 use Rattle.datapath.specs.Alu.{flag}
@@ -88,8 +89,8 @@ powered-valid o image e =
     to (stateOf (powered o image)) (record {
       cpu = res-in _ _ o 0 (record { acc = n 0; r0 = n 1; r1 = n 2; r2 = n 3; r3 = n 4; r4 = n 5 })
           (record { pm = omega arith; ps = omega arith; pp = omega arith; int = omega arith }) (h .chosen) (lit< tt);
-      memory = and-both (eqb (length (drop 6 image)) 160) (nibbles (drop 6 image))
-          (eq-eqb (length (drop 6 image)) 160 (omega (arith, length-drop 6 image, h .size))) (nibbles-drop 6 image (h .nibbled));
+      memory = and-both (eqb (length (drop 6 image)) memorySize) (nibbles (drop 6 image))
+          (eq-eqb (length (drop 6 image)) memorySize (omega (arith, length-drop 6 image, h .size))) (nibbles-drop 6 image (h .nibbled));
     })
 
 -- ---- each event

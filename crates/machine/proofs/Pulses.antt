@@ -12,6 +12,7 @@ use Rattle.isa.specs.Reading.{decoded, opcodes}
 use Rattle.isa.specs.Timing.{columnsOf, columnsAt, lengthOf, cyclesOf}
 use Rattle.isa.specs.declared.Instruction.the-variants as I
 use Rattle.rom.specs.Fetching.{byteAt}
+use Rattle.rom.proofs.Fetching.{read-bytes, length-bytes, cycles-bytes}
 use Rattle.datapath.specs.Timer.{clocks, counted}
 use Rattle.cpu.specs.State.{State, state, onCpu, withCf, withPc, withTf, withCount, withHeld, withLevel, withHalted, withCycles}
 use Rattle.cpu.specs.Effect.{effect, returnedWithCarry}
@@ -88,11 +89,17 @@ module _ (mask memory : List ℕ) (c : Cpu) (w : Waiting 2 c) (at : c .control .
   unfolding decoded opcodes columnsOf columnsAt
   read = refl
 
+  there : executed mask (state c memory)
+      ≡ instructed mask (decoded (byteAt mask (c .control .pc .0)) (byteAt mask (c .control .pc .0 + 1))) (lengthOf (byteAt mask (c .control .pc .0))) (cyclesOf (byteAt mask (c .control .pc .0))) (state c memory)
+  unfolding executed
+  there = rw (read-bytes mask (c .control .pc .0), length-bytes mask (c .control .pc .0), cycles-bytes mask (c .control .pc .0)) refl
+
   returned : step mask (state c memory) ≡ state back memory
-  unfolding executed effect returnedWithCarry
+  unfolding effect returnedWithCarry
   returned =
       sym (runs mask (state c memory) (ap (λ (x : Status). x .halted) (w .status)) (ap (λ (x : Status). x .fault) (w .status))
       (λ e. absurd (omega (arith, none-next, e))) (λ e. absurd (omega (arith, none-next, e))))
+      ∙ there
       ∙ ap (λ (x : ℕ). instructed mask (decoded x (byteAt mask (c .control .pc .0 + 1))) (lengthOf x) (cyclesOf x) (state c memory))
       (ap (byteAt mask) at ∙ reti)
       ∙ read

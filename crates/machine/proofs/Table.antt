@@ -2,13 +2,14 @@
 use mathlib.Core.Path.{refl}
 use Rattle.isa.specs.Reading.{decoded, opcodes}
 use Rattle.isa.specs.Timing.{columnsOf, columnsAt}
+use Rattle.rom.specs.Fetching.{codeAt, readAt, lengthAt, cyclesAt}
 use Rattle.datapath.specs.Memory.{loaded}
 use Rattle.cpu.specs.Effect.{effect, branched}
 use Rattle.cpu.specs.Step.{ticked, entered, executed, vectorOf, stepped, step}
 use Rattle.machine.specs.Table.{nops, atRate, atAddress, jzAt, tableRead, running, both, afterCode, withAccCf, Table}
 
 pub table : Table
-unfolding afterCode withAccCf nops atRate atAddress jzAt tableRead running both loaded decoded opcodes columnsOf columnsAt effect branched ticked entered executed vectorOf stepped step
+unfolding afterCode withAccCf nops atRate atAddress jzAt tableRead running both loaded decoded opcodes columnsOf columnsAt codeAt readAt lengthAt cyclesAt effect branched ticked entered executed vectorOf stepped step
 table = record {
   add-9-8 = refl;
   adc-15-15-1 = refl;

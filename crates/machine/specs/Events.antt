@@ -5,18 +5,16 @@ use mathlib.Core.Bool.{Bool, true, not, _&&_}
 use mathlib.Core.List.{List, [], _∷_}
 use lib.Dec.{eqb}
 use lib.Bits.{bitAnd, bitXor}
-use lib.ListN.{length}
 use Rattle.isa.specs.Choice.{pick}
-use Rattle.datapath.specs.Memory.{tallied}
+use Rattle.rom.specs.Fetching.{sized}
 use Rattle.datapath.specs.Timer.{counted}
 use Rattle.cpu.specs.State.{withHeld, withHalted, withPins}
 use Rattle.cpu.specs.Step.{timed}
 use Rattle.cpu.specs.Range.{nibble, bit, valid}
 use Rattle.cpu.specs.declared.Cpu.{Cpu}
 use Rattle.cpu.specs.declared.Options.{Options}
-use Rattle.machine.specs.Machine.{stateOf, machineOf}
+use Rattle.machine.specs.Machine.{stateOf, machineOf, traced}
 use Rattle.machine.specs.Power.{reset, answered, powerOn}
-use Rattle.cpu.specs.Gap.{straysIn}
 use Rattle.cpu.specs.Run.{ran}
 use Rattle.machine.specs.declared.Machine.{Machine}
 use Rattle.machine.specs.declared.Answer.{Answer}
@@ -26,7 +24,7 @@ use Rattle.machine.specs.declared.events.Named.{Named}
 use Rattle.machine.specs.declared.events.Named.the-variants.{Known, Unknown}
 
 abbrev pub onCpuOf : (Cpu → Cpu) → Machine → Machine
-onCpuOf f m = record { cpu = f (m .cpu); memory = m .memory; gap = m .gap }
+onCpuOf f m = record { cpu = f (m .cpu); memory = m .memory; trace = m .trace }
 
 -- an edge is held, and the machine wakes
 abbrev pub woken : Cpu → Cpu
@@ -67,9 +65,9 @@ clocked c = eqb (c .options .rate) 255 && eqb (c .timer .running) 1
 unfoldable pub counting : ℕ → Cpu → Cpu
 counting n c = pick (clocked c) (timed (counted (c .timer .count) n) c) c
 
--- what an event makes of a machine, where nothing is refused. Run alone takes steps, and counts what of their accesses falls in the gap
+-- what an event makes of a machine, where nothing is refused. Run alone takes steps, and leaves their trace
 unfoldable pub happened : List ℕ → Event → Machine → Machine
-happened mask (Run n) m = machineOf (ran mask n (stateOf m)) (tallied (m .gap) (straysIn mask n (stateOf m)))
+happened mask (Run n) m = machineOf (ran mask n (stateOf m)) (traced mask n (stateOf m) (m .trace))
 happened mask (Pins pm ps pp) m = onCpuOf (pinned pm ps pp) m
 happened mask (Int level) m = onCpuOf (interrupted level) m
 happened mask (Tmclk n) m = onCpuOf (counting n) m
@@ -77,7 +75,7 @@ happened mask Res m = reset m
 
 -- "1: mask not 4,096 bytes": Run alone has a mask
 unfoldable pub maskOk : List ℕ → Event → Bool
-maskOk mask (Run n) = eqb (length mask) 4096
+maskOk mask (Run n) = sized mask
 maskOk mask (Pins pm ps pp) = true
 maskOk mask (Int level) = true
 maskOk mask (Tmclk n) = true
@@ -91,7 +89,7 @@ valuesOk (Int level) = bit level
 valuesOk (Tmclk n) = true
 valuesOk Res = true
 
--- "5: machine field outside its range .. or halted with a fault"; the count of strays is in range whatever it is
+-- "5: machine field outside its range .. or halted with a fault"; the trace is in range whatever it is
 abbrev pub rangeRefusal : Machine → ℕ
 rangeRefusal m = pick (valid (stateOf m)) 0 5
 

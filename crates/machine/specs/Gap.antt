@@ -13,12 +13,13 @@ use Rattle.machine.specs.Power.{powered, powerOn}
 use Rattle.machine.specs.Events.{rangeRefusal, Input, power, named, answerTo, Call, stepsOf, after, Every, Session}
 use Rattle.machine.specs.Report.{report}
 use Rattle.machine.specs.declared.Machine.{Machine}
+use Rattle.machine.specs.declared.Trace.{Trace}
 use Rattle.machine.specs.declared.Answer.{Answer}
 use Rattle.machine.specs.declared.gap.GapCount.{GapCount}
 
 -- "the count has its own query": the refusal of a machine out of range, and the count, 0 where it is refused
 abbrev pub gapCount : Machine → GapCount
-gapCount m = record { count = pick (valid (stateOf m)) (m .gap) 0; refusal = rangeRefusal m }
+gapCount m = record { count = pick (valid (stateOf m)) (m .trace .gap) 0; refusal = rangeRefusal m }
 
 -- ---- "the number of gap accesses since the last power-on", by counting steps, with no limit
 -- what is left of n accesses where an accepted input comes: a power-on starts anew
@@ -44,7 +45,7 @@ lesser a b = pick (ltb a b) a b
 -- ---- "After any list of events from power-on it equals the lesser of 65,535 and the number of gap accesses since the last power-on"
 -- the field, and the query's answer, which is then not refused
 pub record Strayed (calls : List Call) (first last : Machine) : Type 0 where
-  pub counts : last .gap ≡ lesser 65535 (gapAccesses calls first)
+  pub counts : last .trace .gap ≡ lesser 65535 (gapAccesses calls first)
   pub answers : gapCount last ≡ record { count = lesser 65535 (gapAccesses calls first); refusal = 0 }
 
 -- each Run may have a mask of its own, which is bytes, as every lent slice is
@@ -56,15 +57,15 @@ GapCounted =
 
 -- the same from any machine, as a host may lend one: its count goes on from what it is
 abbrev pub CountGoesOn : Type 0
-CountGoesOn = (calls : List Call) (m : Machine) → m .gap ≤ 65535 → after calls m .gap ≡ lesser 65535 (gapAccessesAfter (m .gap) calls m)
+CountGoesOn = (calls : List Call) (m : Machine) → m .trace .gap ≤ 65535 → after calls m .trace .gap ≡ lesser 65535 (gapAccessesAfter (m .trace .gap) calls m)
 
--- ---- "Reports are unaffected": a machine with another count gives the same reports, and every input finds the same refusal and leaves the same in
+-- ---- "Reports are unaffected": a machine with another trace gives the same reports, and every input finds the same refusal and leaves the same in
 -- every other field
-abbrev pub withGap : ℕ → Machine → Machine
-withGap n m = machineOf (stateOf m) n
+abbrev pub withTrace : Trace → Machine → Machine
+withTrace t m = machineOf (stateOf m) t
 
-pub record CountAside : Type 0 where
-  pub reports : (n : ℕ) (m : Machine) (out : List ℕ) → report (withGap n m) out ≡ report m out
-  pub refusals : (n : ℕ) (mask : List ℕ) (i : Input) (m : Machine) → answerTo mask i (withGap n m) .refusal ≡ answerTo mask i m .refusal
-  pub states : (n : ℕ) (mask : List ℕ) (i : Input) (m : Machine)
-      → stateOf (answerTo mask i (withGap n m) .machine) ≡ stateOf (answerTo mask i m .machine)
+pub record TraceAside : Type 0 where
+  pub reports : (t : Trace) (m : Machine) (out : List ℕ) → report (withTrace t m) out ≡ report m out
+  pub refusals : (t : Trace) (mask : List ℕ) (i : Input) (m : Machine) → answerTo mask i (withTrace t m) .refusal ≡ answerTo mask i m .refusal
+  pub states : (t : Trace) (mask : List ℕ) (i : Input) (m : Machine)
+      → stateOf (answerTo mask i (withTrace t m) .machine) ≡ stateOf (answerTo mask i m .machine)

@@ -5,12 +5,14 @@ use mathlib.Core.List.{List}
 use lib.Dec.{eqb}
 use lib.ListN.{length, getD, drop, replicate}
 use Rattle.isa.specs.Choice.{pick}
+use Rattle.datapath.specs.Memory.{memorySize}
 use Rattle.cpu.specs.State.{address}
 use Rattle.cpu.specs.Range.{nibbles, optionsOk}
 use Rattle.cpu.specs.declared.Cpu.{Cpu}
 use Rattle.cpu.specs.declared.Registers.{Registers}
 use Rattle.cpu.specs.declared.Pins.{Pins}
 use Rattle.cpu.specs.declared.Options.{Options}
+use Rattle.machine.specs.Machine.{noTrace}
 use Rattle.machine.specs.declared.Machine.{Machine}
 use Rattle.machine.specs.declared.Answer.{Answer}
 
@@ -30,20 +32,22 @@ afterRes registers pins options cycles = record {
   cycles = cycles;
 }
 
--- "It keeps ACC, R0-R4, data memory, pins, options and cycle count"; and, document 02, wish 6, the count of strays "since the last power-on"
+-- "It keeps ACC, R0-R4, data memory, pins, options and cycle count"; and, document 02, wish 6, the trace: its count is "since the last power-on"
 abbrev pub reset : Machine → Machine
-reset m = record { cpu = afterRes (m .cpu .registers) (m .cpu .pins) (m .cpu .options) (m .cpu .cycles); memory = m .memory; gap = m .gap }
+reset m = record { cpu = afterRes (m .cpu .registers) (m .cpu .pins) (m .cpu .options) (m .cpu .cycles); memory = m .memory; trace = m .trace }
 
--- the machine that a power-on makes; it counts its strays from 0
+-- "All else is as after RES, ports 15, INT 1, cycle count 0"
+abbrev pub started : Registers → Options → Cpu
+started registers options = afterRes registers (record { pm = 15; ps = 15; pp = 15; int = 1 }) options 0
+
+-- the machine that a power-on makes, with no trace yet
 unfoldable pub powered : Options → List ℕ → Machine
 powered options image = record {
-  cpu = afterRes
+  cpu = started
       (record { acc = getD image 0 0; r0 = getD image 1 0; r1 = getD image 2 0; r2 = getD image 3 0; r3 = getD image 4 0; r4 = getD image 5 0 })
-      (record { pm = 15; ps = 15; pp = 15; int = 1 })
-      options
-      0;
+      options;
   memory = drop 6 image;
-  gap = 0;
+  trace = noTrace;
 }
 
 -- a machine before its first power-on: all 0 but what RES sets. Its commons are out of range, so refusal 5 answers what 1 and 3 do not
@@ -54,8 +58,8 @@ blank = record {
       (record { pm = 0; ps = 0; pp = 0; int = 0 })
       (record { rate = 0; commons = 0; pm = 0; ps = 0; pp = 0 })
       0;
-  memory = replicate 160 0;
-  gap = 0;
+  memory = replicate memorySize 0;
+  trace = noTrace;
 }
 
 -- "2: image .. not 166"; "3: in an image .. nibble .. over 15"; "4: option handed in at power-on, wake nibbles too, outside its list"

@@ -7,20 +7,21 @@ use Rattle.datapath.specs.declared.alu.Sum.{Sum}
 use Rattle.cpu.specs.State.{State, state, address, withAcc, withR1, withPc, withCf, withTf, withCount, withRunning, withEnabled, withHeld}
 use Rattle.cpu.specs.Step.{step}
 use Rattle.cpu.specs.declared.Cpu.{Cpu}
-use Rattle.machine.specs.Power.{afterRes}
+use Rattle.machine.specs.Power.{started}
+use Rattle.datapath.specs.Memory.{memorySize}
+use Rattle.isa.specs.Code.{addresses}
 
 -- a mask of NOPs
 unfoldable pub nops : List ℕ
-nops = replicate 4096 0x3e
+nops = replicate addresses 0x3e
 
 -- a processor after power-on on an image of zeros, at a timer rate
 unfoldable pub atRate : ℕ → Cpu
 atRate rate =
-    afterRes (record { acc = 0; r0 = 0; r1 = 0; r2 = 0; r3 = 0; r4 = 0 }) (record { pm = 15; ps = 15; pp = 15; int = 1 })
-    (record { rate = rate; commons = 4; pm = 0; ps = 0; pp = 0 }) 0
+    started (record { acc = 0; r0 = 0; r1 = 0; r2 = 0; r3 = 0; r4 = 0 }) (record { rate = rate; commons = 4; pm = 0; ps = 0; pp = 0 })
 
 unfoldable pub atAddress : ℕ → State
-atAddress a = state (withPc (address a) (atRate 255)) (replicate 160 0)
+atAddress a = state (withPc (address a) (atRate 255)) (replicate memorySize 0)
 
 -- JZ to 010h, with ACC 0
 unfoldable pub jzAt : ℕ → ℕ
@@ -28,20 +29,20 @@ jzAt a = step (set (set nops a 0xb0) (suc a) 0x10) (atAddress a) .cpu .control .
 
 -- READ R4A at 1FFh with ACC 3 and M(R1,R0) 0; page 1 has 11h at 30h, page 2 has 57h
 unfoldable pub tableRead : State
-tableRead = step (set (set (set nops 0x1ff 0x4c) 0x130 0x11) 0x230 0x57) (state (withPc (address 0x1ff) (withAcc 3 (atRate 255))) (replicate 160 0))
+tableRead = step (set (set (set nops 0x1ff 0x4c) 0x130 0x11) 0x230 0x57) (state (withPc (address 0x1ff) (withAcc 3 (atRate 255))) (replicate memorySize 0))
 
 -- the timer at 254, on rate 2, before two NOPs
 unfoldable pub running : State
-running = state (withCount 254 (withRunning 1 (atRate 2))) (replicate 160 0)
+running = state (withCount 254 (withRunning 1 (atRate 2))) (replicate memorySize 0)
 
 -- level 0, enabled, an edge held and TF set, the timer stopped
 unfoldable pub both : State
-both = step nops (state (withEnabled 1 (withHeld 1 (withTf 1 (atRate 2)))) (replicate 160 0))
+both = step nops (state (withEnabled 1 (withHeld 1 (withTf 1 (atRate 2)))) (replicate memorySize 0))
 
 -- ACC and CF after the code a b at address 0, with every nibble of the data memory n
 unfoldable pub afterCode : ℕ → ℕ → ℕ → Cpu → Sum
 afterCode a b n c =
-    let s = step (set (set nops 0 a) 1 b) (state c (replicate 160 n)) in
+    let s = step (set (set nops 0 a) 1 b) (state c (replicate memorySize n)) in
     record { value = s .cpu .registers .acc; carry = s .cpu .control .cf }
 
 -- a processor with ACC and CF

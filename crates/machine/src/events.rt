@@ -4,8 +4,10 @@ ghost use Prim.Native.Nat.{ℕ};
 ghost use lib.ListN.{length};
 ghost use mathlib.Core.Bool.{true};
 ghost use mathlib.Core.List.{[], List};
+ghost use Rattle.datapath.specs.Memory.{memorySize};
 ghost use Rattle.cpu.specs.State.{state};
-ghost use Rattle.machine.specs.Machine.{machineOf};
+ghost use Rattle.machine.specs.Machine.{machineOf, traceOf};
+ghost use Rattle.machine.specs.declared.Trace.{Trace};
 ghost use Rattle.machine.specs.Events.{applied, clocked, counting, eventOf, fallen, happened, interrupted, maskOk, namedAnswer, pinned, refusalOf, stepping, valuesOk, wakes, withInt, withPorts, woken};
 use crate::Answer;
 use crate::Machine;
@@ -13,7 +15,9 @@ use crate::power::reset_cpu;
 use crate::ranges::both;
 use crate::ranges::sound;
 use cpu::Cpu;
+use datapath::memory::MEMORY;
 use datapath::timer::advance;
+use rom::reader::mask_ok;
 
 // Kinds 2 to 6 of document 01's records.
 pub enum Event {
@@ -151,12 +155,12 @@ pub fn values_ok(event: Event) -> bool
     }
 }
 
-// The refusal of a Run, 0 for none: the lowest number wins. It does not look at the count of strays.
-fn run_refusal(cpu: Cpu, memory: &[u8; 160], mask: &[u8]) -> u8
-    requires { ⌜ length (now memory) ≡ 160 ⌝ }
-    ensures { λ r. ⌜ ((n count : ℕ) → r ≡ refusalOf (now (mask .entry)) (Event.Run n) (machineOf (state cpu (now (memory .entry))) count)) ⌝ }
+// The refusal of a Run, 0 for none: the lowest number wins. It does not look at the trace.
+fn run_refusal(cpu: Cpu, memory: &[u8; MEMORY], mask: &[u8]) -> u8
+    requires { ⌜ length (now memory) ≡ memorySize ⌝ }
+    ensures { λ r. ⌜ ((n : ℕ) (trace : Trace) → r ≡ refusalOf (now (mask .entry)) (Event.Run n) (machineOf (state cpu (now (memory .entry))) trace)) ⌝ }
 {
-    if mask.len() == 4096 {
+    if mask_ok(mask) {
         if sound(cpu, memory) {
             return 0;
         }
@@ -166,9 +170,9 @@ fn run_refusal(cpu: Cpu, memory: &[u8; 160], mask: &[u8]) -> u8
 }
 
 // The refusal of an event whose mask is as it should be: Run alone has one.
-fn refusal(cpu: Cpu, memory: &[u8; 160], event: Event) -> u8
-    requires { ⌜ length (now memory) ≡ 160 ⌝ }
-    ensures { λ r. ⌜ ((mask : List ℕ) (count : ℕ) → maskOk mask event ≡ true → r ≡ refusalOf mask event (machineOf (state cpu (now (memory .entry))) count)) ⌝ }
+fn refusal(cpu: Cpu, memory: &[u8; MEMORY], event: Event) -> u8
+    requires { ⌜ length (now memory) ≡ memorySize ⌝ }
+    ensures { λ r. ⌜ ((mask : List ℕ) (trace : Trace) → maskOk mask event ≡ true → r ≡ refusalOf mask event (machineOf (state cpu (now (memory .entry))) trace)) ⌝ }
 {
     if values_ok(event) {
         if sound(cpu, memory) {
@@ -179,28 +183,33 @@ fn refusal(cpu: Cpu, memory: &[u8; 160], event: Event) -> u8
     3
 }
 
-// What an event makes of the processor, and of the data memory and the count of strays where they are lent.
-pub fn happened(cpu: Cpu, event: Event, mask: &[u8], memory: &mut [u8; 160], gap: &mut u16) -> Cpu
-    ensures { λ r. ⌜ machineOf (state r (now (memory .exit))) (now (gap .exit)) ≡ happened (now (mask .entry)) event (machineOf (state cpu (now (memory .entry))) (now (gap .entry))) ⌝ }
-{
-    match event {
-        Event::Run(n) => cpu.run(mask, memory, n, gap),
-        Event::Pins(pm, ps, pp) => pinned(cpu, pm, ps, pp),
-        Event::Int(level) => interrupted(cpu, level),
-        Event::Tmclk(n) => counting(cpu, n),
-        Event::Res => reset_cpu(cpu),
-    }
-}
-
-// What pins, INT and TMCLK make of the processor, all that they change.
+// What pins, INT and TMCLK make of the processor, all that they change. An arm for RES here would cost each step of a Run two instructions
+// (docs/PERFORMANCE.md).
 fn changed(cpu: Cpu, event: Event) -> Cpu
-    ensures { λ r. ⌜ ((mask memory : List ℕ) (gap : ℕ) → ((n : ℕ) → event ≡ Event.Run n → ⊥) → (event ≡ Event.Res → ⊥) → machineOf (state r memory) gap ≡ happened mask event (machineOf (state cpu memory) gap)) ⌝ }
+    ensures { λ r. ⌜ ((mask memory : List ℕ) (trace : Trace) → ((n : ℕ) → event ≡ Event.Run n → ⊥) → (event ≡ Event.Res → ⊥) → machineOf (state r memory) trace ≡ happened mask event (machineOf (state cpu memory) trace)) ⌝ }
 {
     match event {
         Event::Pins(pm, ps, pp) => pinned(cpu, pm, ps, pp),
         Event::Int(level) => interrupted(cpu, level),
         Event::Tmclk(n) => counting(cpu, n),
         _ => cpu,
+    }
+}
+
+// What an event makes of the processor, and of the data memory and the trace's fields where they are lent.
+pub fn happened(
+    cpu: Cpu,
+    event: Event,
+    mask: &[u8],
+    memory: &mut [u8; MEMORY],
+    gap: &mut u16,
+) -> Cpu
+    ensures { λ r. ⌜ machineOf (state r (now (memory .exit))) (traceOf (now (gap .exit))) ≡ happened (now (mask .entry)) event (machineOf (state cpu (now (memory .entry))) (traceOf (now (gap .entry)))) ⌝ }
+{
+    match event {
+        Event::Run(n) => cpu.run(mask, memory, n, gap),
+        Event::Res => reset_cpu(cpu),
+        _ => changed(cpu, event),
     }
 }
 
@@ -217,12 +226,12 @@ impl Machine {
                 machine: self,
             };
         }
-        let mut gap = self.gap;
-        let cpu = self.cpu.run(mask, &mut self.memory, n, &mut gap);
+        let mut trace = self.trace;
+        let cpu = self.cpu.run(mask, &mut self.memory, n, &mut trace.gap);
         let memory = self.memory;
         Answer {
             refusal: 0,
-            machine: Machine { cpu, memory, gap },
+            machine: Machine { cpu, memory, trace },
         }
     }
 
@@ -293,10 +302,10 @@ impl Machine {
                 machine: self,
             };
         }
-        let mut count = self.gap;
-        let next = self.cpu.step(mask, &mut self.memory, &mut count);
+        let mut trace = self.trace;
+        let next = self.cpu.step(mask, &mut self.memory, &mut trace.gap);
         self.cpu = next;
-        self.gap = count;
+        self.trace = trace;
         Answer {
             refusal: 0,
             machine: self,

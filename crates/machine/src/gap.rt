@@ -17,7 +17,7 @@ impl Machine {
     {
         if sound(self.cpu, &self.memory) {
             return GapCount {
-                count: self.gap,
+                count: self.trace.gap,
                 refusal: 0,
             };
         }

@@ -3,11 +3,12 @@ ghost use mathlib.Core.Path.{_≡_};
 ghost use lib.ListN.{drop, length, replicate};
 ghost use Prim.Native.Nat.{_≤_};
 ghost use Rattle.cpu.specs.State.{state};
-ghost use Rattle.machine.specs.Machine.{machineOf};
-ghost use Rattle.machine.specs.Power.{afterRes, blank, powerOn, powerRefusal, powered};
+ghost use Rattle.machine.specs.Machine.{machineOf, noTrace, traceOf};
+ghost use Rattle.machine.specs.Power.{afterRes, blank, powerOn, powerRefusal, powered, started};
 ghost use Rattle.machine.specs.Events.{resetting};
 use crate::Answer;
 use crate::Machine;
+use crate::Trace;
 use crate::ranges::all_nibbles;
 use crate::ranges::options_ok;
 use crate::ranges::sound;
@@ -21,6 +22,7 @@ use cpu::Registers;
 use cpu::Stack;
 use cpu::Status;
 use cpu::Timer;
+use datapath::memory::MEMORY;
 use isa::ProgramAddress;
 
 // The refusal of a power-on, 0 for none.
@@ -40,13 +42,13 @@ fn power_refusal(options: Options, image: &[u8]) -> u8
 }
 
 // The data memory of an image: all after ACC and R0-R4.
-fn image_memory(image: &[u8]) -> [u8; 160]
+fn image_memory(image: &[u8]) -> [u8; MEMORY]
     requires { ⌜ length (now image) ≡ 166 ⌝ }
     ensures { λ r. ⌜ r ≡ drop 6 (now (image .entry)) ⌝ }
 {
-    let mut memory = [0u8; 160];
+    let mut memory = [0u8; MEMORY];
     let mut i = 0;
-    while i < 160 {
+    while i < MEMORY {
         memory[i] = image[i + 6];
         i += 1;
     }
@@ -99,10 +101,30 @@ pub(crate) fn reset_cpu(cpu: Cpu) -> Cpu
     after_res(cpu.registers, cpu.pins, cpu.options, cpu.cycles)
 }
 
+// The processor that a power-on makes of its registers and options.
+fn started(registers: Registers, options: Options) -> Cpu
+    ensures { λ r. ⌜ r ≡ started registers options ⌝ }
+{
+    let pins = Pins {
+        pm: 15,
+        ps: 15,
+        pp: 15,
+        int: 1,
+    };
+    after_res(registers, pins, options, 0)
+}
+
+// Nothing is left behind yet.
+fn no_trace() -> Trace
+    ensures { λ r. ⌜ r ≡ noTrace ⌝ }
+{
+    Trace { gap: 0 }
+}
+
 // The processor that a power-on makes of options and an image, which fills the data memory that is lent.
-fn powered(options: Options, image: &[u8], memory: &mut [u8; 160]) -> Cpu
+fn powered(options: Options, image: &[u8], memory: &mut [u8; MEMORY]) -> Cpu
     requires { ⌜ length (now image) ≡ 166 ⌝ }
-    ensures { λ r. ⌜ machineOf (state r (now (memory .exit))) 0 ≡ powered options (now (image .entry)) ⌝ }
+    ensures { λ r. ⌜ machineOf (state r (now (memory .exit))) noTrace ≡ powered options (now (image .entry)) ⌝ }
 {
     let all = image_memory(image);
     *memory = all;
@@ -114,22 +136,17 @@ fn powered(options: Options, image: &[u8], memory: &mut [u8; 160]) -> Cpu
         r3: image[4],
         r4: image[5],
     };
-    let pins = Pins {
-        pm: 15,
-        ps: 15,
-        pp: 15,
-        int: 1,
-    };
-    after_res(registers, pins, options, 0)
+    started(registers, options)
 }
 
-// The machine that a power-on makes of options and one nibble that fills the image, where data memory and count are lent.
-pub fn filled(options: Options, x: u8, memory: &mut [u8; 160], gap: &mut u16) -> Cpu
-    ensures { λ r. ⌜ machineOf (state r (now (memory .exit))) (now (gap .exit)) ≡ powered options (replicate 166 x) ⌝ }
+// The machine that a power-on makes of options and one nibble that fills the image, where data memory and the trace's fields are lent.
+pub fn filled(options: Options, x: u8, memory: &mut [u8; MEMORY], gap: &mut u16) -> Cpu
+    ensures { λ r. ⌜ machineOf (state r (now (memory .exit))) (traceOf (now (gap .exit))) ≡ powered options (replicate 166 x) ⌝ }
 {
-    let all = [x; 160];
+    let all = [x; MEMORY];
     *memory = all;
-    *gap = 0;
+    let none = no_trace();
+    *gap = none.gap;
     let registers = Registers {
         acc: x,
         r0: x,
@@ -138,13 +155,7 @@ pub fn filled(options: Options, x: u8, memory: &mut [u8; 160], gap: &mut u16) ->
         r3: x,
         r4: x,
     };
-    let pins = Pins {
-        pm: 15,
-        ps: 15,
-        pp: 15,
-        int: 1,
-    };
-    after_res(registers, pins, options, 0)
+    started(registers, options)
 }
 
 impl Machine {
@@ -176,8 +187,8 @@ impl Machine {
         let cpu = after_res(registers, pins, options, 0);
         Machine {
             cpu,
-            memory: [0; 160],
-            gap: 0,
+            memory: [0; MEMORY],
+            trace: no_trace(),
         }
     }
 
@@ -194,7 +205,7 @@ impl Machine {
         }
         let next = powered(options, image, &mut self.memory);
         self.cpu = next;
-        self.gap = 0;
+        self.trace = no_trace();
         Answer {
             refusal: 0,
             machine: self,

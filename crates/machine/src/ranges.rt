@@ -3,10 +3,14 @@ ghost use mathlib.Core.Path.{_≡_};
 ghost use mathlib.Core.Bool.{not, _&&_, _||_};
 ghost use lib.Dec.{eqb, ltb};
 ghost use lib.ListN.{length};
+ghost use Rattle.isa.specs.Code.{addresses};
+ghost use Rattle.datapath.specs.Memory.{memorySize};
 ghost use Rattle.cpu.specs.Range.{bit, cpuOk, nibble, nibbles, optionsOk, registersOk, valid};
 ghost use Rattle.cpu.specs.State.{state};
 use cpu::Cpu;
 use cpu::Options;
+use datapath::memory::MEMORY;
+use isa::ADDRESSES;
 
 // The larger of two numbers: a nibble where both are.
 fn larger(a: u8, b: u8) -> u8
@@ -120,10 +124,10 @@ fn flags_ok(c: Cpu) -> bool
 
 // PC and the stack address: one test for both.
 fn addresses_ok(pc: u16, address: u16) -> bool
-    ensures { λ b. ⌜ b ≡ ltb pc 4096 && ltb address 4096 ⌝ }
+    ensures { λ b. ⌜ b ≡ ltb pc addresses && ltb address addresses ⌝ }
 {
     let all = pc | address;
-    all < 4096
+    all < ADDRESSES
 }
 
 // The rate and the commons, each of a list of its own.
@@ -174,8 +178,8 @@ fn cpu_ok(c: Cpu) -> bool
 }
 
 // Whether a machine is in range, from its two parts: the memory is lent, not copied. Refusal 5 is the answer where this is false.
-pub(crate) fn sound(cpu: Cpu, memory: &[u8; 160]) -> bool
-    requires { ⌜ length (now memory) ≡ 160 ⌝ }
+pub(crate) fn sound(cpu: Cpu, memory: &[u8; MEMORY]) -> bool
+    requires { ⌜ length (now memory) ≡ memorySize ⌝ }
     ensures { λ b. ⌜ b ≡ valid (state cpu (now (memory .entry))) ⌝ }
 {
     both(cpu_ok(cpu), all_nibbles(memory))

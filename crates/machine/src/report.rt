@@ -8,10 +8,12 @@ ghost use lib.ListN.{length, take};
 ghost use Rattle.isa.specs.Choice.{pick};
 ghost use Rattle.cpu.specs.State.{state};
 ghost use Rattle.machine.specs.Machine.{machineOf};
+ghost use Rattle.machine.specs.declared.Trace.{Trace};
 ghost use Rattle.machine.specs.Report.{heading, places, report, reported, reporting, shown};
 use crate::Machine;
 use crate::ranges::sound;
 use cpu::Cpu;
+use datapath::memory::MEMORY;
 use datapath::memory::load;
 use isa::DataAddress;
 
@@ -54,7 +56,7 @@ fn heading(cpu: Cpu) -> [u8; 16]
     ]
 }
 
-// Writes them. No byte of a report tells the count of strays.
+// Writes them. No byte of a report tells of the trace.
 fn put_heading(cpu: Cpu, out: &mut [u8])
     requires { ⌜ length (now out) ≡ 48 ⌝ }
     ensures { λ _. ⌜ take 16 (now (out .exit)) ≡ heading cpu ⌝ }
@@ -68,7 +70,7 @@ fn put_heading(cpu: Cpu, out: &mut [u8])
 }
 
 // Writes the 32 display nibbles after them: nibble `s` is the one at E0h + s. What shows is the same bits of each, so the loop takes many at once.
-fn put_display(cpu: Cpu, memory: &[u8; 160], out: &mut [u8])
+fn put_display(cpu: Cpu, memory: &[u8; MEMORY], out: &mut [u8])
     requires { ⌜ length (now out) ≡ 48 ⌝ }
     ensures { λ _. ⌜ now (out .exit) ≡ take 16 (now (out .entry)) ++ places 32 (shown cpu (now (memory .entry))) 0 ⌝ }
 {
@@ -82,8 +84,8 @@ fn put_display(cpu: Cpu, memory: &[u8; 160], out: &mut [u8])
 }
 
 // Writes the 48 bytes of a report. A buffer of another length stays as it is.
-pub fn write_report(cpu: Cpu, memory: &[u8; 160], out: &mut [u8])
-    ensures { λ _. ⌜ ((count : ℕ) → now (out .exit) ≡ pick (eqb (length (now (out .entry))) 48) (reported (machineOf (state cpu (now (memory .entry))) count)) (now (out .entry))) ⌝ }
+pub fn write_report(cpu: Cpu, memory: &[u8; MEMORY], out: &mut [u8])
+    ensures { λ _. ⌜ ((trace : Trace) → now (out .exit) ≡ pick (eqb (length (now (out .entry))) 48) (reported (machineOf (state cpu (now (memory .entry))) trace)) (now (out .entry))) ⌝ }
 {
     if out.len() == 48 {
         put_heading(cpu, out);

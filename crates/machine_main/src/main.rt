@@ -10,12 +10,14 @@
 mod input;
 mod text;
 
+use datapath::memory::MEMORY;
 use input::byte;
 use input::options;
 use input::word;
 use machine::Answer;
 use machine::Machine;
 use machine::events::Event;
+use rom::reader::MASK;
 use text::put;
 use text::put_answer;
 use text::put_count;
@@ -34,8 +36,8 @@ fn power_on(fd: i32, machine: Machine) -> Answer {
 fn run(fd: i32, machine: Machine, mask: &[u8]) -> Answer {
     let steps = word(fd);
     let length = word(fd);
-    if 4096 < length {
-        let long = [0u8; 4097];
+    if MASK < length as usize {
+        let long = [0u8; MASK + 1];
         return machine.apply(Event::Run(steps), &long);
     }
     let n = io::count(length as isize, mask);
@@ -58,7 +60,7 @@ fn set_cpu(fd: i32, mut machine: Machine) -> Machine {
 fn set_nibble(fd: i32, mut machine: Machine) -> Machine {
     let index = byte(fd) as usize;
     let value = byte(fd);
-    if index < 160 {
+    if index < MEMORY {
         machine.memory[index] = value;
     }
     machine
@@ -66,7 +68,7 @@ fn set_nibble(fd: i32, mut machine: Machine) -> Machine {
 
 fn set_gap(fd: i32, mut machine: Machine) -> Machine {
     let gap = word(fd);
-    machine.gap = gap;
+    machine.trace.gap = gap;
     machine
 }
 

@@ -14,6 +14,7 @@ use cpu::Registers;
 use cpu::Stack;
 use cpu::Status;
 use cpu::Timer;
+use datapath::memory::MEMORY;
 use machine::Answer;
 use machine::gap::GapCount;
 
@@ -136,10 +137,10 @@ fn put_cpu(c: Cpu) {
 }
 
 // The last digit of each number.
-fn put_digits(memory: &[u8; 160]) {
-    let mut text = [0u8; 160];
+fn put_digits(memory: &[u8; MEMORY]) {
+    let mut text = [0u8; MEMORY];
     let mut i = 0;
-    while i < 160 {
+    while i < MEMORY {
         text[i] = digit(memory[i]);
         i += 1;
     }
@@ -148,17 +149,17 @@ fn put_digits(memory: &[u8; 160]) {
 }
 
 // The first digit of each number.
-fn high_digits(memory: &[u8; 160]) -> [u8; 160] {
-    let mut high = [0u8; 160];
+fn high_digits(memory: &[u8; MEMORY]) -> [u8; MEMORY] {
+    let mut high = [0u8; MEMORY];
     let mut i = 0;
-    while i < 160 {
+    while i < MEMORY {
         high[i] = memory[i] / 16;
         i += 1;
     }
     high
 }
 
-fn put_memory(memory: &[u8; 160]) {
+fn put_memory(memory: &[u8; MEMORY]) {
     put_digits(memory);
     if !machine::ranges::all_nibbles(memory) {
         let high = high_digits(memory);
@@ -172,7 +173,7 @@ pub fn put_answer(answer: Answer) {
     put_small(answer.refusal);
     put_cpu(machine.cpu);
     put(b" ");
-    put_word(machine.gap);
+    put_word(machine.trace.gap);
     put_memory(&memory);
     put(b"\n");
 }

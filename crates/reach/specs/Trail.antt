@@ -1,4 +1,4 @@
--- What the walk remembers, and the way back, as the private functions state it, over any successor function on codes. `starts` has for each
+-- What the walk remembers, and the way back, as a checker's private functions state it, over any successor function on codes. `starts` has for each
 -- place of the queue how many codes were found when its turn came. No promise of an exported function cites it. Assumes nothing.
 use Prim.Native.Nat.{ℕ, suc, _<_, _≤_}
 use mathlib.Core.Path.{_≡_}

@@ -1,4 +1,4 @@
--- The walk, as the private functions state it, over any successor function on codes and any number n of them: the codes found so far with
+-- The walk, as a checker's private functions state it, over any successor function on codes and any number n of them: the codes found so far with
 -- their queue, what a walk that is over has found, and the lowest of it that is forbidden, by any faults of codes. No promise of an exported
 -- function cites it. Assumes nothing.
 use Prim.Native.Nat.{ℕ, zero, suc, _+_, _<_, _≤_}

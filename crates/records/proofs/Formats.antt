@@ -26,7 +26,7 @@ module _ (size : Size) (s : List ℕ) (at : ℕ) where
 -- a record that is not cut off, of a known kind and of its length
 pub record Whole (size : Size) (s : List ℕ) (at : ℕ) : Type 0 where
   pub inside : at + 4 + sizeAt s at ≤ length s
-  pub sized : size ≡ Of (sizeAt s at)
+  pub right-size : size ≡ Of (sizeAt s at)
 
 -- a size is one number, or no kind's
 pub same-size : {m n : ℕ} → Of m ≡ Of n → m ≡ n
@@ -58,7 +58,7 @@ whole size s at e = go (cutOff s at) refl e
     go true p e = absurd (omega arith)
     go false p e = record {
       inside = ltb-false (length s) (at + 4 + sizeAt s at) p;
-      sized = right size (sizeAt s at) e;
+      right-size = right size (sizeAt s at) e;
     }
 
 -- no other numbers

@@ -1,5 +1,5 @@
--- Records, over a list of bytes. Document 01: "Script records are little-endian: two-byte payload length, two-byte kind, payload". Which kinds there are,
--- and the payload length of each, is whose records they are. Past the end every byte reads as 0. Assumes nothing.
+-- Records, over a list of bytes. Document 01: "Script records are little-endian: two-byte payload length, two-byte kind, payload". Which kinds there
+-- are, and the payload length of each, is whose records they are. Past the end every byte reads as 0. Assumes nothing.
 use Prim.Native.Nat.{ℕ, zero, suc, _+_, _*_, _%_, _/_}
 use mathlib.Core.Bool.{Bool}
 use mathlib.Core.List.{List, [], _∷_}
@@ -23,9 +23,13 @@ kindAt s at = wordAt s (at + 2)
 abbrev pub payloadAt : List ℕ → ℕ → ℕ → ℕ
 payloadAt s at k = getD s (at + 4 + k) 0
 
+-- where it ends
+abbrev pub endAt : List ℕ → ℕ → ℕ
+endAt s at = at + 4 + sizeAt s at
+
 -- "record cut off": its 4 bytes of length and kind, or its payload, run past the end
 abbrev pub cutOff : List ℕ → ℕ → Bool
-cutOff s at = ltb (length s) (at + 4 + sizeAt s at)
+cutOff s at = ltb (length s) (endAt s at)
 
 -- "6: .. payload length wrong", "7: unknown kind": what the kind says of the payload, and the length that the record has
 abbrev pub sizeRefusal : Size → ℕ → ℕ
@@ -39,7 +43,7 @@ formatBy size s at = pick (cutOff s at) 6 (sizeRefusal size (sizeAt s at))
 -- where records start, from an offset on: each where the one before ends. n bounds their number
 unfoldable pub within : ℕ → List ℕ → ℕ → List ℕ
 within zero s at = []
-within (suc n) s at = pick (ltb at (length s)) (at ∷ within n s (at + 4 + sizeAt s at)) []
+within (suc n) s at = pick (ltb at (length s)) (at ∷ within n s (endAt s at)) []
 
 -- there are fewer records than bytes
 unfoldable pub offsetsFrom : List ℕ → ℕ → List ℕ

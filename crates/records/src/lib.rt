@@ -10,7 +10,7 @@ pub enum Size {
     UnknownKind,
 }
 
-pub fn byte(s: &[u8], i: usize) -> u8
+fn byte(s: &[u8], i: usize) -> u8
     ensures { λ r. ⌜ r ≡ getD (now (s .entry)) i 0 ⌝ }
 {
     if i < s.len() {
@@ -20,7 +20,7 @@ pub fn byte(s: &[u8], i: usize) -> u8
 }
 
 // A little-endian number of two bytes.
-pub fn word(s: &[u8], i: usize) -> u16
+fn word(s: &[u8], i: usize) -> u16
     ensures { λ r. ⌜ r ≡ wordAt (now (s .entry)) i ⌝ }
 {
     if s.len() <= i {

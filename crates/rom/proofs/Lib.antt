@@ -1,3 +1,4 @@
 pub mod Columns
+pub mod Fetching
 pub mod RoundTrip
 pub mod Rule

@@ -4,8 +4,10 @@ ghost use mathlib.Core.List.{[], _∷_};
 ghost use Prim.Native.Nat.{_+_, _*_, _/_, _%_};
 ghost use lib.Dec.{ltb};
 ghost use mathlib.Core.Bool.{_&&_};
-ghost use Prim.Native.Nat.{_<_};
+ghost use Prim.Native.Nat.{_<_, _≤_};
+ghost use Rattle.isa.specs.Code.{addresses};
 ghost use Rattle.rom.specs.Writing.{answerOf, fitting, writing};
+use isa::ADDRESSES;
 use isa::Condition;
 use isa::Instruction;
 use isa::Page;
@@ -70,7 +72,7 @@ fn with_nibbles(code: u8, low: u8, high: u8) -> Written
 
 // An address below limit, its high part in the first byte.
 fn with_address(code: u8, limit: u16, target: ProgramAddress) -> Written
-    requires { ⌜ (code < 241) × (limit < 4097) ⌝ }
+    requires { ⌜ (code < 241) × (limit ≤ addresses) ⌝ }
     ensures { λ r. ⌜ answerOf r ≡ fitting (ltb (target .0) limit) ((code + target .0 / 256) ∷ (target .0 % 256) ∷ []) ⌝ }
 {
     let at = target.0;
@@ -162,9 +164,9 @@ pub fn encode(instruction: Instruction) -> Written
             Port::Pp => Written::One(0x34),
         },
         Instruction::OutPaA => Written::One(0x30),
-        Instruction::Jmp(t) => with_address(0xe0, 4096, t),
+        Instruction::Jmp(t) => with_address(0xe0, ADDRESSES, t),
         Instruction::Branch(t, k) => with_condition(k, t),
-        Instruction::Call(t) => with_address(0xf0, 4096, t),
+        Instruction::Call(t) => with_address(0xf0, ADDRESSES, t),
         Instruction::Ret => Written::One(0x2e),
         Instruction::Reti => Written::One(0x2f),
         Instruction::Clc => Written::One(0x2a),

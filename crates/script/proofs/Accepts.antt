@@ -10,7 +10,7 @@ use lib.ListN.{length}
 use borrow.Author.Tests.{eq-eqb, eqb-true, eqb-false}
 use Rattle.isa.specs.Choice.{pick}
 use Rattle.cpu.specs.Range.{nibbles, optionsOk, valid}
-use Rattle.rom.specs.Fetching.{Bytes}
+use Rattle.rom.specs.Fetching.{Bytes, sized}
 use Rattle.machine.specs.Machine.{stateOf}
 use Rattle.machine.specs.Power.{blank, powered, powerRefusal, powerOn}
 use Rattle.machine.specs.Events.{Input, power, named, eventOf, maskOk, valuesOk, refusalOf, applied, answerTo}
@@ -95,9 +95,9 @@ pub data Taken (mask : List ℕ) : List Input → Machine → Type 0 where
   more : {m : Machine} (i : Input) {is : List Input} → answerTo mask i m .refusal ≡ 0 → Taken mask is (next mask i m) → Taken mask (i ∷ is) m
 
 -- with a mask of its length every event has the mask that it wants
-masked : (mask : List ℕ) → length mask ≡ 4096 → (e : Event) → maskOk mask e ≡ true
+masked : (mask : List ℕ) → sized mask ≡ true → (e : Event) → maskOk mask e ≡ true
 unfolding maskOk
-masked mask l (Run n) = eq-eqb (length mask) 4096 l
+masked mask l (Run n) = l
 masked mask l (Pins pm ps pp) = refl
 masked mask l (Int level) = refl
 masked mask l (Tmclk n) = refl
@@ -108,27 +108,27 @@ fine true e = refl
 fine false e = absurd (omega arith)
 
 -- an event whose values pass the check is refused by nothing
-event-accepted : (mask : List ℕ) → length mask ≡ 4096 → (e : Event) (m : Machine) → valueOf (named (Known e)) ≡ 0 → valid (stateOf m) ≡ true → applied mask e m .refusal ≡ 0
+event-accepted : (mask : List ℕ) → sized mask ≡ true → (e : Event) (m : Machine) → valueOf (named (Known e)) ≡ 0 → valid (stateOf m) ≡ true → applied mask e m .refusal ≡ 0
 unfolding valueOf applied refusalOf
 event-accepted mask l e m v w = rw (masked mask l e, fine (valuesOk e) v, w) refl
 
 -- what a record's check has shown of its input: the image of a power-on has its 166 nibbles, and another kind is known
-abbrev Sized : Input → Type 0
-Sized (power o image) = length image ≡ 166
-Sized (named (Known e)) = Unit {0}
-Sized (named Unknown) = ⊥
+abbrev Formed : Input → Type 0
+Formed (power o image) = length image ≡ 166
+Formed (named (Known e)) = Unit {0}
+Formed (named Unknown) = ⊥
 
-sized-at : (s : List ℕ) (at : ℕ) → formatAt s at ≡ 0 → Sized (inputAt s at)
+formed-at : (s : List ℕ) (at : ℕ) → formatAt s at ≡ 0 → Formed (inputAt s at)
 unfolding formatAt inputAt
-sized-at s at f = go (eqb (kindAt s at) 1) (eventOf _ _ _ _ _) (whole (sizeOf (inputAt s at)) s at f .sized)
+formed-at s at f = go (eqb (kindAt s at) 1) (eventOf _ _ _ _ _) (whole (sizeOf (inputAt s at)) s at f .right-size)
   where
     go : (t : Bool) (n : Named) {m : ℕ} → sizeOf (pick t (power (optionsAt s at) (filled (payloadAt s at 5))) (named n)) ≡ Of m
-        → Sized (pick t (power (optionsAt s at) (filled (payloadAt s at 5))) (named n))
+        → Formed (pick t (power (optionsAt s at) (filled (payloadAt s at 5))) (named n))
     go true n e = refl
     go false (Known e) q = tt
     go false Unknown q = absurd (unknown-size q)
 
-input-accepted : (mask : List ℕ) → length mask ≡ 4096 → (i : Input) (m : Machine) → Sized i → valueOf i ≡ 0 → choiceOf i ≡ 0
+input-accepted : (mask : List ℕ) → sized mask ≡ true → (i : Input) (m : Machine) → Formed i → valueOf i ≡ 0 → choiceOf i ≡ 0
     → valid (stateOf m) ≡ true → answerTo mask i m .refusal ≡ 0
 unfolding powerOn
 input-accepted mask l (power o image) m z v k w = power-accepted o image z v k
@@ -143,13 +143,13 @@ module _ (mask s : List ℕ) (b : Bytes mask) where
       → first (ruled Values s) (offsetsFrom s at) .number ≡ 0 → first (ruled Choices s) (offsetsFrom s at) .number ≡ 0
       → Taken mask (map (inputAt s) l) m
 
-  rest-taken : length mask ≡ 4096 → (at : ℕ) → Rest at (offsetsFrom s at)
+  rest-taken : sized mask ≡ true → (at : ℕ) → Rest at (offsetsFrom s at)
   rest-taken l =
       each s Rest
       (λ at h m v f p q. none)
       (λ at h back m v f p q.
       more (inputAt s at)
-      (input-accepted mask l (inputAt s at) m (sized-at s at (good-here (ruled Format s) s at h f)) (good-here (ruled Values s) s at h p) (good-here (ruled Choices s) s at h q) v)
+      (input-accepted mask l (inputAt s at) m (formed-at s at (good-here (ruled Format s) s at h f)) (good-here (ruled Values s) s at h p) (good-here (ruled Choices s) s at h q) v)
       (back (next mask (inputAt s at) m) (input-valid mask b (inputAt s at) m v) (good-after (ruled Format s) s at h f) (good-after (ruled Values s) s at h p) (good-after (ruled Choices s) s at h q)))
 
   -- no record of an accepted script is refused

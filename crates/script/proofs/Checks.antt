@@ -8,6 +8,7 @@ use mathlib.Core.List.{List}
 use lib.Dec.{leb, eqb}
 use lib.ListN.{length}
 use borrow.Author.Tests.{eq-eqb, ne-eqb, le-leb, lt-leb, eqb-true, eqb-false, leb-true}
+use Rattle.rom.specs.Fetching.{sized}
 use Rattle.isa.specs.Choice.{pick}
 use Rattle.records.specs.Records.{sizeAt, kindAt, offsetsFrom, offsets}
 use Rattle.script.specs.Check.{refused, fine, unless, firstRefused, first, ruled, checked}
@@ -58,13 +59,13 @@ module _ (mask s : List ℕ) (room : ℕ) where
   abbrev pub after1 : Checked
   after1 = firstRefused (unless (leb (length s) 65535) 6) after6
 
-  pub stop1 : (length mask ≡ 4096 → ⊥) → checked mask s room ≡ refused 1 0
+  pub stop1 : sized mask ≡ false → checked mask s room ≡ refused 1 0
   unfolding checked
-  stop1 h = rw (ne-eqb (length mask) 4096 h) refl
+  stop1 h = rw h refl
 
-  pub pass1 : length mask ≡ 4096 → checked mask s room ≡ after1
+  pub pass1 : sized mask ≡ true → checked mask s room ≡ after1
   unfolding checked
-  pass1 h = rw (eq-eqb (length mask) 4096 h) refl
+  pass1 h = rw h refl
 
   pub stop6 : 65535 < length s → after1 ≡ refused 6 0
   stop6 h = rw (lt-leb (length s) 65535 h) refl
@@ -104,7 +105,7 @@ module _ (mask s : List ℕ) (room : ℕ) where
 
 -- ---- a script that is not refused
 pub record Accepted (mask s : List ℕ) (room : ℕ) : Type 0 where
-  pub mask-size : length mask ≡ 4096
+  pub mask-size : sized mask ≡ true
   pub script-size : length s ≤ 65535
   pub format : first (ruled Format s) (offsets s) .number ≡ 0
   pub start : kindAt s 0 ≡ 1
@@ -126,14 +127,14 @@ met false n z h = absurd (z h)
 pub accepted : (mask s : List ℕ) (room : ℕ) → checked mask s room .number ≡ 0 → Accepted mask s room
 unfolding checked
 accepted mask s room e =
-    let p1 = both (unless (eqb (length mask) 4096) 1) (after1 mask s room) e in
+    let p1 = both (unless (sized mask) 1) (after1 mask s room) e in
     let p6 = both (unless (leb (length s) 65535) 6) (after6 mask s room) (p1 .1) in
     let p7 = both (first (ruled Format s) (offsets s)) (after7 mask s room) (p6 .1) in
     let p8 = both (unless (eqb (kindAt s 0) 1) 8) (after8 mask s room) (p7 .1) in
     let p3 = both (first (ruled Values s) (offsets s)) (after3 mask s room) (p8 .1) in
     let p4 = both (first (ruled Choices s) (offsets s)) (after4 mask s room) (p3 .1) in
     record {
-      mask-size = eqb-true (length mask) 4096 (met _ 1 (λ z. omega arith) (p1 .0));
+      mask-size = met _ 1 (λ z. omega arith) (p1 .0);
       script-size = leb-true (length s) 65535 (met _ 6 (λ z. omega arith) (p6 .0));
       format = p7 .0;
       start = eqb-true (kindAt s 0) 1 (met _ 8 (λ z. omega arith) (p8 .0));

@@ -65,38 +65,38 @@ module _ (s : List ℕ) (at : ℕ) where
         ) refl
 
     -- where a size is the record's, what is written of that size is as long as the record
-    sized : {l : List ℕ} (n : ℕ) → Of n ≡ Of (sizeAt s at) → (sizeAt s at ≡ n → l ≡ places (4 + n) here 0) → l ≡ places (4 + sizeAt s at) here 0
-    sized n e f = f (sym (same-size e)) ∙ ap (λ (n : ℕ). places (4 + n) here 0) (same-size e)
+    by-size : {l : List ℕ} (n : ℕ) → Of n ≡ Of (sizeAt s at) → (sizeAt s at ≡ n → l ≡ places (4 + n) here 0) → l ≡ places (4 + sizeAt s at) here 0
+    by-size n e f = f (sym (same-size e)) ∙ ap (λ (n : ℕ). places (4 + n) here 0) (same-size e)
 
     -- it is written as the bytes that it stands in, if the record has its size
     back : (kind : ℕ) → kindAt s at ≡ kind → sizeOf (by-kind kind) ≡ Of (sizeAt s at) → written (by-kind kind) ≡ places (4 + sizeAt s at) here 0
     unfolding eventOf written
     back zero k e = absurd (unknown-size e)
     back (suc zero) k e =
-        sized 6 e
+        by-size 6 e
         (λ z. head s at b _ z k ∙ six (load s at 0 4 refl) (load s at 1 5 refl) (load s at 2 6 refl) (load s at 3 7 refl) (load s at 4 8 refl) (load s at 5 9 refl))
       where
         six : {a b c d e f a' b' c' d' e' f' : ℕ} → a ≡ a' → b ≡ b' → c ≡ c' → d ≡ d' → e ≡ e' → f ≡ f'
             → here 0 ∷ here 1 ∷ here 2 ∷ here 3 ∷ a ∷ b ∷ c ∷ d ∷ e ∷ f ∷ []
             ≡ here 0 ∷ here 1 ∷ here 2 ∷ here 3 ∷ a' ∷ b' ∷ c' ∷ d' ∷ e' ∷ f' ∷ []
         six p q r t u v = cc
-    back (suc (suc zero)) k e = sized 2 e (λ z. head s at b _ z k ∙ ap (λ (l : List ℕ). here 0 ∷ here 1 ∷ here 2 ∷ here 3 ∷ l) (two s at b))
-    back (suc (suc (suc zero))) k e = sized 3 e (λ z. head s at b _ z k ∙ three (load s at 0 4 refl) (load s at 1 5 refl) (load s at 2 6 refl))
+    back (suc (suc zero)) k e = by-size 2 e (λ z. head s at b _ z k ∙ ap (λ (l : List ℕ). here 0 ∷ here 1 ∷ here 2 ∷ here 3 ∷ l) (two s at b))
+    back (suc (suc (suc zero))) k e = by-size 3 e (λ z. head s at b _ z k ∙ three (load s at 0 4 refl) (load s at 1 5 refl) (load s at 2 6 refl))
       where
         three : {a b c a' b' c' : ℕ} → a ≡ a' → b ≡ b' → c ≡ c'
             → here 0 ∷ here 1 ∷ here 2 ∷ here 3 ∷ a ∷ b ∷ c ∷ [] ≡ here 0 ∷ here 1 ∷ here 2 ∷ here 3 ∷ a' ∷ b' ∷ c' ∷ []
         three p q r = cc
     back (suc (suc (suc (suc zero)))) k e =
-        sized 1 e (λ z. head s at b _ z k ∙ ap (λ (x : ℕ). here 0 ∷ here 1 ∷ here 2 ∷ here 3 ∷ x ∷ []) (load s at 0 4 refl))
-    back (suc (suc (suc (suc (suc zero))))) k e = sized 2 e (λ z. head s at b _ z k ∙ ap (λ (l : List ℕ). here 0 ∷ here 1 ∷ here 2 ∷ here 3 ∷ l) (two s at b))
-    back (suc (suc (suc (suc (suc (suc zero)))))) k e = sized 0 e (λ z. head s at b [] z k)
+        by-size 1 e (λ z. head s at b _ z k ∙ ap (λ (x : ℕ). here 0 ∷ here 1 ∷ here 2 ∷ here 3 ∷ x ∷ []) (load s at 0 4 refl))
+    back (suc (suc (suc (suc (suc zero))))) k e = by-size 2 e (λ z. head s at b _ z k ∙ ap (λ (l : List ℕ). here 0 ∷ here 1 ∷ here 2 ∷ here 3 ∷ l) (two s at b))
+    back (suc (suc (suc (suc (suc (suc zero)))))) k e = by-size 0 e (λ z. head s at b [] z k)
     back (suc (suc (suc (suc (suc (suc (suc kind))))))) k e = absurd (unknown-size (sym (over (suc (suc (suc (suc (suc (suc (suc kind))))))) (omega arith)) ∙ e))
 
     -- a record written back, and the bytes after it
     record-back : Whole (sizeOf (inputAt s at)) s at → written (inputAt s at) ++ drop (at + 4 + sizeAt s at) s ≡ drop at s
     unfolding inputAt
     record-back w =
-        ap₂ (λ (l : List ℕ) (i : ℕ). l ++ drop i s) (back (kindAt s at) refl (w .sized)) (ends (sizeAt s at))
+        ap₂ (λ (l : List ℕ) (i : ℕ). l ++ drop i s) (back (kindAt s at) refl (w .right-size)) (ends (sizeAt s at))
         ∙ bytes-drop (4 + sizeAt s at) 0 (omega (arith, w .inside))
         ∙ ap (λ (i : ℕ). drop i s) start
       where

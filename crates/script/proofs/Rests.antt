@@ -93,14 +93,14 @@ whole-more out p r n l h =
     ∙ append-assoc (take n out) p (r ++ drop (n + length (p ++ r)) out)
     ∙ ap (λ (b : List ℕ). take n out ++ b) (sym (append-assoc p r (drop (n + length (p ++ r)) out)))
   where
-    sized : length (take n out ++ p) ≡ n + 48
-    sized = omega (arith, length-append (take n out) p, length-take-le n out (omega arith))
+    joined-length : length (take n out ++ p) ≡ n + 48
+    joined-length = omega (arith, length-append (take n out) p, length-take-le n out (omega arith))
 
     whole-list : take n out ++ (p ++ drop (n + 48) out) ≡ (take n out ++ p) ++ drop (n + 48) out
     whole-list = sym (append-assoc (take n out) p (drop (n + 48) out))
 
     front : take (n + 48) (take n out ++ (p ++ drop (n + 48) out)) ≡ take n out ++ p
-    front = ap (take (n + 48)) whole-list ∙ take-at (take n out ++ p) (drop (n + 48) out) (n + 48) sized
+    front = ap (take (n + 48)) whole-list ∙ take-at (take n out ++ p) (drop (n + 48) out) (n + 48) joined-length
 
     sum : n + 48 + length r ≡ n + length (p ++ r)
     sum = omega (arith, length-append p r)
@@ -108,7 +108,7 @@ whole-more out p r n l h =
     back : drop (n + 48 + length r) (take n out ++ (p ++ drop (n + 48) out)) ≡ drop (n + length (p ++ r)) out
     back =
         sym (drop-drop (length r) (n + 48) (take n out ++ (p ++ drop (n + 48) out)))
-        ∙ ap (λ (l : List ℕ). drop (length r) l) (ap (drop (n + 48)) whole-list ∙ drop-at (take n out ++ p) (drop (n + 48) out) (n + 48) sized)
+        ∙ ap (λ (l : List ℕ). drop (length r) l) (ap (drop (n + 48)) whole-list ∙ drop-at (take n out ++ p) (drop (n + 48) out) (n + 48) joined-length)
         ∙ drop-drop (length r) (n + 48) out
         ∙ ap (λ (k : ℕ). drop k out) sum
 

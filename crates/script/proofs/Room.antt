@@ -8,6 +8,7 @@ use mathlib.Core.List.{List, [], _∷_}
 use lib.Dec.{leb, eqb}
 use lib.ListN.{length}
 use borrow.Author.Tests.{leb-true}
+use Rattle.rom.specs.Fetching.{sized}
 use Rattle.isa.specs.Choice.{pick}
 use Rattle.cpu.specs.Range.{nibble, nibbles, optionsOk}
 use Rattle.machine.specs.Events.{Input, power, named, valuesOk}
@@ -68,7 +69,7 @@ choice-other (named n) = λ e. omega arith
 pub never-nine : (mask s : List ℕ) (room : ℕ) → 48 * 65535 ≤ room → checked mask s room .number ≡ 9 → ⊥
 unfolding checked
 never-nine mask s room h =
-    or-else (unless (eqb (length mask) 4096) 1) (after1 mask s room) (unless-other (eqb (length mask) 4096) 1 (λ e. omega arith))
+    or-else (unless (sized mask) 1) (after1 mask s room) (unless-other (sized mask) 1 (λ e. omega arith))
     (go (leb (length s) 65535) refl)
   where
     last : leb (length s) 65535 ≡ true → Other (after4 mask s room .number)

@@ -7,6 +7,7 @@ use mathlib.Core.List.{List, [], _∷_}
 use lib.Dec.{leb, eqb}
 use lib.ListN.{length}
 use Rattle.isa.specs.Choice.{pick}
+use Rattle.rom.specs.Fetching.{sized}
 use Rattle.cpu.specs.Range.{nibbles, optionsOk}
 use Rattle.machine.specs.Events.{Input, power, named, valuesOk}
 use Rattle.machine.specs.declared.events.Named.the-variants.{Known, Unknown}
@@ -61,7 +62,7 @@ ruled Choices s at = choiceOf (inputAt s at)
 -- the kind reads as 0); "9: report buffer under 48 times the records"
 unfoldable pub checked : List ℕ → List ℕ → ℕ → Checked
 checked mask s room =
-    firstRefused (unless (eqb (length mask) 4096) 1)
+    firstRefused (unless (sized mask) 1)
     (firstRefused (unless (leb (length s) 65535) 6)
     (firstRefused (first (ruled Format s) (offsets s))
     (firstRefused (unless (eqb (kindAt s 0) 1) 8)

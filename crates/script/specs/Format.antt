@@ -1,5 +1,5 @@
--- A script's records, over a list of bytes: the inputs that they are, and the payload length of each kind. Where records start and what stands in one is
--- said of all records (records/specs/Records). Assumes nothing.
+-- A script's records, over a list of bytes: the inputs that they are, and the payload length of each kind. Where records start and what stands in
+-- one is said of all records (records/specs/Records). Assumes nothing.
 use Prim.Native.Nat.{ℕ, _+_}
 use mathlib.Core.List.{List, [], _∷_, _++_, map}
 use lib.Dec.{eqb}

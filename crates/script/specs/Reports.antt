@@ -9,7 +9,7 @@ use Rattle.machine.specs.Events.{Input, answerTo}
 use Rattle.machine.specs.Report.{reported}
 use Rattle.machine.specs.declared.Machine.{Machine}
 use Rattle.machine.specs.declared.Answer.{Answer}
-use Rattle.records.specs.Records.{sizeAt}
+use Rattle.records.specs.Records.{endAt}
 use Rattle.script.specs.Format.{inputAt, inputs}
 use Rattle.script.specs.Check.{formatAt, checked}
 use Rattle.script.specs.declared.Checked.{Checked}
@@ -51,7 +51,7 @@ progress refusal at m = record { refusal = refusal; at = at; machine = m }
 abbrev pub passed : List ℕ → List ℕ → ℕ → Machine → Progress
 passed mask s at m =
     let a : Answer = answerTo mask (inputAt s at) m in
-    progress (a .refusal) (at + 4 + sizeAt s at) (a .machine)
+    progress (a .refusal) (endAt s at) (a .machine)
 
 -- a record that is cut off, has a wrong length or is of no known kind has its number, 6 or 7, and nothing moves; at the end nothing moves
 unfoldable pub stepped : List ℕ → List ℕ → ℕ → Machine → Progress

@@ -1,10 +1,11 @@
 // Applying a script's records to a machine, each with its report.
 ghost use mathlib.Core.Path.{_≡_};
 ghost use mathlib.Core.List.{_++_};
-ghost use Prim.Native.Nat.{ℕ, _+_, _≤_};
+ghost use Prim.Native.Nat.{_+_, _≤_};
 ghost use lib.ListN.{drop, length, take};
 ghost use Rattle.cpu.specs.State.{state};
-ghost use Rattle.machine.specs.Machine.{machineOf};
+ghost use Rattle.machine.specs.Machine.{machineOf, traceOf};
+ghost use Rattle.machine.specs.declared.Trace.{Trace};
 ghost use Rattle.machine.specs.Events.{answerTo, namedAnswer};
 ghost use Rattle.machine.specs.Report.{reported};
 ghost use Rattle.script.specs.Check.{checked};
@@ -17,6 +18,7 @@ use crate::check::check_script;
 use crate::format::format_at;
 use crate::format::record_at;
 use cpu::Cpu;
+use datapath::memory::MEMORY;
 use machine::Answer;
 use machine::Machine;
 use machine::events::Named;
@@ -70,9 +72,9 @@ pub fn step_record(mask: &[u8], script: &[u8], at: usize, machine: Machine) -> P
 }
 
 // What a kind's name makes of a machine whose parts are lent, where nothing is refused.
-fn pass_named(named: Named, cpu: Cpu, mask: &[u8], memory: &mut [u8; 160], gap: &mut u16) -> Cpu
-    requires { ⌜ namedAnswer (now mask) named (machineOf (state cpu (now memory)) (now gap)) .refusal ≡ 0 ⌝ }
-    ensures { λ r. ⌜ machineOf (state r (now (memory .exit))) (now (gap .exit)) ≡ namedAnswer (now (mask .entry)) named (machineOf (state cpu (now (memory .entry))) (now (gap .entry))) .machine ⌝ }
+fn pass_named(named: Named, cpu: Cpu, mask: &[u8], memory: &mut [u8; MEMORY], gap: &mut u16) -> Cpu
+    requires { ⌜ namedAnswer (now mask) named (machineOf (state cpu (now memory)) (traceOf (now gap))) .refusal ≡ 0 ⌝ }
+    ensures { λ r. ⌜ machineOf (state r (now (memory .exit))) (traceOf (now (gap .exit))) ≡ namedAnswer (now (mask .entry)) named (machineOf (state cpu (now (memory .entry))) (traceOf (now (gap .entry)))) .machine ⌝ }
 {
     match named {
         Named::Known(event) => happened(cpu, event, mask, memory, gap),
@@ -81,9 +83,9 @@ fn pass_named(named: Named, cpu: Cpu, mask: &[u8], memory: &mut [u8; 160], gap: 
 }
 
 // What a record makes of it. No test is made again: an accepted script has none that a machine refuses.
-fn pass(input: Record, cpu: Cpu, mask: &[u8], memory: &mut [u8; 160], gap: &mut u16) -> Cpu
-    requires { ⌜ answerTo (now mask) (inputOf input) (machineOf (state cpu (now memory)) (now gap)) .refusal ≡ 0 ⌝ }
-    ensures { λ r. ⌜ machineOf (state r (now (memory .exit))) (now (gap .exit)) ≡ next (now (mask .entry)) (inputOf input) (machineOf (state cpu (now (memory .entry))) (now (gap .entry))) ⌝ }
+fn pass(input: Record, cpu: Cpu, mask: &[u8], memory: &mut [u8; MEMORY], gap: &mut u16) -> Cpu
+    requires { ⌜ answerTo (now mask) (inputOf input) (machineOf (state cpu (now memory)) (traceOf (now gap))) .refusal ≡ 0 ⌝ }
+    ensures { λ r. ⌜ machineOf (state r (now (memory .exit))) (traceOf (now (gap .exit))) ≡ next (now (mask .entry)) (inputOf input) (machineOf (state cpu (now (memory .entry))) (traceOf (now (gap .entry)))) ⌝ }
 {
     match input {
         Record::Power(options, fill) => filled(options, fill, memory, gap),
@@ -92,9 +94,9 @@ fn pass(input: Record, cpu: Cpu, mask: &[u8], memory: &mut [u8; 160], gap: &mut 
 }
 
 // The report of a machine, written at a place of the buffer.
-fn put_report(cpu: Cpu, memory: &[u8; 160], out: &mut [u8], at: usize)
+fn put_report(cpu: Cpu, memory: &[u8; MEMORY], out: &mut [u8], at: usize)
     requires { ⌜ at + 48 ≤ length (now out) ⌝ }
-    ensures { λ _. ⌜ ((count : ℕ) → now (out .exit) ≡ take at (now (out .entry)) ++ (reported (machineOf (state cpu (now (memory .entry))) count) ++ drop (at + 48) (now (out .entry)))) ⌝ }
+    ensures { λ _. ⌜ ((trace : Trace) → now (out .exit) ≡ take at (now (out .entry)) ++ (reported (machineOf (state cpu (now (memory .entry))) trace) ++ drop (at + 48) (now (out .entry)))) ⌝ }
 {
     let end = at + 48;
     write_report(cpu, memory, &mut out[at..end]);
@@ -110,7 +112,7 @@ fn put_reports(mask: &[u8], script: &[u8], out: &mut [u8])
     let blank = Machine::blank();
     let mut cpu = blank.cpu;
     let mut memory = blank.memory;
-    let mut gap = blank.gap;
+    let mut gap = blank.trace.gap;
     while at < script.len() {
         let input = record_at(script, at);
         cpu = pass(input, cpu, mask, &mut memory, &mut gap);

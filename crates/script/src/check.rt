@@ -14,6 +14,7 @@ use machine::ranges::options_ok;
 use records::count;
 use records::kind_at;
 use records::size_at;
+use rom::reader::mask_ok;
 
 // What is judged record by record: 6 and 7, then 3, then 4.
 pub enum Rule {
@@ -100,7 +101,7 @@ fn first(rule: Rule, s: &[u8]) -> Checked
 pub fn check_script(mask: &[u8], script: &[u8], room: usize) -> Checked
     ensures { λ r. ⌜ r ≡ checked (now (mask .entry)) (now (script .entry)) room ⌝ }
 {
-    if mask.len() != 4096 {
+    if !mask_ok(mask) {
         return Checked {
             number: 1,
             offset: 0,

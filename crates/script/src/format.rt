@@ -18,7 +18,7 @@ use records::size_at;
 use records::size_refusal;
 
 // The kind of a power-on. The others are the machine's events.
-pub const POWER_ON: u16 = 1;
+pub(crate) const POWER_ON: u16 = 1;
 
 fn options_at(s: &[u8], at: usize) -> Options
     ensures { λ r. ⌜ r ≡ optionsAt (now (s .entry)) at ⌝ }
@@ -50,7 +50,7 @@ pub(crate) fn record_at(s: &[u8], at: usize) -> Record
     let a = payload_at(s, at, 0);
     let b = payload_at(s, at, 1);
     let c = payload_at(s, at, 2);
-    let count = a as u16 + 256 * b as u16;
+    let count = a as u16 + 256 * b as u16; // of the bytes at hand: read as a word a record takes 18 instructions more
     Record::Other(event_of(kind, count, a, b, c))
 }
 

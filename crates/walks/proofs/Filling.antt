@@ -1,6 +1,6 @@
--- A query that fills a lent slice, `fn f(x: &R, out: &mut [E]) -> uW { g(*x, out) }`, meets what g promises of the record, the slice and the answer:
--- a walk of its MIR by hand, over any struct R, any element E, any width of the answer and any g. The record is copied out; the slice goes to g at its
--- own lifetime, and what g says of its last elements is what is said at exit. All that is known of g is its contract. Assumes nothing.
+-- A query that fills a lent slice, `fn f(x: &R, out: &mut [E]) -> uW { g(*x, out) }`, meets what g promises of the record, the slice and the
+-- answer: a walk of its MIR by hand, over any struct R, any element E, any width of the answer and any g. The record is copied out; the slice goes
+-- to g at its own lifetime, and what g says of its last elements is what is said at exit. All that is known of g is its contract. Assumes nothing.
 use mathlib.Core.Path.{_≡_, refl}
 use Prim.Native.Nat.{ℕ}
 use mathlib.Core.List.{[], _∷_, List}

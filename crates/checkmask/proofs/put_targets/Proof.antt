@@ -3,6 +3,7 @@ use Prim.Native.Nat.{_-_, _<_}
 use mathlib.Core.Path.{_≡_}
 use native.Mathlib.Omega.{arith}
 use borrow.Author.Needs.{needs}
+use Rattle.isa.specs.Code.{addresses}
 use Rattle.checkmask.proofs.put_targets.Statement.{statement}
 use Rattle.checkmask.proofs.put_targets.Tie as tie
 
@@ -10,7 +11,7 @@ abbrev Inv-loop : tie.InvT-loop
 Inv-loop list targets address₀ address = Unit {0}
 
 abbrev μ-loop : tie.MeasureT-loop
-μ-loop list targets address₀ address = 4096 - address
+μ-loop list targets address₀ address = addresses - address
 
 pub put-targets-spec : {M : Type 1} → statement M
 put-targets-spec =

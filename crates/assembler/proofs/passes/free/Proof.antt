@@ -5,20 +5,21 @@ use mathlib.Core.Bool.{not}
 use native.Mathlib.Omega.{arith}
 use borrow.Author.Needs.{needs}
 use borrow.Author.Tests.{le-leb, lt-leb}
+use Rattle.assembler.specs.Forms.{romSize}
 use Rattle.assembler.proofs.passes.free.Statement.{statement}
 use Rattle.assembler.proofs.passes.free.Tie as tie
 
 returns : tie.Need-returns
-returns c = let s = c .before .before in rw (lt-leb (s .args .at + s .args .size) 4096 (c .if1 .taken)) refl
+returns c = let s = c .before .before in rw (lt-leb (s .args .at + s .args .size) romSize (c .if1 .taken)) refl
 
 returns-2 : tie.Need-returns-2
 returns-2 c = let s = c .before .before .before .before in
-    rw (le-leb (s .args .at + s .args .size) 4096 (c .before .before .if1 .left), sym (c .before .taken .ensures) ∙ c .if2 .taken) refl
+    rw (le-leb (s .args .at + s .args .size) romSize (c .before .before .if1 .left), sym (c .before .taken .ensures) ∙ c .if2 .taken) refl
 
 returns-3 : tie.Need-returns-3
 returns-3 c = let s = c .before .before .before .before .before in
     rw (
-      le-leb (s .args .at + s .args .size) 4096 (c .before .before .before .if1 .left),
+      le-leb (s .args .at + s .args .size) romSize (c .before .before .before .if1 .left),
       sym (c .before .before .taken .ensures)
           ∙ c .before .if2 .left,
     ) (ap not (c .taken2 .ensures))

@@ -5,6 +5,7 @@ use native.Mathlib.Omega.{arith}
 use borrow.Author.Needs.{needs}
 use borrow.Author.Tests.{not-false, not-true}
 use lib.ListN.{length, length-replicate}
+use Rattle.assembler.specs.Forms.{romSize}
 use Rattle.assembler.specs.Shapes.{sizeIn}
 use Rattle.assembler.proofs.Placing.{Placing, crowded, end-most, here-most, label-room, place-on, placed, places, same-room, stray}
 use Rattle.assembler.proofs.Splitting.{end-within}
@@ -31,7 +32,7 @@ same-length c = c .before .before .before .before .loop .inv .1
 
 same-length-2 : tie.Need-same-length-2 Inv-loop μ-loop
 same-length-2 c = c .before .before .before .before .loop .inv .0 .flag-count ∙ sym
-    (ap length (c .before .before .before .before .before .before .before .before .before .pre .1) ∙ length-replicate {A = ℕ} 4096 0)
+    (ap length (c .before .before .before .before .before .before .before .before .before .pre .1) ∙ length-replicate {A = ℕ} romSize 0)
 
 returns : tie.Need-returns Inv-loop μ-loop
 returns c = (
@@ -55,7 +56,7 @@ same-length-3 c = c .before .before .before .before .before .before .before .bef
 same-length-4 : tie.Need-same-length-4 Inv-loop μ-loop
 same-length-4 c = c .before .before .before .before .before .before .before .before .before .before .loop .inv .0 .flag-count ∙ sym
     (ap length (c .before .before .before .before .before .before .before .before .before .before .before .before .before .before .before .pre .1)
-    ∙ length-replicate {A = ℕ} 4096 0)
+    ∙ length-replicate {A = ℕ} romSize 0)
 
 returns-2 : tie.Need-returns-2 Inv-loop μ-loop
 returns-2 c = (
@@ -98,7 +99,7 @@ same-length-6 : tie.Need-same-length-6 Inv-loop μ-loop
 same-length-6 c = c .before .before .before .before .store2 .kept .0
     ∙ c .before .before .before .before .before .before .before .before .store .kept .0
     ∙ c .before .before .before .before .before .before .before .before .before .before .before .before .before .before .before .before .before .before .before .before .before .before .before .before .loop .inv .0 .flag-count
-    ∙ sym (ap length (c .before .before .before .before .before .before .before .before .before .before .before .before .before .before .before .before .before .before .before .before .before .before .before .before .before .before .before .before .before .pre .1) ∙ length-replicate {A = ℕ} 4096 0)
+    ∙ sym (ap length (c .before .before .before .before .before .before .before .before .before .before .before .before .before .before .before .before .before .before .before .before .before .before .before .before .before .before .before .before .before .pre .1) ∙ length-replicate {A = ℕ} romSize 0)
 
 returns-3 : tie.Need-returns-3 Inv-loop μ-loop
 returns-3 c = placed (c .before .before .before .before .before .before .before .before .before .before .before .before .before .before .before .before .before .before .before .before .before .before .before .before .loop .inv .0) (c .before .before .before .before .before .before .before .before .before .before .before .before .before .before .before .before .before .before .before .before .before .before .read-line .ensures) (sym (c .before .before .before .before .before .before .before .before .before .before .before .before .before .before .before .before .before .before .before .before .before .strays .ensures) ∙ c .before .before .before .before .before .before .before .before .before .before .before .before .before .before .before .before .before .before .before .before .if1 .left) (c .before .before .before .before .before .before .before .before .before .before .before .before .before .before .before .before .before .before .before .address-of .result) (c .before .before .before .before .before .before .before .before .before .before .before .before .before .before .before .before .before .size-of .result) (c .before .before .before .before .before .before .before .before .before .before .before .before .before .before .before .before .before .before .before .address-of .ensures) (c .before .before .before .before .before .before .before .before .before .before .before .before .before .before .before .before .before .size-of .ensures ∙ ap sizeIn (c .before .before .before .before .before .before .before .before .before .before .before .before .before .before .before .before .before .before .shape-of .ensures)) (sym (c .before .before .before .before .before .before .before .before .before .before .before .before .before .before .before .free .ensures) ∙ not-false _ (c .before .before .before .before .before .before .before .before .before .before .before .before .before .before .if2 .left)) _ _ _ (c .before .before .before .before .before .before .before .before .before .before .before .before .note .result) (c .before .line-end .result) (c .before .before .before .before .before .before .before .before .before .before .before .before .note .ensures .0) (c .before .before .before .before .before .before .before .before .before .before .before .before .note .ensures .1) (c .before .before .before .before .before .before .before .before .store .ensures) (c .before .before .before .before .store2 .ensures) (c .before .line-end .ensures) (c .if3 .taken)

@@ -5,13 +5,14 @@ use mathlib.Core.Bool.{not}
 use native.Mathlib.Omega.{arith}
 use borrow.Author.Tests.{eq-eqb, le-leb, le-ltb, lt-leb, lt-ltb, ltb-false, ltb-true, ne-eqb}
 use lib.Dec.{ltb}
+use Rattle.assembler.specs.Forms.{romSize}
 use Rattle.operand.proofs.Texts.{case}
 use Rattle.assembler.proofs.passes.strays.Statement.{statement}
 use Rattle.assembler.proofs.passes.strays.Tie as tie
 
-over : (x : ℕ) → ltb 4095 x ≡ not (ltb x 4096)
-over x = case (ltb x 4096) (λ e. rw e (le-ltb 4095 x (omega (arith, ltb-true x 4096 e))))
-    (λ e. rw e (lt-ltb 4095 x (omega (arith, ltb-false x 4096 e))))
+over : (x : ℕ) → ltb (romSize - 1) x ≡ not (ltb x romSize)
+over x = case (ltb x romSize) (λ e. rw e (le-ltb (romSize - 1) x (omega (arith, ltb-true x romSize e))))
+    (λ e. rw e (lt-ltb (romSize - 1) x (omega (arith, ltb-false x romSize e))))
 
 returns : tie.Need-returns
 returns c = rw (ne-eqb (c .before .args .form) 0 (c .if1 .taken)) refl

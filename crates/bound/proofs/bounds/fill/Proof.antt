@@ -3,8 +3,10 @@ use Prim.Native.Nat.{ℕ, _+_, _*_, _-_}
 use native.Mathlib.Omega.{arith}
 use borrow.Author.Needs.{needs}
 use mathlib.Core.Path.{_≡_, sym, _∙_}
-use lib.ListN.{length, length-set}
-use Rattle.rom.specs.Fetching.{Bytes}
+use mathlib.Core.Bool.{true}
+use lib.ListN.{length-set}
+use Rattle.isa.specs.Code.{addresses}
+use Rattle.rom.specs.Fetching.{Bytes, sized}
 use Rattle.checker.specs.Verdicts.{Marked, Safe}
 use Rattle.bound.proofs.Filling.{Filling, filling-start, filling-given, filling-next, filling-end}
 use Rattle.bound.proofs.bounds.fill.Statement.{statement}
@@ -12,10 +14,10 @@ use Rattle.bound.proofs.bounds.fill.Tie as tie
 
 abbrev Inv-loop : tie.InvT-loop
 Inv-loop mask marks list₀ found₀ address₀ list found address =
-    (bytes : Bytes mask) (size : length mask ≡ 4096) (marked : Marked mask marks) (safe : Safe mask) → Filling mask marks bytes size marked safe list found address
+    (bytes : Bytes mask) (size : sized mask ≡ true) (marked : Marked mask marks) (safe : Safe mask) → Filling mask marks bytes size marked safe list found address
 
 abbrev μ-loop : tie.MeasureT-loop
-μ-loop mask marks list₀ found₀ address₀ list found address = 4096 - address
+μ-loop mask marks list₀ found₀ address₀ list found address = addresses - address
 
 loop-holds : tie.Need-loop-holds Inv-loop μ-loop
 loop-holds c b e m f = let s = c .before .before in filling-start (s .args .mask .now) (s .args .marks .now) b e m f (s .args .list .now) (s .pre .1)

@@ -4,6 +4,7 @@ use mathlib.Core.Path.{sym, subst}
 use mathlib.Core.List.{List}
 use native.Mathlib.Omega.{arith}
 use borrow.Author.Needs.{needs}
+use Rattle.isa.specs.Code.{addresses}
 use Rattle.bound.proofs.Filling.{Calling, calling-start, calling-new, calling-old, calling-end, cases}
 use Rattle.bound.proofs.calls.call_targets.Statement.{statement}
 use Rattle.bound.proofs.calls.call_targets.Tie as tie
@@ -12,7 +13,7 @@ abbrev Inv-loop : tie.InvT-loop
 Inv-loop mask marks targets₀ address₀ targets address = Calling mask marks targets address
 
 abbrev μ-loop : tie.MeasureT-loop
-μ-loop mask marks targets₀ address₀ targets address = 4096 - address
+μ-loop mask marks targets₀ address₀ targets address = addresses - address
 
 loop-again : tie.Need-loop-again Inv-loop μ-loop
 loop-again c =

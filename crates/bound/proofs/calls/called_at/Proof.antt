@@ -7,6 +7,7 @@ use types.Run.{OneOf, miss}
 use denote.Enum.Declared.{tagOf}
 use borrow.Author.Needs.{needs}
 use borrow.Author.Tests.{not-false, not-true}
+use Rattle.isa.specs.Code.{addresses}
 use Rattle.checker.specs.Marks.{levels, flowAt}
 use Rattle.checker.specs.declared.flow.Flow.{Flow}
 use Rattle.checker.specs.declared.flow.Flow.the-variants.{Unread, On, Enable, Jump, To, Sub, Back}
@@ -19,7 +20,7 @@ use Rattle.bound.proofs.calls.called_at.Tie as tie
 abbrev others : List ℕ
 others = 0 ∷ 1 ∷ 2 ∷ 3 ∷ 4 ∷ 6 ∷ []
 
-none : (f : Flow) → OneOf others (tagOf the-type f) → TargetOf f 4096
+none : (f : Flow) → OneOf others (tagOf the-type f) → TargetOf f addresses
 none Unread h = refl
 none On h = refl
 none Enable h = refl
@@ -49,7 +50,7 @@ returns-3 c =
     let s = c .before .before .before .before .before in
     let e = c .before .flow-at .ensures ∙ ap (flowAt (s .args .mask .now)) (third (s .args .address)) in
     rw (sym (c .before .before .before .is-marked .ensures) ∙ not-false _ (c .before .before .if1 .left))
-    (subst (λ (f : Flow). TargetOf f 4096) e (none (c .before .flow-at .result) (c .match .keys2)))
+    (subst (λ (f : Flow). TargetOf f addresses) e (none (c .before .flow-at .result) (c .match .keys2)))
 
 pub called-at-spec : {M : Type 1} → statement M
 called-at-spec =

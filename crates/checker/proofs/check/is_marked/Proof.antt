@@ -9,7 +9,8 @@ use lib.Dec.{eqb, ltb}
 use lib.ListN.{getD}
 use borrow.Author.Needs.{needs}
 use borrow.Author.Tests.{le-ltb}
-use Rattle.checker.specs.Marks.{addresses, levels}
+use Rattle.isa.specs.Code.{addresses}
+use Rattle.checker.specs.Marks.{levels}
 use Rattle.checker.specs.Verdicts.{isMarked}
 use Rattle.checker.proofs.Answer.{its-bit}
 use Rattle.checker.proofs.check.is_marked.Statement.{statement}

@@ -5,19 +5,19 @@ use mathlib.Core.List.{List}
 use native.Mathlib.Omega.{arith}
 use lib.ListN.{length, getD, set, length-set}
 use Rattle.reach.proofs.Count.{after-set}
-use Rattle.checker.specs.Marks.{addresses}
+use Rattle.checker.specs.Verdicts.{marksSize}
 use Rattle.checker.specs.Walk.{markOf}
 use Rattle.checker.proofs.check.pack.Statement.{statement}
 use Rattle.checker.proofs.check.pack.Tie as tie
 
 abbrev Inv-loop : tie.InvT-loop
-Inv-loop seen marks₀ address₀ marks address = (address ≤ addresses) × (length marks ≡ addresses) × ((a : ℕ) → a < address → getD marks a 0 ≡ markOf seen a)
+Inv-loop seen marks₀ address₀ marks address = (address ≤ marksSize) × (length marks ≡ marksSize) × ((a : ℕ) → a < address → getD marks a 0 ≡ markOf seen a)
 
 abbrev μ-loop : tie.MeasureT-loop
-μ-loop seen marks₀ address₀ marks address = addresses - address
+μ-loop seen marks₀ address₀ marks address = marksSize - address
 
 -- one mark more
-more : (seen marks : List ℕ) (i : ℕ) → length marks ≡ addresses → i < addresses → ((a : ℕ) → a < i → getD marks a 0 ≡ markOf seen a)
+more : (seen marks : List ℕ) (i : ℕ) → length marks ≡ marksSize → i < marksSize → ((a : ℕ) → a < i → getD marks a 0 ≡ markOf seen a)
     → (a : ℕ) → a < i + 1 → getD (set marks i (markOf seen i)) a 0 ≡ markOf seen a
 more seen marks i l h f a b =
     after-set (λ (n : ℕ). n ≡ markOf seen a) marks i a (markOf seen i) (omega arith) (λ e. ap (markOf seen) (sym e)) (λ n. f a (less n))

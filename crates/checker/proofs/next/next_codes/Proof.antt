@@ -1,7 +1,7 @@
 -- `checker::next::next_codes` meets its contract: an arm knows the flow, at which the definition computes, and a target that was read is an
 -- address, so that its code fits. Assumes nothing.
 use Prim.Native.Nat.{ℕ, suc, _+_, _*_, _/_, _%_}
-use mathlib.Core.Path.{_≡_, refl, sym, ap, ap₂, _∙_}
+use mathlib.Core.Path.{_≡_, refl, sym, ap, _∙_}
 use mathlib.Core.Bool.{Bool, true, false}
 use mathlib.Core.List.{List, [], _∷_, map}
 use native.Mathlib.Omega.{arith}
@@ -9,39 +9,40 @@ use lib.Dec.{eqb}
 use borrow.Author.Tests.{eq-eqb, ne-eqb}
 use Rattle.isa.specs.Choice.{pick}
 use Rattle.isa.specs.declared.ProgramAddress.{ProgramAddress}
-use Rattle.isa.specs.Reading.{decoded}
 use Rattle.isa.specs.Timing.{lengthOf}
 use Rattle.rom.specs.Fetching.{movedBy, movedFrom}
+use Rattle.rom.specs.declared.reader.Code.{Code}
+use Rattle.rom.proofs.Fetching.{length-code}
 use Rattle.checker.specs.declared.flow.Flow.{Flow}
 use Rattle.checker.specs.declared.flow.Flow.the-variants.{Unread, On, Enable, Jump, To, Sub, Back}
-use Rattle.checker.specs.Marks.{levels, flowRead, flowAt, faultIn}
+use Rattle.checker.specs.Marks.{levels, flowAt, faultIn}
 use Rattle.checker.specs.Verdicts.{rank}
 use Rattle.checker.specs.Walk.{nextCodes, faultAt}
 use Rattle.checker.proofs.Reach.{Targets}
-use Rattle.checker.proofs.Successors.{handed-on, fault-flow, next-flow, next-targets}
+use Rattle.checker.proofs.Successors.{flow-there, handed-on, fault-flow, next-flow, next-targets}
 use borrow.Author.Needs.{needs}
 use Rattle.checker.proofs.next.next_codes.Statement.{statement}
 use Rattle.checker.proofs.next.next_codes.Tie as tie
 
 -- the mask and the code
 abbrev mask-of : tie.After-flow-by → List ℕ
-mask-of c = c .before .before .before .before .before .args .mask .now
+mask-of c = c .before .before .before .before .args .mask .now
 
 abbrev code-of : tie.After-flow-by → ℕ
-code-of c = c .before .before .before .before .before .args .code
+code-of c = c .before .before .before .before .args .code
 
 flow-is : (c : tie.After-flow-by) → c .flow-by .result ≡ flowAt (mask-of c) (code-of c / levels)
-unfolding flowAt
 flow-is c =
-    c .flow-by .ensures ∙ ap₂ (λ (x y : ℕ). flowRead (decoded x y)) (c .before .before .before .byte-at .ensures) (c .before .before .byte-at2 .ensures)
+    let code = c .before .before .code-at in c .flow-by .ensures ∙ flow-there (mask-of c) (code-of c / levels) (code .result) (code .ensures)
 
 -- an arm that goes on finds the moved address itself
 at-flow : (c : tie.After-flow-by) (g : Flow) → c .flow-by .result ≡ g → (m : ℕ) → m ≡ movedBy (c .before .length .result) (code-of c / levels)
     → handed-on g m (code-of c % levels) ≡ nextCodes (mask-of c) (code-of c)
 at-flow c g e m p =
-    let first = c .before .before .before .byte-at in
+    let code = c .before .before .code-at in
     next-flow (mask-of c) (code-of c) (c .flow-by .result) g (flow-is c) e m
-    (p ∙ ap (λ (n : ℕ). movedBy n (code-of c / levels)) (c .before .length .ensures ∙ ap lengthOf (first .ensures)))
+    (p ∙ ap (λ (n : ℕ). movedBy n (code-of c / levels))
+    (c .before .length .ensures ∙ ap (λ (k : Code). lengthOf (k .first)) (code .ensures) ∙ length-code (mask-of c) (code-of c / levels)))
 
 -- and one that does not needs none
 at-end : (c : tie.After-flow-by) (g : Flow) → c .flow-by .result ≡ g
@@ -58,7 +59,7 @@ forbids f e = (e, λ z. omega arith)
 target : (c : tie.After-flow-by) (g : Flow) → c .flow-by .result ≡ g → Targets g
 target c g e =
     next-targets (mask-of c) (code-of c) (c .flow-by .result) g (flow-is c) e
-    (λ k. omega (arith, c .before .before .before .before .shared-slice-known .given k))
+    (λ k. omega (arith, c .before .before .before .shared-slice-known .given k))
 
 sub-main : (t : ProgramAddress) (moved l : ℕ) → l ≡ 0 → (t .0 * 3 + 1) ∷ (moved * 3) ∷ [] ≡ handed-on (Sub t) moved l
 sub-main t moved l e = rw (eq-eqb l 0 e) (ap (λ (n : ℕ). (t .0 * 3 + 1) ∷ n ∷ []) (plus-zero (moved * 3)))
@@ -83,17 +84,17 @@ in-main x y l e = rw (eq-eqb l 0 e) refl
 above : {A : Type 0} (x y : A) (l : ℕ) → (l ≡ 0 → ⊥) → pick (eqb l 0) x y ≡ y
 above x y l n = rw (ne-eqb l 0 n) refl
 
-mul-t21 : tie.Need-mul-t21
-mul-t21 c = let t = c .before .before .flow .given in let h = target (c .before .before .before .before) (Jump (t .0 .0)) (t .1) in omega arith
+mul-t19 : tie.Need-mul-t19
+mul-t19 c = let t = c .before .before .flow .given in let h = target (c .before .before .before .before) (Jump (t .0 .0)) (t .1) in omega arith
 
-add-t22 : tie.Need-add-t22
-add-t22 c = let t = c .before .before .flow .given in let h = target (c .before .before .before .before) (Jump (t .0 .0)) (t .1) in omega arith
+add-t20 : tie.Need-add-t20
+add-t20 c = let t = c .before .before .flow .given in let h = target (c .before .before .before .before) (Jump (t .0 .0)) (t .1) in omega arith
 
-mul-t33 : tie.Need-mul-t33
-mul-t33 c = let t = c .before .before .before .flow3 .given in let h = target (c .before .before .before .before .before) (Sub (t .0 .0)) (t .1) in omega arith
+mul-t31 : tie.Need-mul-t31
+mul-t31 c = let t = c .before .before .before .flow3 .given in let h = target (c .before .before .before .before .before) (Sub (t .0 .0)) (t .1) in omega arith
 
-add-t34 : tie.Need-add-t34
-add-t34 c = let t = c .before .before .before .flow3 .given in let h = target (c .before .before .before .before .before) (Sub (t .0 .0)) (t .1) in omega arith
+add-t32 : tie.Need-add-t32
+add-t32 c = let t = c .before .before .before .flow3 .given in let h = target (c .before .before .before .before .before) (Sub (t .0 .0)) (t .1) in omega arith
 
 -- no instruction
 returns : tie.Need-returns
@@ -163,9 +164,8 @@ pub next-codes-spec : {M : Type 1} → statement M
 next-codes-spec =
     tie.close
     (tie.spec
-    (λ c κs. search needs) (λ c. search needs) (λ c κs. search needs) (λ c κs. search needs) (λ c κs. search needs) (λ c. search needs)
-    (λ c. search needs) (λ c κs. search needs) (λ c. search needs) (λ c. search needs) (λ c. search needs) (λ c κs. search needs)
-    (λ c. search needs) (λ c. search needs) (λ c. search needs) mul-t21 add-t22 (λ c. search needs) (λ c κs. search needs)
+    (λ c κs. search needs) (λ c κs. search needs) (λ c κs. search needs) (λ c. search needs) (λ c. search needs) (λ c κs. search needs) (λ c. search needs) (λ c. search needs) (λ c. search needs) (λ c κs. search needs)
+    (λ c. search needs) (λ c. search needs) (λ c. search needs) mul-t19 add-t20 (λ c. search needs) (λ c κs. search needs)
     (λ c. search needs) (λ c. search needs) (λ c. search needs) (λ c. search needs) (λ c. search needs) (λ c. search needs)
-    (λ c. search needs) mul-t33 add-t34 (λ c κs. search needs) (λ c. search needs) (λ c. search needs)
+    (λ c. search needs) mul-t31 add-t32 (λ c κs. search needs) (λ c. search needs) (λ c. search needs)
     returns returns-2 returns-3 returns-4 returns-5 returns-6 returns-7 returns-8 returns-9)

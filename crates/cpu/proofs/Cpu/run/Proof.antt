@@ -9,7 +9,7 @@ use Rattle.cpu.specs.State.{State, state}
 use Rattle.cpu.specs.Step.{step}
 use Rattle.cpu.specs.Gap.{straysBy, straysIn}
 use Rattle.cpu.proofs.Steps.{halted-stops, fault-stops}
-use Rattle.cpu.specs.Run.{ran}
+use Rattle.cpu.specs.Run.{ran, yielded}
 use Rattle.cpu.proofs.Runs.{ran-stopped, ran-next}
 use Rattle.cpu.proofs.Strays.{halted-counts-none, fault-counts-none, stopped-counts-none, next-counts}
 use Rattle.cpu.proofs.Cpu.run.Statement.{statement}
@@ -25,7 +25,7 @@ abbrev μ-loop : tie.MeasureT-loop
 μ-loop mask memory₀ steps gap₀ current₀ left₀ memory gap current left = left
 
 none : (mask : List ℕ) (n : ℕ) (s : State) (count : ℕ) → n ≤ 0 → (s ≡ ran mask n s) × (count ≡ tallied count (straysIn mask n s))
-unfolding ran straysIn tallied
+unfolding ran yielded tallied
 none mask zero s count h = (refl, refl)
 none mask (suc n) s count h = absurd (omega arith)
 

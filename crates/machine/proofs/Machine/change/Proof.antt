@@ -24,14 +24,14 @@ returns : tie.Need-returns
 unfolding applied
 returns c mask no-run no-res =
     let a = c .before .before .before .before .before .args in
-    refused (c .before .refusal .result) {k = refusalOf mask (a .event) (a .t1)} (happened mask (a .event) (a .t1)) (a .t1) (c .if1 .taken) (c .before .refusal .ensures mask (a .t1 .gap) (unmasked mask (a .event) no-run))
+    refused (c .before .refusal .result) {k = refusalOf mask (a .event) (a .t1)} (happened mask (a .event) (a .t1)) (a .t1) (c .if1 .taken) (c .before .refusal .ensures mask (a .t1 .trace) (unmasked mask (a .event) no-run))
 
 returns-2 : tie.Need-returns-2
 unfolding applied
 returns-2 c mask no-run no-res =
     let r = c .before .before .before in
     let a = r .before .before .before .before .args in
-    done (r .refusal .result) {k = refusalOf mask (a .event) (a .t1)} (happened mask (a .event) (a .t1)) (a .t1) (c .before .before .if1 .left) (r .refusal .ensures mask (a .t1 .gap) (unmasked mask (a .event) no-run)) (c .changed .ensures mask (a .t1 .memory) (a .t1 .gap) no-run no-res)
+    done (r .refusal .result) {k = refusalOf mask (a .event) (a .t1)} (happened mask (a .event) (a .t1)) (a .t1) (c .before .before .if1 .left) (r .refusal .ensures mask (a .t1 .trace) (unmasked mask (a .event) no-run)) (c .changed .ensures mask (a .t1 .memory) (a .t1 .trace) no-run no-res)
 
 pub change-spec : {M : Type 1} → statement M
 change-spec = tie.close (tie.spec (λ c κs. search needs) returns (λ c κs. search needs) returns-2)

@@ -1,6 +1,7 @@
 -- `machine::Machine::report` meets its contract: each return rewrites with the tests that led there. Assumes nothing.
 use mathlib.Core.Path.{refl, sym, ap, _∙_}
 use borrow.Author.Tests.{eq-eqb, ne-eqb}
+use Rattle.machine.specs.Machine.{noTrace}
 use Rattle.machine.specs.Report.{report, reporting}
 use borrow.Author.Needs.{needs}
 use Rattle.machine.proofs.Machine.report.Statement.{statement}
@@ -14,7 +15,7 @@ returns-2 : tie.Need-returns-2
 unfolding report
 returns-2 c =
     let s = c .before .before .before .before .before .before .before .before in
-    ap (reporting 0) (c .before .before .write-report .ensures 0) ∙ rw (eq-eqb _ 48 (s .before .before .before .before .if1 .left), sym (s .sound .ensures) ∙ c .before .before .before .before .before .before .before .if2 .taken) refl
+    ap (reporting 0) (c .before .before .write-report .ensures noTrace) ∙ rw (eq-eqb _ 48 (s .before .before .before .before .if1 .left), sym (s .sound .ensures) ∙ c .before .before .before .before .before .before .before .if2 .taken) refl
 
 returns-3 : tie.Need-returns-3
 unfolding report

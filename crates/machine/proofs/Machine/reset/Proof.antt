@@ -12,8 +12,10 @@ returns : tie.Need-returns
 unfolding happened maskOk valuesOk refusalOf applied
 returns c =
     let m = c .before .before .before .before .before .before .before .args .t1 in
-    ap (λ (k : Cpu). record { machine = machineOf (state k (m .memory)) (m .gap); refusal = 0 }) (c .reset-cpu .ensures)
-    ∙ rw (sym (c .before .before .before .sound .ensures) ∙ c .before .before .if1 .taken) refl
+    let next = c .reset-cpu in
+    let in-range = sym (c .before .before .before .sound .ensures) ∙ c .before .before .if1 .taken in
+    ap (λ (k : Cpu). record { machine = machineOf (state k (m .memory)) (m .trace); refusal = 0 }) (next .ensures)
+    ∙ rw in-range refl
 
 returns-2 : tie.Need-returns-2
 unfolding happened maskOk valuesOk refusalOf applied

@@ -6,6 +6,7 @@ use types.Run.{OneOf, miss}
 use denote.Enum.Declared.{tagOf}
 use Rattle.cpu.specs.declared.Cpu.{Cpu}
 use Rattle.cpu.specs.State.{state}
+use Rattle.machine.specs.declared.Trace.{Trace}
 use Rattle.machine.specs.declared.events.Event.{Event}
 use Rattle.machine.specs.declared.events.Event.the-variants.{Run, Pins, Int, Tmclk, Res}
 use Rattle.machine.proofs.events.Event.{the-type}
@@ -16,9 +17,9 @@ use Rattle.machine.proofs.events.changed.Statement.{statement}
 use Rattle.machine.proofs.events.changed.Tie as tie
 
 -- what an arm makes of the processor, at the arm's event
-at : (mask memory : List ℕ) (gap : ℕ) (cpu : Cpu) {e k : Event} {r n : Cpu} → r ≡ n → machineOf (state n memory) gap ≡ happened mask k (machineOf (state cpu memory) gap) → e ≡ k
-    → machineOf (state r memory) gap ≡ happened mask e (machineOf (state cpu memory) gap)
-at mask memory gap cpu p h q = ap (λ (k : Cpu). machineOf (state k memory) gap) p ∙ h ∙ sym (ap (λ (e : Event). happened mask e (machineOf (state cpu memory) gap)) q)
+at : (mask memory : List ℕ) (t : Trace) (cpu : Cpu) {e k : Event} {r n : Cpu} → r ≡ n → machineOf (state n memory) t ≡ happened mask k (machineOf (state cpu memory) t) → e ≡ k
+    → machineOf (state r memory) t ≡ happened mask e (machineOf (state cpu memory) t)
+at mask memory t cpu p h q = ap (λ (k : Cpu). machineOf (state k memory) t) p ∙ h ∙ sym (ap (λ (e : Event). happened mask e (machineOf (state cpu memory) t)) q)
 
 -- the last arm is Run's and RES's
 abbrev others : List ℕ
@@ -33,18 +34,18 @@ neither Res h no-run no-res = no-res refl
 
 returns : tie.Need-returns
 unfolding happened
-returns c mask memory gap no-run no-res = at mask memory gap _ (c .pinned .ensures) refl (c .before .before .event .given .1)
+returns c mask memory t no-run no-res = at mask memory t _ (c .pinned .ensures) refl (c .before .before .event .given .1)
 
 returns-2 : tie.Need-returns-2
 unfolding happened
-returns-2 c mask memory gap no-run no-res = at mask memory gap _ (c .interrupted .ensures) refl (c .before .before .event2 .given .1)
+returns-2 c mask memory t no-run no-res = at mask memory t _ (c .interrupted .ensures) refl (c .before .before .event2 .given .1)
 
 returns-3 : tie.Need-returns-3
 unfolding happened
-returns-3 c mask memory gap no-run no-res = at mask memory gap _ (c .counting .ensures) refl (c .before .before .event3 .given .1)
+returns-3 c mask memory t no-run no-res = at mask memory t _ (c .counting .ensures) refl (c .before .before .event3 .given .1)
 
 returns-4 : tie.Need-returns-4
-returns-4 c mask memory gap no-run no-res = absurd (neither (c .before .args .event) (c .match .keys4) no-run no-res)
+returns-4 c mask memory t no-run no-res = absurd (neither (c .before .args .event) (c .match .keys4) no-run no-res)
 
 pub changed-spec : {M : Type 1} → statement M
 changed-spec =

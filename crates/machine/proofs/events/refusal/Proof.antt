@@ -7,15 +7,15 @@ use Rattle.machine.proofs.events.refusal.Tie as tie
 
 returns : tie.Need-returns
 unfolding refusalOf
-returns c mask count m = rw (m, sym (c .before .before .before .values-ok .ensures) ∙ c .before .before .if1 .taken, sym (c .before .sound .ensures) ∙ c .if2 .taken) refl
+returns c mask t m = rw (m, sym (c .before .before .before .values-ok .ensures) ∙ c .before .before .if1 .taken, sym (c .before .sound .ensures) ∙ c .if2 .taken) refl
 
 returns-2 : tie.Need-returns-2
 unfolding refusalOf
-returns-2 c mask count m = rw (m, sym (c .before .before .before .values-ok .ensures) ∙ c .before .before .if1 .taken, sym (c .before .sound .ensures) ∙ c .if2 .left) refl
+returns-2 c mask t m = rw (m, sym (c .before .before .before .values-ok .ensures) ∙ c .before .before .if1 .taken, sym (c .before .sound .ensures) ∙ c .if2 .left) refl
 
 returns-3 : tie.Need-returns-3
 unfolding refusalOf
-returns-3 c mask count m = rw (m, sym (c .before .values-ok .ensures) ∙ c .if1 .left) refl
+returns-3 c mask t m = rw (m, sym (c .before .values-ok .ensures) ∙ c .if1 .left) refl
 
 pub refusal-spec : {M : Type 1} → statement M
 refusal-spec = tie.close (tie.spec (λ c κs. search needs) (λ c κs. search needs) returns returns-2 returns-3)

@@ -9,12 +9,13 @@ use lib.Seq.{getD-drop}
 use Rattle.machine.proofs.Fill.{fill-more, fill-all}
 use Rattle.machine.proofs.power.image_memory.Statement.{statement}
 use Rattle.machine.proofs.power.image_memory.Tie as tie
+use Rattle.datapath.specs.Memory.{memorySize}
 
 abbrev Inv-loop : tie.InvT-loop
-Inv-loop image memory₀ i₀ memory i = (i ≤ 160) × (length memory ≡ 160) × (take i memory ≡ take i (drop 6 image))
+Inv-loop image memory₀ i₀ memory i = (i ≤ memorySize) × (length memory ≡ memorySize) × (take i memory ≡ take i (drop 6 image))
 
 abbrev μ-loop : tie.MeasureT-loop
-μ-loop image memory₀ i₀ memory i = 160 - i
+μ-loop image memory₀ i₀ memory i = memorySize - i
 
 -- a nibble of the image after its first six
 from : (image : List ℕ) (i : ℕ) → getD image (i + 6) 0 ≡ getD (drop 6 image) i 0
@@ -24,7 +25,7 @@ from image i = ap (λ (k : ℕ). getD image k 0) (swap i) ∙ sym (getD-drop 6 i
     swap i = omega arith
 
 loop-holds : tie.Need-loop-holds Inv-loop μ-loop
-loop-holds c = (omega arith, length-replicate {A = ℕ} 160 0, refl)
+loop-holds c = (omega arith, length-replicate {A = ℕ} memorySize 0, refl)
 
 loop-again : tie.Need-loop-again Inv-loop μ-loop
 loop-again c =

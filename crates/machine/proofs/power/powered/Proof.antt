@@ -4,7 +4,7 @@ use mathlib.Core.Path.{ap₂}
 use mathlib.Core.List.{List}
 use Rattle.cpu.specs.declared.Cpu.{Cpu}
 use Rattle.cpu.specs.State.{state}
-use Rattle.machine.specs.Machine.{machineOf}
+use Rattle.machine.specs.Machine.{machineOf, noTrace}
 use Rattle.machine.specs.Power.{powered}
 use borrow.Author.Needs.{needs}
 use Rattle.machine.proofs.power.powered.Statement.{statement}
@@ -12,7 +12,7 @@ use Rattle.machine.proofs.power.powered.Tie as tie
 
 returns : tie.Need-returns
 unfolding powered
-returns c = ap₂ (λ (k : Cpu) (m : List ℕ). machineOf (state k m) 0) (c .after-res .ensures) (c .before .before .before .before .before .before .before .image-memory .ensures)
+returns c = ap₂ (λ (k : Cpu) (m : List ℕ). machineOf (state k m) noTrace) (c .started .ensures) (c .before .before .before .before .before .before .before .image-memory .ensures)
 
 pub powered-spec : {M : Type 1} → statement M
 powered-spec =

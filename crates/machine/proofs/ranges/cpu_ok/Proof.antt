@@ -3,7 +3,7 @@ use Prim.Native.Nat.{_^_}
 use mathlib.Core.Path.{_≡_, ap₂, _∙_}
 use mathlib.Core.Bool.{Bool, _&&_}
 use native.Mathlib.Omega.{arith}
-use Rattle.machine.proofs.Grouped.{small, flags, addresses, others, grouped}
+use Rattle.machine.proofs.Grouped.{small, flags, others, grouped}
 use borrow.Author.Needs.{needs}
 use Rattle.machine.proofs.ranges.cpu_ok.Statement.{statement}
 use Rattle.machine.proofs.ranges.cpu_ok.Tie as tie

@@ -11,10 +11,11 @@ use Rattle.cpu.specs.State.{state}
 use borrow.Author.Needs.{needs}
 use Rattle.machine.proofs.ranges.sound.Statement.{statement}
 use Rattle.machine.proofs.ranges.sound.Tie as tie
+use Rattle.datapath.specs.Memory.{memorySize}
 
-met : (k : Cpu) (m : List ℕ) (x y : Bool) {b : Bool} → b ≡ x && y → x ≡ cpuOk k → y ≡ nibbles m → length m ≡ 160 → b ≡ valid (state k m)
+met : (k : Cpu) (m : List ℕ) (x y : Bool) {b : Bool} → b ≡ x && y → x ≡ cpuOk k → y ≡ nibbles m → length m ≡ memorySize → b ≡ valid (state k m)
 unfolding valid memoryOk
-met k m x y e p q l = e ∙ ap₂ (λ (x y : Bool). x && y) p q ∙ rw (eq-eqb (length m) 160 l) refl
+met k m x y e p q l = e ∙ ap₂ (λ (x y : Bool). x && y) p q ∙ rw (eq-eqb (length m) memorySize l) refl
 
 returns : tie.Need-returns
 returns c =

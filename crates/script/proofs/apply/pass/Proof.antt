@@ -5,7 +5,7 @@ use mathlib.Core.List.{List}
 use borrow.Author.Tests.{eq-eqb}
 use Rattle.cpu.specs.State.{state}
 use Rattle.cpu.specs.declared.Options.{Options}
-use Rattle.machine.specs.Machine.{machineOf}
+use Rattle.machine.specs.Machine.{machineOf, traceOf}
 use Rattle.machine.specs.Power.{powerOn, powered, powerRefusal}
 use Rattle.machine.specs.Events.{answerTo}
 use Rattle.machine.specs.declared.Machine.{Machine}
@@ -29,18 +29,18 @@ pass-named-requires : tie.Need-pass-named-requires
 pass-named-requires c κs =
     let s = c .before .before .before .before .before .before in
     let a = s .args in
-    sym (ap (λ (i : Record). answerTo (a .mask .now) (inputOf i) (machineOf (state (a .cpu) (a .memory .now)) (a .gap .now)) .refusal) (c .before .before .before .input2 .given .1)) ∙ s .pre
+    sym (ap (λ (i : Record). answerTo (a .mask .now) (inputOf i) (machineOf (state (a .cpu) (a .memory .now)) (traceOf (a .gap .now))) .refusal) (c .before .before .before .input2 .given .1)) ∙ s .pre
 
 returns : tie.Need-returns
 returns c =
     let s = c .before .before .before .before .before .before .before in
     let a = s .args in
-    power (a .mask .now) (machineOf (state (a .cpu) (a .memory .now)) (a .gap .now)) _ _ (s .pre) (c .filled .ensures) (c .before .before .before .before .input .given .1)
+    power (a .mask .now) (machineOf (state (a .cpu) (a .memory .now)) (traceOf (a .gap .now))) _ _ (s .pre) (c .filled .ensures) (c .before .before .before .before .input .given .1)
 
 returns-2 : tie.Need-returns-2
 returns-2 c =
     let a = c .before .before .before .before .before .before .before .args in
-    c .pass-named .ensures ∙ sym (ap (λ (i : Record). next (a .mask .now) (inputOf i) (machineOf (state (a .cpu) (a .memory .now)) (a .gap .now))) (c .before .before .before .before .input2 .given .1))
+    c .pass-named .ensures ∙ sym (ap (λ (i : Record). next (a .mask .now) (inputOf i) (machineOf (state (a .cpu) (a .memory .now)) (traceOf (a .gap .now)))) (c .before .before .before .before .input2 .given .1))
 
 pub pass-spec : {M : Type 1} → statement M
 pass-spec = tie.close (tie.spec (λ c. search needs) (λ c κs. search needs) (λ c. search needs) pass-named-requires returns returns-2)

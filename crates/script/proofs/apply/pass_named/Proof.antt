@@ -7,7 +7,7 @@ use lib.Dec.{eqb}
 use borrow.Author.Tests.{eq-eqb}
 use Rattle.isa.specs.Choice.{pick}
 use Rattle.cpu.specs.State.{state}
-use Rattle.machine.specs.Machine.{machineOf}
+use Rattle.machine.specs.Machine.{machineOf, traceOf}
 use Rattle.machine.specs.Events.{applied, happened, namedAnswer, refusalOf}
 use Rattle.machine.specs.declared.Machine.{Machine}
 use Rattle.machine.specs.declared.events.Event.{Event}
@@ -36,12 +36,12 @@ returns : tie.Need-returns
 returns c =
     let s = c .before .before .before .before .before .before .before in
     let a = s .args in
-    known (a .mask .now) (machineOf (state (a .cpu) (a .memory .now)) (a .gap .now)) _ (s .pre) (c .happened .ensures) (c .before .before .before .before .named .given .1)
+    known (a .mask .now) (machineOf (state (a .cpu) (a .memory .now)) (traceOf (a .gap .now))) _ (s .pre) (c .happened .ensures) (c .before .before .before .before .named .given .1)
 
 returns-2 : tie.Need-returns-2
 returns-2 c =
     let a = c .before .before .before .args in
-    unknown (a .mask .now) (machineOf (state (a .cpu) (a .memory .now)) (a .gap .now)) (c .enum-told .given .1)
+    unknown (a .mask .now) (machineOf (state (a .cpu) (a .memory .now)) (traceOf (a .gap .now))) (c .enum-told .given .1)
 
 pub pass-named-spec : {M : Type 1} → statement M
 pass-named-spec = tie.close (tie.spec (λ c. search needs) (λ c κs. search needs) (λ c. search needs) returns returns-2)

@@ -22,11 +22,11 @@ into : (at : ℕ) (out r : List ℕ) {ys : List ℕ} → at + 48 ≤ length out
 into at out r h e = e ∙ rw (eq-eqb _ 48 (whole at out h)) refl
 
 returns : tie.Need-returns
-returns c count =
+returns c t =
     let a = c .before .before .before .before .before .args in
     let out = a .out .now in
     ap₂ (λ (ys zs : List ℕ). take (a .at) out ++ (ys ++ zs))
-    (into (a .at) out _ (search needs) (c .before .before .write-report .ensures count))
+    (into (a .at) out _ (search needs) (c .before .before .write-report .ensures t))
     (post-is (a .at) (a .at + 48) out (omega arith))
 
 pub put-report-spec : {M : Type 1} → statement M

@@ -5,7 +5,7 @@ use native.Mathlib.Omega.{arith}
 use lib.ListN.{length}
 use borrow.Author.Needs.{needs}
 use Rattle.cpu.specs.State.{state}
-use Rattle.machine.specs.Machine.{machineOf}
+use Rattle.machine.specs.Machine.{machineOf, traceOf}
 use Rattle.machine.specs.Events.{Input, answerTo}
 use Rattle.machine.specs.declared.Machine.{Machine}
 use Rattle.script.specs.Reports.{next}
@@ -14,7 +14,7 @@ use Rattle.script.proofs.apply.put_reports.Statement.{statement}
 use Rattle.script.proofs.apply.put_reports.Tie as tie
 
 abbrev Inv-loop : tie.InvT-loop
-Inv-loop mask script out₀ at₀ done₀ cpu₀ memory₀ gap₀ out at done cpu memory gap = Held mask script out₀ out at done (machineOf (state cpu memory) gap)
+Inv-loop mask script out₀ at₀ done₀ cpu₀ memory₀ gap₀ out at done cpu memory gap = Held mask script out₀ out at done (machineOf (state cpu memory) (traceOf gap))
 
 abbrev μ-loop : tie.MeasureT-loop
 μ-loop mask script out₀ at₀ done₀ cpu₀ memory₀ gap₀ out at done cpu memory gap = length script - at
@@ -33,8 +33,8 @@ pass-requires c κs =
     let start = l .before .before .before .before .before .before .before in
     let a = start .args in
     let h = c .before .before .before .loop-test .taken in
-    ap (λ (i : Input). answerTo (a .mask .now) i (machineOf (state (x .cpu) (x .memory)) (x .gap)) .refusal) (c .before .before .record-at .ensures)
-    ∙ well (a .mask .now) (a .script .now) (a .out .now) (x .out) (x .at) (x .done) (machineOf (state (x .cpu) (x .memory)) (x .gap)) (x .inv) h
+    ap (λ (i : Input). answerTo (a .mask .now) i (machineOf (state (x .cpu) (x .memory)) (traceOf (x .gap))) .refusal) (c .before .before .record-at .ensures)
+    ∙ well (a .mask .now) (a .script .now) (a .out .now) (x .out) (x .at) (x .done) (machineOf (state (x .cpu) (x .memory)) (traceOf (x .gap))) (x .inv) h
 
 put-report-requires : tie.Need-put-report-requires Inv-loop μ-loop
 put-report-requires c κs =
@@ -43,7 +43,7 @@ put-report-requires c κs =
     let start = l .before .before .before .before .before .before .before in
     let a = start .args in
     let h = c .before .before .before .before .before .before .before .loop-test .taken in
-    fits (a .mask .now) (a .script .now) (a .out .now) (x .out) (x .at) (x .done) (machineOf (state (x .cpu) (x .memory)) (x .gap)) (x .inv) h
+    fits (a .mask .now) (a .script .now) (a .out .now) (x .out) (x .at) (x .done) (machineOf (state (x .cpu) (x .memory)) (traceOf (x .gap))) (x .inv) h
 
 add-at : tie.Need-add-at Inv-loop μ-loop
 add-at c =
@@ -70,7 +70,7 @@ add-done c =
     let start = l .before .before .before .before .before .before .before in
     let a = start .args in
     let h = c .before .before .before .before .before .before .before .before .before .before .loop-test .taken in
-    let f = fits (a .mask .now) (a .script .now) (a .out .now) (x .out) (x .at) (x .done) (machineOf (state (x .cpu) (x .memory)) (x .gap)) (x .inv) h in
+    let f = fits (a .mask .now) (a .script .now) (a .out .now) (x .out) (x .at) (x .done) (machineOf (state (x .cpu) (x .memory)) (traceOf (x .gap))) (x .inv) h in
     omega (arith, f, x .inv .size, start .good)
 
 loop-less : tie.Need-loop-less Inv-loop μ-loop
@@ -89,12 +89,12 @@ loop-again c =
     let start = l .before .before .before .before .before .before .before in
     let a = start .args in
     let h = c .before .before .before .before .before .before .before .before .before .before .loop-test .taken in
-    let m = machineOf (state (x .cpu) (x .memory)) (x .gap) in
+    let m = machineOf (state (x .cpu) (x .memory)) (traceOf (x .gap)) in
     let p = c .before .before .before .before .before .before .pass in
-    let after = machineOf (state (p .result) (p .last .1 .1 .1 .0)) (p .last .1 .1 .1 .1 .0) in
+    let after = machineOf (state (p .result) (p .last .1 .1 .1 .0)) (traceOf (p .last .1 .1 .1 .1 .0)) in
     let out = c .before .before .put-report .last .1 .1 .0 in
     subst (λ (n : ℕ). Held (a .mask .now) (a .script .now) (a .out .now) out (x .at + 4 + n) (x .done + 48) after) (sym (c .before .before .before .before .before .size-at .ensures .0))
-    (turns (a .mask .now) (a .script .now) (a .out .now) (x .out) (x .at) (x .done) (machineOf (state (x .cpu) (x .memory)) (x .gap)) (x .inv) h after out (p .ensures ∙ ap (λ (i : Input). next (a .mask .now) i m) (c .before .before .before .before .before .before .before .before .before .record-at .ensures)) (c .before .before .put-report .ensures (p .last .1 .1 .1 .1 .0)))
+    (turns (a .mask .now) (a .script .now) (a .out .now) (x .out) (x .at) (x .done) (machineOf (state (x .cpu) (x .memory)) (traceOf (x .gap))) (x .inv) h after out (p .ensures ∙ ap (λ (i : Input). next (a .mask .now) i m) (c .before .before .before .before .before .before .before .before .before .record-at .ensures)) (c .before .before .put-report .ensures (traceOf (p .last .1 .1 .1 .1 .0))))
 
 same-length : tie.Need-same-length Inv-loop μ-loop
 same-length c = c .before .loop .inv .size
@@ -104,7 +104,7 @@ returns c =
     let l = c .before in
     let x = l .loop in
     let a = l .before .before .before .before .before .before .before .args in
-    ends (a .mask .now) (a .script .now) (a .out .now) (x .out) (x .at) (x .done) (machineOf (state (x .cpu) (x .memory)) (x .gap)) (x .inv) (c .loop-test .left)
+    ends (a .mask .now) (a .script .now) (a .out .now) (x .out) (x .at) (x .done) (machineOf (state (x .cpu) (x .memory)) (traceOf (x .gap))) (x .inv) (c .loop-test .left)
 
 pub put-reports-spec : {M : Type 1} → statement M
 put-reports-spec =

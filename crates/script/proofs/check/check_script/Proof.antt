@@ -5,6 +5,7 @@ use mathlib.Core.Path.{_≡_, sym, _∙_}
 use mathlib.Core.List.{List}
 use native.Mathlib.Omega.{arith}
 use borrow.Author.Needs.{needs}
+use borrow.Author.Tests.{not-true, not-false}
 use Rattle.script.specs.Check.{checked}
 use Rattle.script.specs.declared.Checked.{Checked}
 use Rattle.script.proofs.Checks.{
@@ -39,7 +40,7 @@ From c stage = checked (c .args .mask .now) (c .args .script .now) (c .args .roo
 
 -- the entry, from the place past each test
 abbrev start1 : tie.Else1 → tie.Start
-start1 c = c .before .before .before
+start1 c = c .before .before .before .before
 
 abbrev start2 : tie.Else2 → tie.Start
 start2 c = start1 (c .before)
@@ -59,7 +60,7 @@ start6 c = start5 (c .before .before .before)
 past1 : (c : tie.Else1) → From (start1 c) after1
 past1 c =
     let a = start1 c .args in
-    pass1 (a .mask .now) (a .script .now) (a .room) (c .if1 .left)
+    pass1 (a .mask .now) (a .script .now) (a .room) (sym (c .before .mask-ok .ensures) ∙ not-false _ (c .if1 .left))
 
 past6 : (c : tie.Else2) → From (start2 c) after6
 past6 c =
@@ -88,8 +89,8 @@ past4 c =
 
 returns : tie.Need-returns
 returns c =
-    let a = c .before .before .before .args in
-    sym (stop1 (a .mask .now) (a .script .now) (a .room) (c .if1 .taken))
+    let a = c .before .before .before .before .args in
+    sym (stop1 (a .mask .now) (a .script .now) (a .room) (sym (c .before .mask-ok .ensures) ∙ not-true _ (c .if1 .taken)))
 
 returns-2 : tie.Need-returns-2
 returns-2 c =
@@ -137,5 +138,5 @@ pub check-script-spec : {M : Type 1} → statement M
 check-script-spec =
     tie.close
     (tie.spec
-    returns returns-2 (λ c κs. search needs) returns-3 (λ c κs. search needs) returns-4 (λ c κs. search needs) returns-5
+    (λ c κs. search needs) returns returns-2 (λ c κs. search needs) returns-3 (λ c κs. search needs) returns-4 (λ c κs. search needs) returns-5
     (λ c κs. search needs) returns-6 (λ c κs. search needs) mul-if7 returns-7 returns-8)
