@@ -1,7 +1,9 @@
 #!/usr/bin/env python3
-"""Tests of wrong_lock.py: what the hash goes by, what fails of a record, and that the four parts are all runs, each once; and of
-edit_names.py: which names of an edit are in sight."""
+"""Tests of wrong_lock.py: what the hash goes by, what fails of a record, and that the four parts are all runs, each once; of edit_names.py:
+which names of an edit are in sight; and of wrong_answers: which errors show that a fact no longer holds."""
 
+import importlib.machinery
+import importlib.util
 import os
 import shutil
 import tempfile
@@ -9,6 +11,10 @@ import unittest
 
 import edit_names
 import wrong_lock
+
+TOOL = importlib.machinery.SourceFileLoader("wrong_answers", os.path.join(os.path.dirname(os.path.abspath(__file__)), os.pardir, "wrong_answers"))
+wrong_answers = importlib.util.module_from_spec(importlib.util.spec_from_loader(TOOL.name, TOOL))
+TOOL.exec_module(wrong_answers)
 
 
 def put(top, path, text):
@@ -102,6 +108,29 @@ class Names(unittest.TestCase):
         self.assertEqual(self.strangers(("length xs", "lenght xs")), ["lenght"])
         self.assertEqual(self.strangers(("length xs", "sums xs")), ["sums"])  # in a comment alone
         self.assertEqual(self.strangers(("w.size", "w.size_that_no_crate_has"), file="src/lib.rt"), ["size_that_no_crate_has"])
+
+
+class Errors(unittest.TestCase):
+    IDLE = (
+        "`f-spec`: `returns` was not admitted (it has holes)",
+        "`returns`: record `Rattle.a.proofs.f.Lts.After-g` has no field `args`",
+        "module `Rattle.a.proofs.f` has no `Tie` that can be named from here",
+        "`returns`: module `Rattle.a.proofs.f.Tie` has no `Need-returns`",
+        "`returns`: `drop` is not in scope",
+        "`f-spec`: expected type `tie.Need-returns`, but this has type `tie.Need-cast`",
+    )
+    TELLING = (
+        "`returns`: as printed, the two types differ only where one has `1` (expected) and the other has `2` (found)",
+        "`fits`: `omega`: the goal does not follow from what it read",
+        "`f-spec`: computed as far as they go, the two types are `a < 16` (expected) and `a < 17` (found)",
+    )
+
+    def test_idle(self):
+        self.assertEqual(wrong_answers.telling([("proofs/f/Proof.antt", 1, message) for message in self.IDLE]), [])
+
+    def test_telling(self):
+        errors = [("proofs/f/Proof.antt", 1, message) for message in self.TELLING]
+        self.assertEqual(wrong_answers.telling(errors), errors)
 
 
 if __name__ == "__main__":

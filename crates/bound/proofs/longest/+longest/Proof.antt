@@ -50,24 +50,26 @@ module _ (mask : List ℕ) (a : ℕ) (code : Code) (e : ℕ) (p : code ≡ codeA
   moves : movedBy (e / 16) a ≡ movedFrom mask a
   moves = ap (λ (n : ℕ). movedBy n a) (ap (λ (n : ℕ). n / 16) entry-there ∙ length-entry mask a)
 
+-- what is asked and learnt of each function that is called, itself where the measure falls
+abbrev claims : ℕ → lts.Claims
+claims t = (
+  code-at-reads.Asked,
+  code-at-reads.Learnt,
+  entry-reads.Asked,
+  entry-reads.Learnt,
+  ways-by-reads.Asked,
+  ways-by-reads.Learnt,
+  settle-reads.Asked,
+  settle-reads.Learnt,
+  below t,
+  longest.Post,
+  larger-reads.Asked,
+  larger-reads.Learnt,
+)
+
 -- where the ways of the address are known
 abbrev Here : ℕ → Type 0
-Here t =
-    lts.After-ways-by (
-      code-at-reads.Asked,
-      code-at-reads.Learnt,
-      entry-reads.Asked,
-      entry-reads.Learnt,
-      ways-by-reads.Asked,
-      ways-by-reads.Learnt,
-      settle-reads.Asked,
-      settle-reads.Learnt,
-      below t,
-      longest.Post,
-      larger-reads.Asked,
-      larger-reads.Learnt,
-    )
-    (at t) longest.Post
+Here t = lts.After-ways-by (claims t) (at t) longest.Post
 
 module _ (t : ℕ) (c : Here t) where
   stands-here : let s = c .before .before .before .before .before .before in StandsAt (s .args .mask .now) (s .args .address) (c .ways-by .result)
@@ -89,21 +91,7 @@ module _ (t : ℕ) (c : Here t) where
 
 pub +longest-spec : {M : Type 1} → statement M
 +longest-spec = close μ
-    (λ t. lts.spec (
-      code-at-reads.Asked,
-      code-at-reads.Learnt,
-      entry-reads.Asked,
-      entry-reads.Learnt,
-      ways-by-reads.Asked,
-      ways-by-reads.Learnt,
-      settle-reads.Asked,
-      settle-reads.Learnt,
-      below t,
-      longest.Post,
-      larger-reads.Asked,
-      larger-reads.Learnt,
-    )
-    (at t) longest.Post
+    (λ t. lts.spec (claims t) (at t) longest.Post
     (λ c. search needs)
     (λ c. search needs)
     -- an address that is known
