@@ -15,14 +15,14 @@ use Rattle.isa.specs.declared.Condition.{Condition}
 use Rattle.isa.specs.declared.Instruction.{Instruction}
 use Rattle.isa.specs.declared.Instruction.TheVariants as I
 use Rattle.isa.proofs.Arms.{NoneOf}
-use Rattle.abi.specs.Answers.{writingOf}
-use Rattle.abi.specs.Forms.{one, nothing, listed, conditions, branchNamed, Form, choice, meant, forms, named}
+use Rattle.abi.specs.Answers.{writing_of}
+use Rattle.abi.specs.Forms.{one, nothing, listed, conditions, branch_named, Form, choice, meant, forms, named}
 
-pub at : (form k a b : ℕ) → form ≡ k → writingOf k a b ≡ writingOf form a b
-at form k a b e = ap (λ (n : ℕ). writingOf n a b) (sym e)
+pub at : (form k a b : ℕ) → form ≡ k → writing_of k a b ≡ writing_of form a b
+at form k a b e = ap (λ (n : ℕ). writing_of n a b) (sym e)
 
-pub at_both : (form k a n b : ℕ) → form ≡ k → a ≡ n → writingOf k n b ≡ writingOf form a b
-at_both form k a n b e f = ap₂ (λ (k n : ℕ). writingOf k n b) (sym e) (sym f)
+pub at_both : (form k a n b : ℕ) → form ≡ k → a ≡ n → writing_of k n b ≡ writing_of form a b
+at_both form k a n b e f = ap₂ (λ (k n : ℕ). writing_of k n b) (sym e) (sym f)
 
 -- the arms 0 to n - 1, last first
 abbrev pub counted : ℕ → List (List ℕ)
@@ -50,8 +50,8 @@ no-port f a h = no-choice (f Pm ∷ f Ps ∷ f Pp ∷ []) a h
 pub no-page : (f : Page → Instruction) (a : ℕ) → 2 ≤ a → nothing ≡ listed (f Current ∷ f F ∷ []) a
 no-page f a h = no-choice (f Current ∷ f F ∷ []) a h
 
-pub no-condition : (a b : ℕ) → 12 ≤ a → nothing ≡ branchNamed a b
-unfolding branchNamed
+pub no-condition : (a b : ℕ) → 12 ≤ a → nothing ≡ branch_named a b
+unfolding branch_named
 no-condition a b h = no-choice (map (λ (k : Condition). I.Branch (record { 0 = b }) k) conditions) a h
 
 pub no-form : (form a b : ℕ) → 60 ≤ form → nothing ≡ named form a b

@@ -1,4 +1,4 @@
--- The two tables of numbers are inverse: what `numbersOf` says of an instruction whose fields are in range, `named` takes back. The proof goes by the
+-- The two tables of numbers are inverse: what `numbers_of` says of an instruction whose fields are in range, `named` takes back. The proof goes by the
 -- cases of an instruction, and shows beside it that the numbers fit their places and that the list's length is the count of bytes. Assumes nothing.
 use Prim.Native.Nat.{ℕ, zero, suc, ◌+◌, ◌*◌, ◌/◌, ◌%◌, ◌<◌, ◌≤◌}
 use mathlib.Core.Path.{◌≡◌, refl}
@@ -8,8 +8,8 @@ use native.Mathlib.Omega.{arith}
 use lib.Dec.{ltb}
 use lib.ListN.{length}
 use borrow.Author.Tests.{lt-ltb, ltb-true}
-use Rattle.isa.specs.Code.{addresses, bytes_of, in_range, leading, bitInRange}
-use Rattle.isa.specs.Timing.{columnsOf}
+use Rattle.isa.specs.Code.{addresses, bytes_of, in_range, leading, bit_in_range}
+use Rattle.isa.specs.Timing.{columns_of}
 use Rattle.isa.specs.declared.Pointer.{Pointer}
 use Rattle.isa.specs.declared.Pointer.TheVariants.{R1R0, R3R2}
 use Rattle.isa.specs.declared.Port.TheVariants.{Pm, Ps, Pp}
@@ -18,21 +18,21 @@ use Rattle.isa.specs.declared.Condition.TheVariants.{Ja, JnzR0, JnzR1, JnzR4, Jz
 use Rattle.isa.specs.declared.Instruction.{Instruction}
 use Rattle.isa.specs.declared.Instruction.TheVariants as I
 use Rattle.isa.proofs.Exact.{and_left, and_right}
-use Rattle.abi.specs.Forms.{Named, numbersOf, one, provided, branchNamed, pairNamed, forms, named}
+use Rattle.abi.specs.Forms.{Named, numbers_of, one, provided, branch_named, pair_named, forms, named}
 
 -- a form and an operand a of a byte, an operand b of two
 abbrev pub fitting : Named → Bool
 fitting n = ltb n.form 256 && (ltb n.a 256 && ltb n.b 65536)
 
 pub record Hosted (i : Instruction) : Type 0 where
-  pub back : named (numbersOf i).form (numbersOf i).a (numbersOf i).b ≡ one i
-  pub fits : fitting (numbersOf i) ≡ true
-  pub sized : length (bytes_of i) ≡ (columnsOf i).bytes
-  pub short : (columnsOf i).bytes < 3
+  pub back : named (numbers_of i).form (numbers_of i).a (numbers_of i).b ≡ one i
+  pub fits : fitting (numbers_of i) ≡ true
+  pub sized : length (bytes_of i) ≡ (columns_of i).bytes
+  pub short : (columns_of i).bytes < 3
 
-host : {i : Instruction} → named (numbersOf i).form (numbersOf i).a (numbersOf i).b ≡ one i → fitting (numbersOf i) ≡ true
-    → (length (bytes_of i) ≡ (columnsOf i).bytes) × (ltb (columnsOf i).bytes 3 ≡ true) → Hosted i
-host {i} b f s = record { back = b; fits = f; sized = s.0; short = ltb-true (columnsOf i).bytes 3 s.1 }
+host : {i : Instruction} → named (numbers_of i).form (numbers_of i).a (numbers_of i).b ≡ one i → fitting (numbers_of i) ≡ true
+    → (length (bytes_of i) ≡ (columns_of i).bytes) × (ltb (columns_of i).bytes 3 ≡ true) → Hosted i
+host {i} b f s = record { back = b; fits = f; sized = s.0; short = ltb-true (columns_of i).bytes 3 s.1 }
 
 in-a : (d n : ℕ) → n ≤ 256 → ltb d n ≡ true → ltb d 256 && true ≡ true
 in-a d n l h = rw (lt-ltb d 256 (omega (arith, ltb-true d n h))) refl
@@ -61,7 +61,7 @@ module _ (low high : ℕ) (h : ltb low 16 && ltb high 16 ≡ true) where
       rw (lt-ltb (16 * high + low) 256 (omega (arith, low_below, high-below)), e, f) refl
 
 pub by_form : (i : Instruction) → in_range i ≡ true → Hosted i
-unfolding numbersOf branchNamed pairNamed forms named bytes_of leading in_range bitInRange columnsOf
+unfolding numbers_of branch_named pair_named forms named bytes_of leading in_range bit_in_range columns_of
 by_form I.AddAM h = host refl refl (refl, refl)
 by_form I.AdcAM h = host refl refl (refl, refl)
 by_form I.SubAM h = host refl refl (refl, refl)
@@ -145,5 +145,5 @@ by_form I.SoundOff h = host refl refl (refl, refl)
 by_form I.Halt h = host refl refl (refl, refl)
 
 -- an instruction's numbers name that instruction
-pub inverse : (i : Instruction) → in_range i ≡ true → named (numbersOf i).form (numbersOf i).a (numbersOf i).b ≡ one i
+pub inverse : (i : Instruction) → in_range i ≡ true → named (numbers_of i).form (numbers_of i).a (numbers_of i).b ≡ one i
 inverse i h = (by_form i h).back

@@ -11,8 +11,8 @@ use borrow.Author.Tests.{ltb-true, ltb-false, lt-ltb}
 use Rattle.isa.specs.Choice.{pick}
 use Rattle.isa.specs.Code.{addresses, bytes_of, in_range}
 use Rattle.isa.specs.Reading.{Reads, Reading, Entry, undefined, opcodes, complete, decoded}
-use Rattle.isa.specs.Timing.{Columns, length_of, cyclesOf}
-use Rattle.rom.specs.Fetching.{refused, sized, Bytes, byteAt, withTiming, fetching}
+use Rattle.isa.specs.Timing.{Columns, length_of, cycles_of}
+use Rattle.rom.specs.Fetching.{refused, sized, Bytes, byte_at, with_timing, fetching}
 use Rattle.rom.proofs.Fetching.{byte_small, read-bytes, length-bytes, cycles-bytes}
 use Rattle.rom.specs.Writing as Writing
 use Rattle.rom.specs.Writing.{fitting, writing}
@@ -20,8 +20,8 @@ use Rattle.isa.specs.declared.Instruction.{Instruction}
 use Rattle.isa.specs.declared.decoder.Decoded.{Decoded}
 use Rattle.isa.specs.declared.decoder.Decoded.TheVariants.{Read, Unreadable}
 use Rattle.isa.proofs.Exact.{and_left, and_right, back, exact, timed}
-use Rattle.abi.specs.Forms.{Named, numbersOf, Meant, one, nothing, named, kept}
-use Rattle.abi.specs.Answers.{packed, packedNamed, readNumber, form_of, aOf, bOf, size_of, packedBytes, refusalOf, count_of, first_of, second_of, writeNumber, writingBy, writingOf}
+use Rattle.abi.specs.Forms.{Named, numbers_of, Meant, one, nothing, named, kept}
+use Rattle.abi.specs.Answers.{packed, packed_named, read_number, form_of, aOf, bOf, size_of, packed_bytes, refusal_of, count_of, first_of, second_of, write_number, writing_by, writing_of}
 use Rattle.abi.specs.RoundTrip.{bytes_at, Gives, ReadThenWrite, WriteThenRead}
 use Rattle.abi.proofs.Inverse as Inverse
 use Rattle.abi.proofs.Inverse.{by_form, inverse}
@@ -51,11 +51,11 @@ module _ (x y : ℕ) (small : y < 256) where
   first n = record { number = 0; bytes = take n (x ∷ y ∷ []) }
 
   abbrev Back : ℕ → Type 0
-  Back r = writingOf (form_of r) (aOf r) (bOf r) ≡ first (size_of r)
+  Back r = writing_of (form_of r) (aOf r) (bOf r) ≡ first (size_of r)
 
   module _ (i : Instruction) (reads : Reads x y i) where
     abbrev n : Named
-    n = numbersOf i
+    n = numbers_of i
 
     fits : Inverse.fitting n ≡ true
     fits = (by_form i reads.fields).fits
@@ -82,31 +82,31 @@ module _ (x y : ℕ) (small : y < 256) where
     written = rw reads.fields (ap (λ (s : List ℕ). record { number = 0; bytes = s }) (sym reads.bytes))
 
     abbrev r : ℕ
-    r = packedNamed n (length_of x) (cyclesOf x)
+    r = packed_named n (length_of x) (cycles_of x)
 
     gives : Gives r n
     gives =
         record {
-          read = no-fault n.form n.a n.b (length_of x) (cyclesOf x) form-fits a-fits b-fits size_fits;
-          form = form-out n.form n.a n.b (length_of x) (cyclesOf x) form-fits a-fits b-fits size_fits;
-          a = a-out n.form n.a n.b (length_of x) (cyclesOf x) form-fits a-fits b-fits size_fits;
-          b = b-out n.form n.a n.b (length_of x) (cyclesOf x) form-fits a-fits b-fits size_fits;
+          read = no-fault n.form n.a n.b (length_of x) (cycles_of x) form-fits a-fits b-fits size_fits;
+          form = form-out n.form n.a n.b (length_of x) (cycles_of x) form-fits a-fits b-fits size_fits;
+          a = a-out n.form n.a n.b (length_of x) (cycles_of x) form-fits a-fits b-fits size_fits;
+          b = b-out n.form n.a n.b (length_of x) (cycles_of x) form-fits a-fits b-fits size_fits;
         }
 
     as_long : size_of r ≡ length (bytes_of i)
-    as_long = size-out n.form n.a n.b (length_of x) (cyclesOf x) form-fits a-fits b-fits size_fits ∙ sym counted
+    as_long = size-out n.form n.a n.b (length_of x) (cycles_of x) form-fits a-fits b-fits size_fits ∙ sym counted
 
-    named-there : writingOf (form_of r) (aOf r) (bOf r) ≡ writingOf n.form n.a n.b
-    named-there = λ k. writingOf (gives.form k) (gives.a k) (gives.b k)
+    named-there : writing_of (form_of r) (aOf r) (bOf r) ≡ writing_of n.form n.a n.b
+    named-there = λ k. writing_of (gives.form k) (gives.a k) (gives.b k)
 
     written_back : Back r
     written_back =
-        named-there ∙ ap writingBy (inverse i reads.fields) ∙ written
+        named-there ∙ ap writing_by (inverse i reads.fields) ∙ written
         ∙ ap first (sym as_long)
 
   -- by the tests of a mask and an address, and by what the decoder answers: only what was read has neither refusal nor fault
-  through : (s t : Bool) (d : Decoded) → Reading x y d → readNumber (pick s (pick t (withTiming (length_of x) (cyclesOf x) d) (refused 5)) (refused 1)) % 2 ^ 16 ≡ 0
-      → Back (readNumber (pick s (pick t (withTiming (length_of x) (cyclesOf x) d) (refused 5)) (refused 1)))
+  through : (s t : Bool) (d : Decoded) → Reading x y d → read_number (pick s (pick t (with_timing (length_of x) (cycles_of x) d) (refused 5)) (refused 1)) % 2 ^ 16 ≡ 0
+      → Back (read_number (pick s (pick t (with_timing (length_of x) (cycles_of x) d) (refused 5)) (refused 1)))
   through true true (Read i) r h = written_back i r
   through true true Unreadable r h = absurd (omega arith)
   through true false d r h = absurd (omega arith)
@@ -114,24 +114,24 @@ module _ (x y : ℕ) (small : y < 256) where
 
 -- what stands at an address, by its bytes
 fetched : (mask : List ℕ) (a : ℕ) → fetching mask a
-    ≡ pick (sized mask) (pick (ltb a addresses) (withTiming (length_of (byteAt mask a)) (cyclesOf (byteAt mask a)) (decoded (byteAt mask a) (byteAt mask (a + 1)))) (refused 5)) (refused 1)
+    ≡ pick (sized mask) (pick (ltb a addresses) (with_timing (length_of (byte_at mask a)) (cycles_of (byte_at mask a)) (decoded (byte_at mask a) (byte_at mask (a + 1)))) (refused 5)) (refused 1)
 fetched mask a = rw (read-bytes mask a, length-bytes mask a, cycles-bytes mask a) refl
 
 pub read-then-write : ReadThenWrite
-read-then-write mask address m w bytes e h f = f ∙ ap writeNumber there
+read-then-write mask address m w bytes e h f = f ∙ ap write_number there
   where
     x : ℕ
-    x = byteAt mask address
+    x = byte_at mask address
 
     y : ℕ
-    y = byteAt mask (address + 1)
+    y = byte_at mask (address + 1)
 
     small : y < 256
     small = byte_small mask (address + 1) bytes
 
     there : Back x y small m
     there =
-        let m-is = e ∙ ap readNumber (fetched mask address) in
+        let m-is = e ∙ ap read_number (fetched mask address) in
         subst (Back x y small) (sym m-is) (through x y small (sized mask) (ltb address addresses) (decoded x y) (exact x y small) (rw m-is at h))
 
 -- ---- what is written
@@ -154,7 +154,7 @@ two-at-most (x ∷ []) h = refl
 two-at-most (x ∷ y ∷ []) h = refl
 two-at-most (x ∷ y ∷ z ∷ s) h = absurd (omega arith)
 
-module _ (w count x y : ℕ) (e : w ≡ packedBytes 0 count x y) (hc : count < 3) (hx : x < 256) where
+module _ (w count x y : ℕ) (e : w ≡ packed_bytes 0 count x y) (hc : count < 3) (hx : x < 256) where
   count-out : count_of w ≡ count
   count-out = omega arith
 
@@ -175,10 +175,10 @@ module _ (i : Instruction) (ok : in_range i ≡ true) where
   x_fits : get_or s 0 0 < 256
   x_fits = first_below (get_or s 0 0) (get_or s 1 0) i (back (get_or s 0 0) (get_or s 1 0) i (record { fields = ok; bytes = two-at-most s short }))
 
-  counts : (w : ℕ) → w ≡ packedBytes 0 (length s) (get_or s 0 0) (get_or s 1 0) → count_of w ≡ length s
+  counts : (w : ℕ) → w ≡ packed_bytes 0 (length s) (get_or s 0 0) (get_or s 1 0) → count_of w ≡ length s
   counts w e = count-out w (length s) (get_or s 0 0) (get_or s 1 0) e short x_fits
 
-  stands : (w x y : ℕ) → w ≡ packedBytes 0 (length s) (get_or s 0 0) (get_or s 1 0) → take (count_of w) (x ∷ y ∷ []) ≡ take (count_of w) (first_of w ∷ second_of w ∷ []) → Reads x y i
+  stands : (w x y : ℕ) → w ≡ packed_bytes 0 (length s) (get_or s 0 0) (get_or s 1 0) → take (count_of w) (x ∷ y ∷ []) ≡ take (count_of w) (first_of w ∷ second_of w ∷ []) → Reads x y i
   stands w x y e h =
       let n = counts w e in
       let p : first_of w ≡ get_or s 0 0 = x-out w (length s) (get_or s 0 0) (get_or s 1 0) e short x_fits in
@@ -190,23 +190,23 @@ pub write-then-read : WriteThenRead
 write-then-read form a b w mask address r e free size bytes inside holds f = by_name (named form a b) refl
   where
     x : ℕ
-    x = byteAt mask address
+    x = byte_at mask address
 
     y : ℕ
-    y = byteAt mask (address + 1)
+    y = byte_at mask (address + 1)
 
     small : y < 256
     small = byte_small mask (address + 1) bytes
 
-    by-range : (i : Instruction) (t : Bool) → named form a b ≡ one i → in_range i ≡ t → w ≡ writeNumber (fitting t (bytes_of i)) → Gives r (kept form a b) × (size_of r ≡ count_of w)
+    by-range : (i : Instruction) (t : Bool) → named form a b ≡ one i → in_range i ≡ t → w ≡ write_number (fitting t (bytes_of i)) → Gives r (kept form a b) × (size_of r ≡ count_of w)
     by-range i false m ok g = absurd (omega arith)
     by-range i true m ok g =
         let reads = stands i ok w x y g holds in
-        let read : r ≡ packedNamed (numbersOf i) (length_of x) (cyclesOf x) =
-        f ∙ ap readNumber (fetched mask address)
-        ∙ (λ k. readNumber (pick (size k) (pick (lt-ltb address addresses inside k) (withTiming (length_of x) (cyclesOf x) (back x y i reads k)) (refused 5)) (refused 1))) in
+        let read : r ≡ packed_named (numbers_of i) (length_of x) (cycles_of x) =
+        f ∙ ap read_number (fetched mask address)
+        ∙ (λ k. read_number (pick (size k) (pick (lt-ltb address addresses inside k) (with_timing (length_of x) (cycles_of x) (back x y i reads k)) (refused 5)) (refused 1))) in
         (rw (read, ← named-kept form a b i m) (gives x y small i reads), ap size_of read ∙ as_long x y small i reads ∙ sym (counts i ok w g))
 
     by_name : (d : Meant) → named form a b ≡ d → Gives r (kept form a b) × (size_of r ≡ count_of w)
-    by_name nothing m = absurd (omega (arith, e ∙ ap (λ (d : Meant). writeNumber (writingBy d)) m))
-    by_name (one i) m = by-range i (in_range i) m refl (e ∙ ap (λ (d : Meant). writeNumber (writingBy d)) m)
+    by_name nothing m = absurd (omega (arith, e ∙ ap (λ (d : Meant). write_number (writing_by d)) m))
+    by_name (one i) m = by-range i (in_range i) m refl (e ∙ ap (λ (d : Meant). write_number (writing_by d)) m)

@@ -27,93 +27,93 @@ numbers form a b = record { form = form; a = a; b = b }
 abbrev pub fields : Numbers → Named
 fields n = numbers n.0 n.1 n.2
 
-abbrev pub pointerNumber : Pointer → ℕ
-pointerNumber R1R0 = 0
-pointerNumber R3R2 = 1
+abbrev pub pointer_number : Pointer → ℕ
+pointer_number R1R0 = 0
+pointer_number R3R2 = 1
 
-abbrev pub portNumber : Port → ℕ
-portNumber Pm = 0
-portNumber Ps = 1
-portNumber Pp = 2
+abbrev pub port_number : Port → ℕ
+port_number Pm = 0
+port_number Ps = 1
+port_number Pp = 2
 
-abbrev pub pageNumber : Page → ℕ
-pageNumber Current = 0
-pageNumber F = 1
+abbrev pub page_number : Page → ℕ
+page_number Current = 0
+page_number F = 1
 
 -- the five leading bits of the branch's code (isa's `leading`, over 8), less 16
-abbrev pub conditionNumber : Condition → ℕ
-conditionNumber (Ja n) = n
-conditionNumber JnzR0 = 4
-conditionNumber JnzR1 = 5
-conditionNumber Jz = 6
-conditionNumber JnzA = 7
-conditionNumber Jc = 8
-conditionNumber Jnc = 9
-conditionNumber Jtmr = 10
-conditionNumber JnzR4 = 11
+abbrev pub condition_number : Condition → ℕ
+condition_number (Ja n) = n
+condition_number JnzR0 = 4
+condition_number JnzR1 = 5
+condition_number Jz = 6
+condition_number JnzA = 7
+condition_number Jc = 8
+condition_number Jnc = 9
+condition_number Jtmr = 10
+condition_number JnzR4 = 11
 
 -- an operand that the form does not have is 0. XX is 16 times its high nibble and its low one
-unfoldable pub numbersOf : Instruction → Named
-numbersOf I.AddAM = numbers 0 0 0
-numbersOf I.AdcAM = numbers 1 0 0
-numbersOf I.SubAM = numbers 2 0 0
-numbersOf I.SbcAM = numbers 3 0 0
-numbersOf (I.AddAX d) = numbers 4 d 0
-numbersOf (I.SubAX d) = numbers 5 d 0
-numbersOf I.Daa = numbers 6 0 0
-numbersOf I.AndAM = numbers 7 0 0
-numbersOf I.OrAM = numbers 8 0 0
-numbersOf I.XorAM = numbers 9 0 0
-numbersOf I.AndMA = numbers 10 0 0
-numbersOf I.OrMA = numbers 11 0 0
-numbersOf I.XorMA = numbers 12 0 0
-numbersOf (I.AndAX d) = numbers 13 d 0
-numbersOf (I.OrAX d) = numbers 14 d 0
-numbersOf (I.XorAX d) = numbers 15 d 0
-numbersOf I.IncA = numbers 16 0 0
-numbersOf (I.IncR n) = numbers 17 n 0
-numbersOf (I.IncM p) = numbers 18 (pointerNumber p) 0
-numbersOf I.DecA = numbers 19 0 0
-numbersOf (I.DecR n) = numbers 20 n 0
-numbersOf (I.DecM p) = numbers 21 (pointerNumber p) 0
-numbersOf (I.MovAR n) = numbers 22 n 0
-numbersOf (I.MovRA n) = numbers 23 n 0
-numbersOf (I.MovAM p) = numbers 24 (pointerNumber p) 0
-numbersOf (I.MovMA p) = numbers 25 (pointerNumber p) 0
-numbersOf (I.MovAX d) = numbers 26 d 0
-numbersOf (I.MovPairXX p low high) = numbers 27 (pointerNumber p) (16 * high + low)
-numbersOf (I.MovR4X d) = numbers 28 d 0
-numbersOf I.RlA = numbers 29 0 0
-numbersOf I.RlcA = numbers 30 0 0
-numbersOf I.RrA = numbers 31 0 0
-numbersOf I.RrcA = numbers 32 0 0
-numbersOf (I.InA p) = numbers 33 (portNumber p) 0
-numbersOf I.OutPaA = numbers 34 0 0
-numbersOf (I.Jmp t) = numbers 35 0 t.0
-numbersOf (I.Branch t k) = numbers 36 (conditionNumber k) t.0
-numbersOf (I.Call t) = numbers 37 0 t.0
-numbersOf I.Ret = numbers 38 0 0
-numbersOf I.Reti = numbers 39 0 0
-numbersOf I.Clc = numbers 40 0 0
-numbersOf I.Stc = numbers 41 0 0
-numbersOf I.Ei = numbers 42 0 0
-numbersOf I.Di = numbers 43 0 0
-numbersOf I.Nop = numbers 44 0 0
-numbersOf (I.TimerXX x) = numbers 45 x 0
-numbersOf I.TimerOn = numbers 46 0 0
-numbersOf I.TimerOff = numbers 47 0 0
-numbersOf I.MovATmrl = numbers 48 0 0
-numbersOf I.MovATmrh = numbers 49 0 0
-numbersOf I.MovTmrlA = numbers 50 0 0
-numbersOf I.MovTmrhA = numbers 51 0 0
-numbersOf (I.ReadR4A p) = numbers 52 (pageNumber p) 0
-numbersOf (I.ReadMr0A p) = numbers 53 (pageNumber p) 0
-numbersOf (I.SoundN n) = numbers 54 n 0
-numbersOf I.SoundA = numbers 55 0 0
-numbersOf I.SoundOne = numbers 56 0 0
-numbersOf I.SoundLoop = numbers 57 0 0
-numbersOf I.SoundOff = numbers 58 0 0
-numbersOf I.Halt = numbers 59 0 0
+unfoldable pub numbers_of : Instruction → Named
+numbers_of I.AddAM = numbers 0 0 0
+numbers_of I.AdcAM = numbers 1 0 0
+numbers_of I.SubAM = numbers 2 0 0
+numbers_of I.SbcAM = numbers 3 0 0
+numbers_of (I.AddAX d) = numbers 4 d 0
+numbers_of (I.SubAX d) = numbers 5 d 0
+numbers_of I.Daa = numbers 6 0 0
+numbers_of I.AndAM = numbers 7 0 0
+numbers_of I.OrAM = numbers 8 0 0
+numbers_of I.XorAM = numbers 9 0 0
+numbers_of I.AndMA = numbers 10 0 0
+numbers_of I.OrMA = numbers 11 0 0
+numbers_of I.XorMA = numbers 12 0 0
+numbers_of (I.AndAX d) = numbers 13 d 0
+numbers_of (I.OrAX d) = numbers 14 d 0
+numbers_of (I.XorAX d) = numbers 15 d 0
+numbers_of I.IncA = numbers 16 0 0
+numbers_of (I.IncR n) = numbers 17 n 0
+numbers_of (I.IncM p) = numbers 18 (pointer_number p) 0
+numbers_of I.DecA = numbers 19 0 0
+numbers_of (I.DecR n) = numbers 20 n 0
+numbers_of (I.DecM p) = numbers 21 (pointer_number p) 0
+numbers_of (I.MovAR n) = numbers 22 n 0
+numbers_of (I.MovRA n) = numbers 23 n 0
+numbers_of (I.MovAM p) = numbers 24 (pointer_number p) 0
+numbers_of (I.MovMA p) = numbers 25 (pointer_number p) 0
+numbers_of (I.MovAX d) = numbers 26 d 0
+numbers_of (I.MovPairXX p low high) = numbers 27 (pointer_number p) (16 * high + low)
+numbers_of (I.MovR4X d) = numbers 28 d 0
+numbers_of I.RlA = numbers 29 0 0
+numbers_of I.RlcA = numbers 30 0 0
+numbers_of I.RrA = numbers 31 0 0
+numbers_of I.RrcA = numbers 32 0 0
+numbers_of (I.InA p) = numbers 33 (port_number p) 0
+numbers_of I.OutPaA = numbers 34 0 0
+numbers_of (I.Jmp t) = numbers 35 0 t.0
+numbers_of (I.Branch t k) = numbers 36 (condition_number k) t.0
+numbers_of (I.Call t) = numbers 37 0 t.0
+numbers_of I.Ret = numbers 38 0 0
+numbers_of I.Reti = numbers 39 0 0
+numbers_of I.Clc = numbers 40 0 0
+numbers_of I.Stc = numbers 41 0 0
+numbers_of I.Ei = numbers 42 0 0
+numbers_of I.Di = numbers 43 0 0
+numbers_of I.Nop = numbers 44 0 0
+numbers_of (I.TimerXX x) = numbers 45 x 0
+numbers_of I.TimerOn = numbers 46 0 0
+numbers_of I.TimerOff = numbers 47 0 0
+numbers_of I.MovATmrl = numbers 48 0 0
+numbers_of I.MovATmrh = numbers 49 0 0
+numbers_of I.MovTmrlA = numbers 50 0 0
+numbers_of I.MovTmrhA = numbers 51 0 0
+numbers_of (I.ReadR4A p) = numbers 52 (page_number p) 0
+numbers_of (I.ReadMr0A p) = numbers 53 (page_number p) 0
+numbers_of (I.SoundN n) = numbers 54 n 0
+numbers_of I.SoundA = numbers 55 0 0
+numbers_of I.SoundOne = numbers 56 0 0
+numbers_of I.SoundLoop = numbers 57 0 0
+numbers_of I.SoundOff = numbers 58 0 0
+numbers_of I.Halt = numbers 59 0 0
 
 -- ---- from numbers to an instruction
 -- what three numbers name
@@ -133,12 +133,12 @@ provided false m = nothing
 abbrev pub conditions : List Condition
 conditions = Ja 0 ∷ Ja 1 ∷ Ja 2 ∷ Ja 3 ∷ JnzR0 ∷ JnzR1 ∷ Jz ∷ JnzA ∷ Jc ∷ Jnc ∷ Jtmr ∷ JnzR4 ∷ []
 
-unfoldable pub branchNamed : ℕ → ℕ → Meant
-branchNamed a b = listed (map (λ (k : Condition). I.Branch (record { 0 = b }) k) conditions) a
+unfoldable pub branch_named : ℕ → ℕ → Meant
+branch_named a b = listed (map (λ (k : Condition). I.Branch (record { 0 = b }) k) conditions) a
 
 -- XX is a byte
-unfoldable pub pairNamed : ℕ → ℕ → Meant
-pairNamed a b = provided (ltb b 256) (listed (I.MovPairXX R1R0 (b % 16) (b / 16) ∷ I.MovPairXX R3R2 (b % 16) (b / 16) ∷ []) a)
+unfoldable pub pair_named : ℕ → ℕ → Meant
+pair_named a b = provided (ltb b 256) (listed (I.MovPairXX R1R0 (b % 16) (b / 16) ∷ I.MovPairXX R3R2 (b % 16) (b / 16) ∷ []) a)
 
 -- a form: its instruction has no operand, a number in a, one of a few by a, a target in b, or both a and b
 pub data Form : Type 0 where
@@ -155,8 +155,8 @@ meant (plain i) a b = one i
 meant (number f) a b = one (f a)
 meant (choice is) a b = listed is a
 meant (target f) a b = one (f (record { 0 = b }))
-meant pair a b = pairNamed a b
-meant branch a b = branchNamed a b
+meant pair a b = pair_named a b
+meant branch a b = branch_named a b
 
 -- the numbers of the form n with the operands that it has, 0 for one that it does not have
 abbrev pub having : Form → ℕ → ℕ → ℕ → Named
@@ -196,13 +196,13 @@ forms =
     ∷ []
 
 -- past the last form there is nothing to choose
-abbrev pub formAt : ℕ → Form
-formAt n = get_or forms n (choice [])
+abbrev pub form_at : ℕ → Form
+form_at n = get_or forms n (choice [])
 
 unfoldable pub named : ℕ → ℕ → ℕ → Meant
 unfolding forms
-named form a b = meant (formAt form) a b
+named form a b = meant (form_at form) a b
 
 -- what is left of three numbers: the operands that the form has
 abbrev pub kept : ℕ → ℕ → ℕ → Named
-kept form a b = having (formAt form) form a b
+kept form a b = having (form_at form) form a b

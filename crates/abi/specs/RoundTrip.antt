@@ -2,21 +2,21 @@
 -- `ht1130_write`. Assumes nothing.
 use Rattle.std.specs.Prelude.{ℕ, ◌+◌, ◌%◌, ◌^◌, ◌<◌, ◌≡◌, true, List, [], ◌∷◌, take}
 use Rattle.isa.specs.Code.{addresses}
-use Rattle.rom.specs.Fetching.{sized, Bytes, byteAt, fetching}
+use Rattle.rom.specs.Fetching.{sized, Bytes, byte_at, fetching}
 use Rattle.abi.specs.Forms.{Named, kept}
-use Rattle.abi.specs.Answers.{readNumber, writeNumber, writingOf, form_of, aOf, bOf, size_of, refusalOf, count_of, first_of, second_of}
+use Rattle.abi.specs.Answers.{read_number, write_number, writing_of, form_of, aOf, bOf, size_of, refusal_of, count_of, first_of, second_of}
 
 -- the first n of the bytes at an address
 abbrev pub bytes_at : List ℕ → ℕ → ℕ → List ℕ
-bytes_at mask address n = take n (byteAt mask address ∷ byteAt mask (address + 1) ∷ [])
+bytes_at mask address n = take n (byte_at mask address ∷ byte_at mask (address + 1) ∷ [])
 
 -- what is read with neither refusal nor fault is written back as the bytes that stand there
 abbrev pub ReadThenWrite : Type 0
 ReadThenWrite =
     (mask : List ℕ) (address r w : ℕ) → Bytes mask
-    → r ≡ readNumber (fetching mask address) → r % 2 ^ 16 ≡ 0
-    → w ≡ writeNumber (writingOf (form_of r) (aOf r) (bOf r))
-    → w ≡ writeNumber (record { number = 0; bytes = bytes_at mask address (size_of r) })
+    → r ≡ read_number (fetching mask address) → r % 2 ^ 16 ≡ 0
+    → w ≡ write_number (writing_of (form_of r) (aOf r) (bOf r))
+    → w ≡ write_number (record { number = 0; bytes = bytes_at mask address (size_of r) })
 
 -- r is read, and has these numbers
 pub record Gives (r : ℕ) (n : Named) : Type 0 where
@@ -29,7 +29,7 @@ pub record Gives (r : ℕ) (n : Named) : Type 0 where
 abbrev pub WriteThenRead : Type 0
 WriteThenRead =
     (form a b w : ℕ) (mask : List ℕ) (address r : ℕ)
-    → w ≡ writeNumber (writingOf form a b) → refusalOf w ≡ 0
+    → w ≡ write_number (writing_of form a b) → refusal_of w ≡ 0
     → sized mask ≡ true → Bytes mask → address < addresses
     → bytes_at mask address (count_of w) ≡ take (count_of w) (first_of w ∷ second_of w ∷ [])
-    → r ≡ readNumber (fetching mask address) → Gives r (kept form a b) × (size_of r ≡ count_of w)
+    → r ≡ read_number (fetching mask address) → Gives r (kept form a b) × (size_of r ≡ count_of w)

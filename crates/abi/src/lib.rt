@@ -4,7 +4,7 @@ mod numbers;
 
 ghost use Rattle.std.specs.Prelude.{◌≡◌};
 ghost use Rattle.rom.specs.Fetching.{fetching};
-ghost use Rattle.abi.specs.Answers.{packed, packedBytes, readNumber, writeNumber, writingOf};
+ghost use Rattle.abi.specs.Answers.{packed, packed_bytes, read_number, write_number, writing_of};
 
 use crate::names::instruction_of;
 use crate::numbers::numbers_of;
@@ -27,14 +27,14 @@ fn pack(refusal: u8, fault: u8, form: u8, a: u8, b: u16, size: u8, cycles: u8) -
 
 // The bytes of what was written, lowest first: the refusal, how many, the first and the second.
 fn pack_bytes(refusal: u8, count: u8, first: u8, second: u8) -> u64
-    ensures { result ≡ packedBytes refusal count first second }
+    ensures { result ≡ packed_bytes refusal count first second }
 {
     refusal as u64 + 0x100 * count as u64 + 0x1_0000 * first as u64 + 0x100_0000 * second as u64
 }
 
 // The instruction at an address of a mask, as one number.
 pub fn read(mask: &[u8], address: u16) -> u64
-    ensures { result ≡ readNumber (fetching mask.now address) }
+    ensures { result ≡ read_number (fetching mask.now address) }
 {
     match read_at(mask, ProgramAddress(address)) {
         Fetched::BadMask => pack(1, 0, 0, 0, 0, 0, 0),
@@ -49,7 +49,7 @@ pub fn read(mask: &[u8], address: u16) -> u64
 
 // The bytes of the instruction that a form and its operands name, as one number.
 pub fn write(form: u8, a: u8, b: u16) -> u64
-    ensures { result ≡ writeNumber (writingOf form a b) }
+    ensures { result ≡ write_number (writing_of form a b) }
 {
     match encode(instruction_of(form, a, b)) {
         Written::One(first) => pack_bytes(0, 1, first, 0),

@@ -1,21 +1,21 @@
 // From a form and its operands to an instruction.
 ghost use Rattle.std.specs.Prelude.{◌≡◌};
 ghost use Rattle.rom.specs.Writing.{writing};
-ghost use Rattle.abi.specs.Forms.{branchNamed, nothing, pairNamed};
-ghost use Rattle.abi.specs.Answers.{writingOf, writingBy};
+ghost use Rattle.abi.specs.Forms.{branch_named, nothing, pair_named};
+ghost use Rattle.abi.specs.Answers.{writing_of, writing_by};
 
 use isa::{Condition, Instruction, Page, Pointer, Port, ProgramAddress};
 
 // Stands for what the numbers do not name: R255 is outside its pattern, so the encoder refuses it with the same number.
 fn unnamed() -> Instruction
-    ensures { writing result ≡ writingBy nothing }
+    ensures { writing result ≡ writing_by nothing }
 {
     Instruction::IncR(255)
 }
 
 // A branch: a names what it tests, b is its target.
 fn branch_named(a: u8, b: u16) -> Instruction
-    ensures { writing result ≡ writingBy (branchNamed a b) }
+    ensures { writing result ≡ writing_by (branch_named a b) }
 {
     let target = ProgramAddress(b);
     match a {
@@ -37,7 +37,7 @@ fn branch_named(a: u8, b: u16) -> Instruction
 
 // MOV pair,XX: a names the pair, b is XX.
 fn pair_named(a: u8, b: u16) -> Instruction
-    ensures { writing result ≡ writingBy (pairNamed a b) }
+    ensures { writing result ≡ writing_by (pair_named a b) }
 {
     if 255 < b {
         return unnamed();
@@ -53,7 +53,7 @@ fn pair_named(a: u8, b: u16) -> Instruction
 
 // The instruction that a form and its operands name, an operand that the form does not have not being looked at; else one that is refused.
 pub(crate) fn instruction_of(form: u8, a: u8, b: u16) -> Instruction
-    ensures { writing result ≡ writingOf form a b }
+    ensures { writing result ≡ writing_of form a b }
 {
     match form {
         0 => Instruction::AddAM,

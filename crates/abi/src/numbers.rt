@@ -1,6 +1,6 @@
 // From an instruction to its form and operands.
 ghost use Rattle.std.specs.Prelude.{◌≡◌};
-ghost use Rattle.abi.specs.Forms.{conditionNumber, fields, numbersOf, pageNumber, pointerNumber, portNumber};
+ghost use Rattle.abi.specs.Forms.{condition_number, fields, numbers_of, page_number, pointer_number, port_number};
 
 use isa::{Condition, Instruction, Page, Pointer, Port};
 
@@ -9,7 +9,7 @@ use isa::{Condition, Instruction, Page, Pointer, Port};
 pub struct Numbers(pub u8, pub u8, pub u16);
 
 fn pointer_number(pointer: Pointer) -> u8
-    ensures { result ≡ pointerNumber pointer }
+    ensures { result ≡ pointer_number pointer }
 {
     match pointer {
         Pointer::R1R0 => 0,
@@ -18,7 +18,7 @@ fn pointer_number(pointer: Pointer) -> u8
 }
 
 fn port_number(port: Port) -> u8
-    ensures { result ≡ portNumber port }
+    ensures { result ≡ port_number port }
 {
     match port {
         Port::Pm => 0,
@@ -28,7 +28,7 @@ fn port_number(port: Port) -> u8
 }
 
 fn page_number(page: Page) -> u8
-    ensures { result ≡ pageNumber page }
+    ensures { result ≡ page_number page }
 {
     match page {
         Page::Current => 0,
@@ -38,7 +38,7 @@ fn page_number(page: Page) -> u8
 
 // The five leading bits of a branch's code, less 16.
 fn condition_number(condition: Condition) -> u8
-    ensures { result ≡ conditionNumber condition }
+    ensures { result ≡ condition_number condition }
 {
     match condition {
         Condition::Ja(n) => n,
@@ -55,7 +55,7 @@ fn condition_number(condition: Condition) -> u8
 
 // The form and operands of an instruction; an operand that the form does not have is 0.
 pub(crate) fn numbers_of(instruction: Instruction) -> Numbers
-    ensures { fields result ≡ numbersOf instruction }
+    ensures { fields result ≡ numbers_of instruction }
 {
     match instruction {
         Instruction::AddAM => Numbers(0, 0, 0),

@@ -15,11 +15,11 @@ use Rattle.isa.specs.Choice.{pick}
 use Rattle.operand.specs.Words.{among, place}
 use Rattle.operand.specs.Operand.{Part, Term, label, minus, number, plus, value_of}
 use Rattle.operand.proofs.Texts.{both, case, differ, neither}
-use Rattle.assembler.specs.Forms.{field, size, romSize}
+use Rattle.assembler.specs.Forms.{field, size, rom_size}
 use Rattle.assembler.specs.Statement.{Statement}
-use Rattle.assembler.specs.Program.{Above, address_of, bytes, end, fitting, ifLabelled, isIn, label_of, meets, misfit, misplaced, named}
+use Rattle.assembler.specs.Program.{Above, address_of, bytes, end, fitting, if_labelled, is_in, label_of, meets, misfit, misplaced, named}
 use Rattle.assembler.specs.Program.{next, size_of, span, within}
-use Rattle.assembler.specs.Shapes.{bytesIn, digitsIn, firsts, formAt, isFree, isMisfit, listed, low_bytes, shapes, sizeIn}
+use Rattle.assembler.specs.Shapes.{bytes_in, digits_in, firsts, form_at, is_free, is_misfit, listed, low_bytes, shapes, size_in}
 use Rattle.assembler.specs.Read.{Shows, broken, coded, empty, origin}
 use Rattle.assembler.specs.declared.forms.Bytes.{Bytes}
 use Rattle.assembler.specs.declared.lines.Line.{Line}
@@ -43,12 +43,12 @@ module _ (names : List (List ℕ)) (addresses : List ℕ) where
 -- ---- the addresses of the lines above
 abbrev gained : Above → List Statement → List ℕ
 gained s [] = []
-gained s (l ∷ ls) = ifLabelled (label_of l) (address_of s l) ++ gained (next s l) ls
+gained s (l ∷ ls) = if_labelled (label_of l) (address_of s l) ++ gained (next s l) ls
 
 end-addresses : (s : Above) (ls : List Statement) → (end s ls).addresses ≡ s.addresses ++ gained s ls
 unfolding next
 end-addresses s [] = sym (append-nil s.addresses)
-end-addresses s (l ∷ ls) = end-addresses (next s l) ls ∙ append_assoc s.addresses (ifLabelled (label_of l) (address_of s l)) (gained (next s l) ls)
+end-addresses s (l ∷ ls) = end-addresses (next s l) ls ∙ append_assoc s.addresses (if_labelled (label_of l) (address_of s l)) (gained (next s l) ls)
 
 pub first-addresses : (s : Above) (ls : List Statement) (all : ℕ) (addresses : List ℕ) → (end s ls).addresses ≡ take all addresses → length
     s.addresses ≤ all
@@ -58,51 +58,51 @@ first-addresses s ls all addresses e h =
     ∙ take-take (length s.addresses) all addresses h
 
 -- a label has a name and an address
-same-many : (o : Option (List ℕ)) (a : ℕ) → length (ifLabelled o a) ≡ length (named o)
+same-many : (o : Option (List ℕ)) (a : ℕ) → length (if_labelled o a) ≡ length (named o)
 same-many none a = refl
 same-many (some w) a = refl
 
 pub next-paired : (s : Above) (l : Statement) → length s.addresses ≡ length s.names → length (next s l).addresses ≡ length (next s l).names
 unfolding next
-next-paired s l e = length-append s.addresses (ifLabelled (label_of l) (address_of s l))
-    ∙ ap (λ (n : ℕ). n + length (ifLabelled (label_of l) (address_of s l))) e ∙ ap (λ (n : ℕ). length s.names + n)
+next-paired s l e = length-append s.addresses (if_labelled (label_of l) (address_of s l))
+    ∙ ap (λ (n : ℕ). n + length (if_labelled (label_of l) (address_of s l))) e ∙ ap (λ (n : ℕ). length s.names + n)
     (same-many (label_of l) (address_of s l))
     ∙ sym (length-append s.names (named (label_of l)))
 
 -- ---- sizes
-pub size-most : (s : ℕ) → sizeIn s ≤ 2
+pub size-most : (s : ℕ) → size_in s ≤ 2
 size-most s = case (eqb s 0)
     (λ a. rw a (omega arith))
     (λ a. rw a (case (eqb s 1) (λ b. rw b (omega arith)) (λ b. rw b (case (eqb s 3) (λ d. rw d (omega arith)) (λ d. rw d (omega arith))))))
 
-some_size : (s : ℕ) → eqb s 0 ≡ false → 0 < sizeIn s
+some_size : (s : ℕ) → eqb s 0 ≡ false → 0 < size_in s
 some_size s a = rw a (case (eqb s 1) (λ b. rw b (omega arith)) (λ b. rw b (case (eqb s 3) (λ d. rw d (omega arith)) (λ d. rw d (omega arith)))))
 
-field-most : (s : ℕ) → 16 ^ digitsIn s ≤ romSize
+field-most : (s : ℕ) → 16 ^ digits_in s ≤ rom_size
 field-most s = case (ltb s 3)
     (λ a. rw a (omega arith))
     (λ a. rw a (case (ltb s 5) (λ b. rw b (omega arith)) (λ b. rw b (case (ltb s 7) (λ d. rw d (omega arith)) (λ d. rw d (omega arith))))))
 
 -- ---- flags say what is written
 abbrev pub Flags : List ℕ → List ℕ → Type 0
-Flags written used = (a : ℕ) → a < romSize → isIn written a ≡ not (eqb (get_or used a 0) 0)
+Flags written used = (a : ℕ) → a < rom_size → is_in written a ≡ not (eqb (get_or used a 0) 0)
 
-free-size : (written used : List ℕ) → Flags written used → (at n : ℕ) → n ≤ 2 → (ltb romSize (at + n) || meets written (span at n)) ≡ not
-    (isFree used at n)
-free-size written used f at zero h = case (leb (at + 0) romSize)
-    (λ e. rw (e, le-ltb romSize (at + 0) (leb-true (at + 0) romSize e)) refl) (λ e. rw (e, lt-ltb romSize (at + 0) (leb-false (at + 0) romSize e)) refl)
-free-size written used f at (suc zero) h = case (leb (at + 1) romSize)
-    (λ e. let u = leb-true (at + 1) romSize e in rw (e, le-ltb romSize (at + 1) u, f at (omega arith)) (one (eqb (get_or used at 0) 0)))
-    (λ e. rw (e, lt-ltb romSize (at + 1) (leb-false (at + 1) romSize e)) refl)
+free-size : (written used : List ℕ) → Flags written used → (at n : ℕ) → n ≤ 2 → (ltb rom_size (at + n) || meets written (span at n)) ≡ not
+    (is_free used at n)
+free-size written used f at zero h = case (leb (at + 0) rom_size)
+    (λ e. rw (e, le-ltb rom_size (at + 0) (leb-true (at + 0) rom_size e)) refl) (λ e. rw (e, lt-ltb rom_size (at + 0) (leb-false (at + 0) rom_size e)) refl)
+free-size written used f at (suc zero) h = case (leb (at + 1) rom_size)
+    (λ e. let u = leb-true (at + 1) rom_size e in rw (e, le-ltb rom_size (at + 1) u, f at (omega arith)) (one (eqb (get_or used at 0) 0)))
+    (λ e. rw (e, lt-ltb rom_size (at + 1) (leb-false (at + 1) rom_size e)) refl)
   where
     one : (b : Bool) → (not b || false) ≡ not (not (not b) && true)
     one true = refl
     one false = refl
-free-size written used f at (suc (suc zero)) h = case (leb (at + 2) romSize)
-    (λ e. let u = leb-true (at + 2) romSize e in
-    rw (e, le-ltb romSize (at + 2) u, f at (omega arith), sym (add-one at), f (at + 1) (omega arith))
+free-size written used f at (suc (suc zero)) h = case (leb (at + 2) rom_size)
+    (λ e. let u = leb-true (at + 2) rom_size e in
+    rw (e, le-ltb rom_size (at + 2) u, f at (omega arith), sym (add-one at), f (at + 1) (omega arith))
     (two (eqb (get_or used at 0) 0) (eqb (get_or used (at + 1) 0) 0)))
-    (λ e. rw (e, lt-ltb romSize (at + 2) (leb-false (at + 2) romSize e)) refl)
+    (λ e. rw (e, lt-ltb rom_size (at + 2) (leb-false (at + 2) rom_size e)) refl)
   where
     two : (a b : Bool) → (not a || (not b || false)) ≡ not (not (not a) && not (not b))
     two true true = refl
@@ -113,10 +113,10 @@ free-size written used f at (suc (suc (suc n))) h = absurd (omega arith)
 -- ---- a line that is read
 module _ {text : List ℕ} {above all : List (List ℕ)} {addresses : List ℕ} {st : Statement} {r : Line} (x : Shows text above all addresses st r)
     (readable : r.readable ≡ true) where
-  pub shows-size : size_of st ≡ sizeIn (get_or shapes r.form 0)
+  pub shows-size : size_of st ≡ size_in (get_or shapes r.form 0)
   shows-size = by x
     where
-      by : Shows text above all addresses st r → size_of st ≡ sizeIn (get_or shapes r.form 0)
+      by : Shows text above all addresses st r → size_of st ≡ size_in (get_or shapes r.form 0)
       by (broken e b) = absurd (differ (sym b ∙ readable))
       by (empty e b f l m) = rw (e, f) refl
       by (origin ts e b f v p) = rw (e, f) refl
@@ -138,36 +138,36 @@ module _ {text : List ℕ} {above all : List (List ℕ)} {addresses : List ℕ} 
         by (origin ts e b f v p) = rw (e, f) (rw (plus-here ts, minus-here ts, v.added, v.taken) refl)
         by (coded ts e b f h v p) = rw (e, ne_eqb r.form 0 (λ q. omega arith)) refl
 
-    pub shows-stray : (eqb r.form 0 && not (within romSize r.plus r.minus)) ≡ true → misplaced s st ≡ true
+    pub shows-stray : (eqb r.form 0 && not (within rom_size r.plus r.minus)) ≡ true → misplaced s st ≡ true
     shows-stray h = by x
       where
         by : Shows text above all addresses st r → misplaced s st ≡ true
         by (broken e b) = absurd (differ (sym b ∙ readable))
         by (empty e b f l m) = absurd (differ (sym (rw f refl) ∙ h))
         by (origin ts e b f v p) = rw e
-            (rw (plus-here ts, minus-here ts, sym v.added, sym v.taken) (both (eqb r.form 0) (not (within romSize r.plus r.minus)) h).1)
+            (rw (plus-here ts, minus-here ts, sym v.added, sym v.taken) (both (eqb r.form 0) (not (within rom_size r.plus r.minus)) h).1)
         by (coded ts e b f g v p) = absurd (differ (sym (rw (ne_eqb r.form 0 (λ q. omega arith)) refl) ∙ h))
 
     -- where no ORG strays, a line has its place exactly when its bytes are free
-    pub shows-place-free : (used : List ℕ) → Flags s.written used → s.at ≤ romSize → (eqb r.form 0 && not (within romSize r.plus r.minus))
+    pub shows-place-free : (used : List ℕ) → Flags s.written used → s.at ≤ rom_size → (eqb r.form 0 && not (within rom_size r.plus r.minus))
         ≡ false
-        → misplaced s st ≡ not (isFree used (pick (eqb r.form 0) (r.plus - r.minus) s.at) (sizeIn (get_or shapes r.form 0)))
+        → misplaced s st ≡ not (is_free used (pick (eqb r.form 0) (r.plus - r.minus) s.at) (size_in (get_or shapes r.form 0)))
     shows-place-free used flags most h = by x
       where
         by : Shows text above all addresses st r
-            → misplaced s st ≡ not (isFree used (pick (eqb r.form 0) (r.plus - r.minus) s.at) (sizeIn (get_or shapes r.form 0)))
+            → misplaced s st ≡ not (is_free used (pick (eqb r.form 0) (r.plus - r.minus) s.at) (size_in (get_or shapes r.form 0)))
         by (broken e b) = absurd (differ (sym b ∙ readable))
-        by (empty e b f l m) = rw (e, f) (rw (le-leb (s.at + 0) romSize (omega arith)) refl)
+        by (empty e b f l m) = rw (e, f) (rw (le-leb (s.at + 0) rom_size (omega arith)) refl)
         by (origin ts e b f v p) =
-            let in-it : within romSize r.plus r.minus ≡ true = yes (within romSize r.plus r.minus) (rw f at h) in
-            let low = ltb-true (r.plus - r.minus) romSize (both (leb r.minus r.plus) (ltb (r.plus - r.minus) romSize) in-it).1 in
+            let in-it : within rom_size r.plus r.minus ≡ true = yes (within rom_size r.plus r.minus) (rw f at h) in
+            let low = ltb-true (r.plus - r.minus) rom_size (both (leb r.minus r.plus) (ltb (r.plus - r.minus) rom_size) in-it).1 in
             rw (e, f) (rw (
               plus-here ts,
               minus-here ts,
               sym v.added,
               sym v.taken,
               in-it,
-              le-leb (r.plus - r.minus + 0) romSize
+              le-leb (r.plus - r.minus + 0) rom_size
                   (omega arith),
             ) refl)
           where
@@ -176,29 +176,29 @@ module _ {text : List ℕ} {above all : List (List ℕ)} {addresses : List ℕ} 
             yes false q = absurd (differ (sym q))
         by (coded ts e b f g v p) =
             rw (e, ne_eqb r.form 0 (λ q. omega arith), (shape_at r.form f g).sized)
-            (free-size s.written used flags s.at (sizeIn (get_or shapes r.form 0)) (size-most (get_or shapes r.form 0)))
+            (free-size s.written used flags s.at (size_in (get_or shapes r.form 0)) (size-most (get_or shapes r.form 0)))
 
     -- a line that has its place: its address, and its end
-    pub shows-placed : misplaced s st ≡ false → s.at ≤ romSize → (address_of s st + size_of st ≤ romSize) × (address_of s st ≤ romSize)
+    pub shows-placed : misplaced s st ≡ false → s.at ≤ rom_size → (address_of s st + size_of st ≤ rom_size) × (address_of s st ≤ rom_size)
     shows-placed m most = by x
       where
-        by : Shows text above all addresses st r → (address_of s st + size_of st ≤ romSize) × (address_of s st ≤ romSize)
+        by : Shows text above all addresses st r → (address_of s st + size_of st ≤ rom_size) × (address_of s st ≤ rom_size)
         by (broken e b) = absurd (differ (sym b ∙ readable))
         by (empty e b f l n) = rw e (omega arith, omega arith)
         by (origin ts e b f v p) =
-            let q : not (within romSize (plus s.names s.addresses ts) (minus s.names s.addresses ts)) ≡ false = rw e at m in
-            let low = ltb-true (plus s.names s.addresses ts - minus s.names s.addresses ts) romSize
+            let q : not (within rom_size (plus s.names s.addresses ts) (minus s.names s.addresses ts)) ≡ false = rw e at m in
+            let low = ltb-true (plus s.names s.addresses ts - minus s.names s.addresses ts) rom_size
             (both (leb (minus s.names s.addresses ts) (plus s.names s.addresses ts))
-            (ltb (plus s.names s.addresses ts - minus s.names s.addresses ts) romSize) (yes _ q)).1 in
+            (ltb (plus s.names s.addresses ts - minus s.names s.addresses ts) rom_size) (yes _ q)).1 in
             rw e (omega arith, omega arith)
           where
             yes : (b : Bool) → not b ≡ false → b ≡ true
             yes true q = refl
             yes false q = absurd (differ (sym q))
         by (coded ts e b f g v p) =
-            let q : (ltb romSize (s.at + size (formAt r.form)) || meets s.written (span s.at (size (formAt r.form)))) ≡ false = rw e at m in
-            let low = ltb-false romSize (s.at + size (formAt r.form))
-            (neither (ltb romSize (s.at + size (formAt r.form))) (meets s.written (span s.at (size (formAt r.form)))) q).0 in
+            let q : (ltb rom_size (s.at + size (form_at r.form)) || meets s.written (span s.at (size (form_at r.form)))) ≡ false = rw e at m in
+            let low = ltb-false rom_size (s.at + size (form_at r.form))
+            (neither (ltb rom_size (s.at + size (form_at r.form))) (meets s.written (span s.at (size (form_at r.form)))) q).0 in
             rw e (low, most)
 
     -- ---- values, where these are all labels
@@ -210,12 +210,12 @@ module _ {text : List ℕ} {above all : List (List ℕ)} {addresses : List ℕ} 
       minus-all ts = rw (whole-names, whole-stored) (minus-take all addresses ts)
 
       pub shows-misfit : misfit whole s st
-          ≡ isMisfit (sizeIn (get_or shapes r.form 0)) (get_or shapes r.form 0) (pick (eqb r.form 0) (r.plus - r.minus) s.at) r.plus
+          ≡ is_misfit (size_in (get_or shapes r.form 0)) (get_or shapes r.form 0) (pick (eqb r.form 0) (r.plus - r.minus) s.at) r.plus
           r.minus
       shows-misfit = by x
         where
           by : Shows text above all addresses st r → misfit whole s st
-              ≡ isMisfit (sizeIn (get_or shapes r.form 0)) (get_or shapes r.form 0) (pick (eqb r.form 0) (r.plus - r.minus) s.at) r.plus
+              ≡ is_misfit (size_in (get_or shapes r.form 0)) (get_or shapes r.form 0) (pick (eqb r.form 0) (r.plus - r.minus) s.at) r.plus
               r.minus
           by (broken e b) = absurd (differ (sym b ∙ readable))
           by (empty e b f l m) = rw (e, f) refl
@@ -225,7 +225,7 @@ module _ {text : List ℕ} {above all : List (List ℕ)} {addresses : List ℕ} 
               rw (
                 e,
                 ne_eqb r.form 0 (λ q. omega arith),
-                lt-ltb 0 (sizeIn (get_or shapes r.form 0))
+                lt-ltb 0 (size_in (get_or shapes r.form 0))
                     (some_size (get_or shapes r.form 0) k.solid),
               )
               (rw (
@@ -235,15 +235,15 @@ module _ {text : List ℕ} {above all : List (List ℕ)} {addresses : List ℕ} 
                 sym v.taken,
                 k.sized,
                 k.digit,
-                k.reach ((s.at + sizeIn (get_or shapes r.form 0)) % romSize) (r.plus - r.minus),
+                k.reach ((s.at + size_in (get_or shapes r.form 0)) % rom_size) (r.plus - r.minus),
               ) refl)
 
       pub shows-bytes : misfit whole s st ≡ false
-          → bytes whole st ≡ low_bytes (bytesIn (get_or shapes r.form 0) (get_or firsts r.form 0) ((r.plus - r.minus) % 65536))
+          → bytes whole st ≡ low_bytes (bytes_in (get_or shapes r.form 0) (get_or firsts r.form 0) ((r.plus - r.minus) % 65536))
       shows-bytes m = by x
         where
           by : Shows text above all addresses st r
-              → bytes whole st ≡ low_bytes (bytesIn (get_or shapes r.form 0) (get_or firsts r.form 0) ((r.plus - r.minus) % 65536))
+              → bytes whole st ≡ low_bytes (bytes_in (get_or shapes r.form 0) (get_or firsts r.form 0) ((r.plus - r.minus) % 65536))
           by (broken e b) = absurd (differ (sym b ∙ readable))
           by (empty e b f l n) = rw (e, f) refl
           by (origin ts e b f v p) = rw (e, f) refl
@@ -251,17 +251,17 @@ module _ {text : List ℕ} {above all : List (List ℕ)} {addresses : List ℕ} 
               let k = shape_at r.form f g in
               let sh = get_or shapes r.form 0 in
               let v0 = r.plus - r.minus in
-              let q : not (fitting s.at (formAt r.form) (plus whole.names whole.addresses ts)
+              let q : not (fitting s.at (form_at r.form) (plus whole.names whole.addresses ts)
               (minus whole.names whole.addresses ts)) ≡ false = rw e at m in
-              let fit = (both (within (field (formAt r.form)) (plus whole.names whole.addresses ts)
+              let fit = (both (within (field (form_at r.form)) (plus whole.names whole.addresses ts)
               (minus whole.names whole.addresses ts)) _ (yes _ q)).0 in
-              let fit2 : within (field (formAt r.form)) r.plus r.minus ≡ true = rw
+              let fit2 : within (field (form_at r.form)) r.plus r.minus ≡ true = rw
               (plus-all ts, minus-all ts, sym v.added, sym v.taken) at fit in
-              let low = ltb-true v0 (field (formAt r.form)) (both (leb r.minus r.plus) (ltb v0 (field (formAt r.form))) fit2).1 in
-              let low2 : v0 < 16 ^ digitsIn sh = subst (λ (d : ℕ). v0 < 16 ^ d) k.digit low in
+              let low = ltb-true v0 (field (form_at r.form)) (both (leb r.minus r.plus) (ltb v0 (field (form_at r.form))) fit2).1 in
+              let low2 : v0 < 16 ^ digits_in sh = subst (λ (d : ℕ). v0 < 16 ^ d) k.digit low in
               let small : v0 % 65536 ≡ v0 = omega (arith, field-most sh) in
               rw e (rw (plus-all ts, minus-all ts, sym v.added, sym v.taken)
-              (k.bytes v0 ∙ sym (k.low v0 low2) ∙ ap (λ (n : ℕ). low_bytes (bytesIn sh (get_or firsts r.form 0) n)) (sym small)))
+              (k.bytes v0 ∙ sym (k.low v0 low2) ∙ ap (λ (n : ℕ). low_bytes (bytes_in sh (get_or firsts r.form 0) n)) (sym small)))
             where
               yes : (b : Bool) → not b ≡ false → b ≡ true
               yes true q = refl
@@ -280,9 +280,9 @@ module _ {text : List ℕ} {above all : List (List ℕ)} {addresses : List ℕ} 
           by (coded ts e b f g v p) = rw (ne_eqb r.form 0 (λ q. omega arith)) refl
 
 -- ---- flags and bytes that are stored
-in-append : (w v : List ℕ) (a : ℕ) → isIn (w ++ v) a ≡ (isIn w a || isIn v a)
+in-append : (w v : List ℕ) (a : ℕ) → is_in (w ++ v) a ≡ (is_in w a || is_in v a)
 in-append [] v a = refl
-in-append (b ∷ w) v a = rw (in-append w v a) (or_assoc (eqb b a) (isIn w a) (isIn v a))
+in-append (b ∷ w) v a = rw (in-append w v a) (or_assoc (eqb b a) (is_in w a) (is_in v a))
   where
     or_assoc : (x y z : Bool) → (x || (y || z)) ≡ ((x || y) || z)
     or_assoc true y z = refl
@@ -290,7 +290,7 @@ in-append (b ∷ w) v a = rw (in-append w v a) (or_assoc (eqb b a) (isIn w a) (i
 
 flag_one : (written used : List ℕ) (at : ℕ) → Flags written used → at < length used → Flags (written ++ (at ∷ [])) (set used at 1)
 flag_one written used at f h a l = in-append written (at ∷ []) a ∙ case (eqb at a)
-    (λ e. rw (e, sym (eqb-true at a e), get_or-set_same used at 1 0 h) (or-true (isIn written at)))
+    (λ e. rw (e, sym (eqb-true at a e), get_or-set_same used at 1 0 h) (or-true (is_in written at)))
     (λ e. rw (e, get_or-set_other used at a 1 0 (λ q. eqb-false at a e (sym q)), f a l) (or-false (not (eqb (get_or used a 0) 0))))
   where
     or-true : (b : Bool) → (b || true) ≡ true
@@ -302,14 +302,14 @@ flag_one written used at f h a l = in-append written (at ∷ []) a ∙ case (eqb
     or-false false = refl
 
 -- up to two places from an address on are flagged
-pub flag-span : (written used one two : List ℕ) (at n : ℕ) → Flags written used → length used ≡ romSize → n ≤ 2 → at + n ≤ romSize
+pub flag-span : (written used one two : List ℕ) (at n : ℕ) → Flags written used → length used ≡ rom_size → n ≤ 2 → at + n ≤ rom_size
     → one ≡ pick (ltb 0 n) (set used at 1) used → two ≡ pick (ltb 1 n) (set one (at + 1) 1) one
-    → Flags (written ++ span at n) two × (length two ≡ romSize)
+    → Flags (written ++ span at n) two × (length two ≡ rom_size)
 flag-span written used one two at zero f l h u e g = rw (g, e, append-nil written) (f, l)
 flag-span written used one two at (suc zero) f l h u e g =
     rw (g, e) (flag_one written used at f (omega arith), length-set used at 1 ∙ l)
 flag-span written used one two at (suc (suc zero)) f l h u e g =
-    let p : length (set used at 1) ≡ romSize = length-set used at 1 ∙ l in
+    let p : length (set used at 1) ≡ rom_size = length-set used at 1 ∙ l in
     rw (g, e, add-one, sym (append_assoc written (at ∷ []) (suc at ∷ []))) (
       flag_one (written ++ (at ∷ [])) (set used at 1) (suc at) (flag_one written used at f (omega arith)) (omega arith),
       length-set (set used at 1)

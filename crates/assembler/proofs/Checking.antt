@@ -6,13 +6,13 @@ use mathlib.Core.List.{List}
 use lib.ListN.{length}
 use Rattle.isa.specs.Choice.{pick}
 use Rattle.operand.specs.Words.{among}
-use Rattle.operand.specs.Read.{names_at, tokensAt, word_at}
+use Rattle.operand.specs.Read.{names_at, tokens_at, word_at}
 use Rattle.assembler.specs.Statement.{Statement, statement}
 use Rattle.assembler.specs.Program.{Above, end, first, mislabelled, next, program, start}
 use Rattle.assembler.specs.Read.{Shows}
-use Rattle.assembler.specs.Passing.{Settled, lineEnd}
+use Rattle.assembler.specs.Passing.{Settled, line_end}
 use Rattle.assembler.specs.declared.lines.Line.{Line}
-use Rattle.assembler.proofs.Splitting.{programAt}
+use Rattle.assembler.proofs.Splitting.{program_at}
 use Rattle.assembler.proofs.Walking.{Walk, shows-mislabelled, walk-begin, walk-clear, walk-found, walk-names, walk-on, walk-past}
 use Rattle.assembler.proofs.Walking.{walk-readable}
 
@@ -22,19 +22,19 @@ faulty text = mislabelled (end start (program text)).names
 pub record Checking (text : List ℕ) (at number count : ℕ) : Type 0 where
   pub s : Above
   pub walk : Walk text at number count s
-  pub found : first (faulty text) start 1 (program text) ≡ first (faulty text) s number (programAt text at)
+  pub found : first (faulty text) start 1 (program text) ≡ first (faulty text) s number (program_at text at)
 
 pub checks : (text starts none : List ℕ) (all : ℕ) → Settled text starts none all → Checking text 0 1 0
 checks text starts none all settled = record { s = start; walk = walk-begin text settled.read; found = refl }
 
 module _ {text starts none : List ℕ} {all : ℕ} (settled : Settled text starts none all) {at number count : ℕ} (g : Checking text at number count)
     {r : Line}
-    (x : Shows text (names_at text starts count) (names_at text starts all) none (statement (tokensAt text at)) r) where
+    (x : Shows text (names_at text starts count) (names_at text starts all) none (statement (tokens_at text at)) r) where
   abbrev defined : Bool
   defined = r.labelled && among (names_at text starts count) (word_at text r.label)
 
-  fault-is : faulty text g.s (statement (tokensAt text at)) ≡ (r.missing || defined)
-  fault-is = ap (λ (ns : List (List ℕ)). mislabelled ns g.s (statement (tokensAt text at))) settled.names
+  fault-is : faulty text g.s (statement (tokens_at text at)) ≡ (r.missing || defined)
+  fault-is = ap (λ (ns : List (List ℕ)). mislabelled ns g.s (statement (tokens_at text at))) settled.names
       ∙ shows-mislabelled x (walk-readable g.walk x) g.s (walk-names g.walk settled)
 
   pub is-missing : r.missing ≡ true → number ≡ first (faulty text) start 1 (program text)
@@ -49,8 +49,8 @@ module _ {text starts none : List ℕ} {all : ℕ} (settled : Settled text start
       or-true false = refl
 
   module _ (present : r.missing ≡ false) (once : (r.labelled && among (names_at text starts count) (word_at text r.label)) ≡ false)
-      (e : ℕ) (ends : e ≡ lineEnd text at) where
-    no-fault : faulty text g.s (statement (tokensAt text at)) ≡ false
+      (e : ℕ) (ends : e ≡ line_end text at) where
+    no-fault : faulty text g.s (statement (tokens_at text at)) ≡ false
     no-fault = fault-is ∙ rw (present, once) refl
 
     pub checked : e ≡ length text → 0 ≡ first (faulty text) start 1 (program text)
@@ -58,7 +58,7 @@ module _ {text starts none : List ℕ} {all : ℕ} (settled : Settled text start
 
     pub check-on : (count' : ℕ) → count' ≡ pick r.labelled (count + 1) count → e < length text → Checking text (e + 1) (number + 1) count'
     check-on count' c h = record {
-      s = next g.s (statement (tokensAt text at));
+      s = next g.s (statement (tokens_at text at));
       walk = walk-on g.walk x count' e c ends h;
       found = walk-past g.walk (faulty text) g.found no-fault e ends h;
     }

@@ -8,14 +8,14 @@ use native.Mathlib.Omega.{arith}
 use lib.ListN.{length, set, take, length-set}
 use lib.Seq.{take-suc-set}
 use Rattle.isa.specs.Choice.{pick}
-use Rattle.operand.specs.Read.{names_at, tokensAt, word_at}
+use Rattle.operand.specs.Read.{names_at, tokens_at, word_at}
 use Rattle.operand.proofs.Texts.{case}
 use Rattle.assembler.specs.Statement.{Statement, statement}
 use Rattle.assembler.specs.Program.{Above, end, first, next, program, start, unread}
 use Rattle.assembler.specs.Read.{Shows}
-use Rattle.assembler.specs.Passing.{Collected, lineEnd}
+use Rattle.assembler.specs.Passing.{Collected, line_end}
 use Rattle.assembler.specs.declared.lines.Line.{Line}
-use Rattle.assembler.proofs.Splitting.{end-within, last_line, next-line, programAt}
+use Rattle.assembler.proofs.Splitting.{end-within, last_line, next-line, program_at}
 use Rattle.assembler.proofs.Walking.{first_found, first_on, labelled-long, shows-named, shows-place, shows-unread, split}
 
 pub record Reading (text starts : List ℕ) (at number count : ℕ) : Type 0 where
@@ -25,8 +25,8 @@ pub record Reading (text starts : List ℕ) (at number count : ℕ) : Type 0 whe
   pub few : number ≤ at + 1
   pub many : 2 * count ≤ at
   pub room : length starts ≡ 32768
-  pub found : first unread start 1 (program text) ≡ first unread s number (programAt text at)
-  pub ends : end start (program text) ≡ end s (programAt text at)
+  pub found : first unread start 1 (program text) ≡ first unread s number (program_at text at)
+  pub ends : end start (program text) ≡ end s (program_at text at)
   pub names : s.names ≡ names_at text starts count
   pub held : count ≤ length starts
 
@@ -50,26 +50,26 @@ note-name : (text starts : List ℕ) (count v : ℕ) → count < length starts
 note-name text starts count v h = ap (map (word_at text)) (take-suc-set starts count v h) ∙ map-append (word_at text) (take count starts) (v ∷ [])
 
 module _ {text starts none : List ℕ} {at number count : ℕ} {r : Line} (short : length text ≤ 65535) (g : Reading text starts at number count)
-    (x : Shows text [] [] none (statement (tokensAt text at)) r) where
+    (x : Shows text [] [] none (statement (tokens_at text at)) r) where
   pub unreadable-line : r.readable ≡ false → Collected text starts (record { line = number; count = count })
   unreadable-line b =
       let l = split text at g.within in
       record {
         line = sym (g.found ∙ ap (first unread g.s number) l.is
-            ∙ first_found unread g.s number (statement (tokensAt text at)) l.rest (shows-unread x g.s ∙ rw b refl));
+            ∙ first_found unread g.s number (statement (tokens_at text at)) l.rest (shows-unread x g.s ∙ rw b refl));
         held = g.held;
         room = g.room;
         names = λ e. absurd (omega (arith, g.some_number));
       }
 
   module _ (readable : r.readable ≡ true) where
-    read-on : (rest : List Statement) → programAt text at ≡ statement (tokensAt text at) ∷ rest
-        → first unread start 1 (program text) ≡ first unread (next g.s (statement (tokensAt text at))) (suc number) rest
+    read-on : (rest : List Statement) → program_at text at ≡ statement (tokens_at text at) ∷ rest
+        → first unread start 1 (program text) ≡ first unread (next g.s (statement (tokens_at text at))) (suc number) rest
     read-on rest e = g.found ∙ ap (first unread g.s number) e
-        ∙ first_on unread g.s number (statement (tokensAt text at)) rest (shows-unread x g.s ∙ rw readable refl)
+        ∙ first_on unread g.s number (statement (tokens_at text at)) rest (shows-unread x g.s ∙ rw readable refl)
 
     -- a label has a place to be noted at, and two characters of the text
-    pub label-place : r.labelled ≡ true → (count < length starts) × (r.label ≤ length text) × (at + 2 ≤ lineEnd text at)
+    pub label-place : r.labelled ≡ true → (count < length starts) × (r.label ≤ length text) × (at + 2 ≤ line_end text at)
     label-place l =
         let p = shows-place x readable l in
         let long = labelled-long text at (word_at text r.label) p.1 in
@@ -79,12 +79,12 @@ module _ {text starts none : List ℕ} {at number count : ℕ} {r : Line} (short
     module _ (starts' : List ℕ) (count' : ℕ) (stored : starts' ≡ pick r.labelled (set starts count r.label) starts)
         (counts : count' ≡ pick r.labelled (count + 1) count) where
       pub record Noted : Type 0 where
-        pub many : 2 * count' ≤ lineEnd text at
+        pub many : 2 * count' ≤ line_end text at
         pub room : length starts' ≡ 32768
-        pub names : (next g.s (statement (tokensAt text at))).names ≡ names_at text starts' count'
+        pub names : (next g.s (statement (tokens_at text at))).names ≡ names_at text starts' count'
         pub held : count' ≤ length starts'
 
-      next-names : (next g.s (statement (tokensAt text at))).names ≡ g.s.names ++ pick r.labelled (word_at text r.label ∷ []) []
+      next-names : (next g.s (statement (tokens_at text at))).names ≡ g.s.names ++ pick r.labelled (word_at text r.label ∷ []) []
       unfolding next
       next-names = ap (λ (ns : List (List ℕ)). g.s.names ++ ns) (shows-named x readable)
 
@@ -108,7 +108,7 @@ module _ {text starts none : List ℕ} {at number count : ℕ} {r : Line} (short
             held = rw (e, f) g.held;
           })
 
-      pub collected : lineEnd text at ≡ length text → Collected text starts' (record { line = 0; count = count' })
+      pub collected : line_end text at ≡ length text → Collected text starts' (record { line = 0; count = count' })
       collected e =
           let is = last_line text at g.within e in
           record {
@@ -118,21 +118,21 @@ module _ {text starts none : List ℕ} {at number count : ℕ} {r : Line} (short
             names = λ _. ap (λ (a : Above). a.names) (g.ends ∙ ap (end g.s) is) ∙ noted.names;
           }
 
-      read_next : lineEnd text at < length text → Reading text starts' (lineEnd text at + 1) (number + 1) count'
+      read_next : line_end text at < length text → Reading text starts' (line_end text at + 1) (number + 1) count'
       read_next h =
           let is = next-line text at g.within h in
           rw (add-one, add-one) record {
-            s = next g.s (statement (tokensAt text at));
+            s = next g.s (statement (tokens_at text at));
             within = omega arith;
             some_number = omega arith;
             few = omega (arith, g.few);
             many = omega (arith, noted.many);
             room = noted.room;
-            found = read-on (programAt text (suc (lineEnd text at))) is;
+            found = read-on (program_at text (suc (line_end text at))) is;
             ends = g.ends ∙ ap (end g.s) is;
             names = noted.names;
             held = noted.held;
           }
 
-      pub read_more : (e : ℕ) → e ≡ lineEnd text at → e < length text → Reading text starts' (e + 1) (number + 1) count'
+      pub read_more : (e : ℕ) → e ≡ line_end text at → e < length text → Reading text starts' (e + 1) (number + 1) count'
       read_more e q h = subst (λ (k : ℕ). Reading text starts' (k + 1) (number + 1) count') (sym q) (read_next (omega arith))

@@ -10,19 +10,19 @@ use borrow.Author.Tests.{leb-true, ltb-true}
 use lib.Dec.{eqb, leb, ltb}
 use lib.ListN.{get_or, get_or-replicate, length, length-replicate, length-set, replicate, set, take}
 use lib.Seq.{take-suc-set}
-use Rattle.assembler.specs.Forms.{romSize}
+use Rattle.assembler.specs.Forms.{rom_size}
 use Rattle.isa.specs.Choice.{pick}
-use Rattle.operand.specs.Read.{names_at, tokensAt}
+use Rattle.operand.specs.Read.{names_at, tokens_at}
 use Rattle.operand.proofs.Places.{names-count}
 use Rattle.operand.proofs.Texts.{both, case, differ}
 use Rattle.assembler.specs.Statement.{Statement, statement}
 use Rattle.assembler.specs.Program.{Above, address_of, end, first, misplaced, next, program, span, start, within}
-use Rattle.assembler.specs.Shapes.{isFree, shapes, sizeIn}
+use Rattle.assembler.specs.Shapes.{is_free, shapes, size_in}
 use Rattle.assembler.specs.Read.{Shows}
-use Rattle.assembler.specs.Passing.{Placed, Settled, lineEnd}
+use Rattle.assembler.specs.Passing.{Placed, Settled, line_end}
 use Rattle.assembler.specs.declared.lines.Line.{Line}
 use Rattle.assembler.proofs.Addresses.{Flags, flag-span, shows-address, shows-place-free, shows-size, shows-stray, size-most}
-use Rattle.assembler.proofs.Splitting.{last_line, programAt}
+use Rattle.assembler.proofs.Splitting.{last_line, program_at}
 use Rattle.assembler.proofs.Walking.{Walk, shows-labelled, walk-begin, next-count, walk-clear, walk-found, walk-held, walk-names, walk-next-few}
 use Rattle.assembler.proofs.Walking.{walk-on, walk-past, walk-readable}
 
@@ -30,14 +30,14 @@ pub record Placing (text starts addresses used : List ℕ) (all at number count 
   pub s : Above
   pub walk : Walk text at number count s
   pub settled : Settled text starts addresses all
-  pub found : first misplaced start 1 (program text) ≡ first misplaced s number (programAt text at)
+  pub found : first misplaced start 1 (program text) ≡ first misplaced s number (program_at text at)
   pub at-is : address ≡ s.at
-  pub most : address ≤ romSize
+  pub most : address ≤ rom_size
   pub flags : Flags s.written used
-  pub flag-count : length used ≡ romSize
+  pub flag-count : length used ≡ rom_size
   pub stored : s.addresses ≡ take count addresses
 
-pub places : (text starts addresses used : List ℕ) (all : ℕ) → Settled text starts addresses all → used ≡ replicate romSize 0
+pub places : (text starts addresses used : List ℕ) (all : ℕ) → Settled text starts addresses all → used ≡ replicate rom_size 0
     → Placing text starts addresses used all 0 1 0 0
 places text starts addresses used all settled u = record {
   s = start;
@@ -46,16 +46,16 @@ places text starts addresses used all settled u = record {
   found = refl;
   at-is = refl;
   most = omega arith;
-  flags = λ a h. rw (u, get_or-replicate {A = ℕ} romSize a 0 0 h) refl;
-  flag-count = ap length u ∙ length-replicate {A = ℕ} romSize 0;
+  flags = λ a h. rw (u, get_or-replicate {A = ℕ} rom_size a 0 0 h) refl;
+  flag-count = ap length u ∙ length-replicate {A = ℕ} rom_size 0;
   stored = refl;
 }
 
 module _ {text starts addresses used : List ℕ} {all at number count address : ℕ} (g : Placing text starts addresses used all at number count address)
     {r : Line}
-    (x : Shows text (names_at text starts count) (names_at text starts 0) addresses (statement (tokensAt text at)) r) where
+    (x : Shows text (names_at text starts count) (names_at text starts 0) addresses (statement (tokens_at text at)) r) where
   abbrev st : Statement
-  st = statement (tokensAt text at)
+  st = statement (tokens_at text at)
 
   readable : r.readable ≡ true
   readable = walk-readable g.walk x
@@ -69,19 +69,19 @@ module _ {text starts addresses used : List ℕ} {all at number count address : 
   stored_here : g.s.addresses ≡ take (length (names_at text starts count)) addresses
   stored_here = g.stored ∙ ap (λ (n : ℕ). take n addresses) (sym (names-count text starts count few))
 
-  pub stray : (eqb r.form 0 && not (within romSize r.plus r.minus)) ≡ true → number ≡ first misplaced start 1 (program text)
+  pub stray : (eqb r.form 0 && not (within rom_size r.plus r.minus)) ≡ true → number ≡ first misplaced start 1 (program text)
   stray h = walk-found g.walk misplaced g.found (shows-stray x readable g.s names stored_here h)
 
-  module _ (inside : (eqb r.form 0 && not (within romSize r.plus r.minus)) ≡ false) (here size : ℕ)
-      (here-is : here ≡ pick (eqb r.form 0) (r.plus - r.minus) address) (size_is : size ≡ sizeIn (get_or shapes r.form 0)) where
+  module _ (inside : (eqb r.form 0 && not (within rom_size r.plus r.minus)) ≡ false) (here size : ℕ)
+      (here-is : here ≡ pick (eqb r.form 0) (r.plus - r.minus) address) (size_is : size ≡ size_in (get_or shapes r.form 0)) where
     here-at : here ≡ pick (eqb r.form 0) (r.plus - r.minus) g.s.at
     here-at = here-is ∙ ap (λ (a : ℕ). pick (eqb r.form 0) (r.plus - r.minus) a) g.at-is
 
-    free-is : misplaced g.s st ≡ not (isFree used here size)
+    free-is : misplaced g.s st ≡ not (is_free used here size)
     free-is = shows-place-free x readable g.s names stored_here used g.flags (omega (arith, g.at-is, g.most)) inside
         ∙ rw (sym here-at, sym size_is) refl
 
-    pub here-most : (here ≤ romSize) × (size ≤ 2)
+    pub here-most : (here ≤ rom_size) × (size ≤ 2)
     here-most = (
       case (eqb r.form 0) (λ e. org e) (λ e. let q : here ≡ address = here-is ∙ rw e refl in omega (arith, g.most)),
       omega
@@ -92,23 +92,23 @@ module _ {text starts addresses used : List ℕ} {all at number count address : 
         yes true q = refl
         yes false q = absurd (differ (sym q))
 
-        org : eqb r.form 0 ≡ true → here ≤ romSize
+        org : eqb r.form 0 ≡ true → here ≤ rom_size
         org e =
             let q : here ≡ r.plus - r.minus = here-is ∙ rw e refl in
-            let i : not (within romSize r.plus r.minus) ≡ false = rw e at inside in
-            let l = ltb-true (r.plus - r.minus) romSize
-            (both (leb r.minus r.plus) (ltb (r.plus - r.minus) romSize) (yes (within romSize r.plus r.minus) i)).1 in
+            let i : not (within rom_size r.plus r.minus) ≡ false = rw e at inside in
+            let l = ltb-true (r.plus - r.minus) rom_size
+            (both (leb r.minus r.plus) (ltb (r.plus - r.minus) rom_size) (yes (within rom_size r.plus r.minus) i)).1 in
             omega arith
 
-    pub crowded : isFree used here size ≡ false → number ≡ first misplaced start 1 (program text)
+    pub crowded : is_free used here size ≡ false → number ≡ first misplaced start 1 (program text)
     crowded f = walk-found g.walk misplaced g.found (free-is ∙ rw f refl)
 
-    module _ (free : isFree used here size ≡ true) where
+    module _ (free : is_free used here size ≡ true) where
       good-place : misplaced g.s st ≡ false
       good-place = free-is ∙ rw free refl
 
-      pub end-most : here + size ≤ romSize
-      end-most = leb-true (here + size) romSize (both (leb (here + size) romSize) _ free).0
+      pub end-most : here + size ≤ rom_size
+      end-most = leb-true (here + size) rom_size (both (leb (here + size) rom_size) _ free).0
 
       address_is : address_of g.s st ≡ here
       address_is = shows-address x readable g.s names stored_here ∙ sym here-at
@@ -121,7 +121,7 @@ module _ {text starts addresses used : List ℕ} {all at number count address : 
 
       module _ (addresses' one two : List ℕ) (count' e : ℕ) (noted : addresses' ≡ pick r.labelled (set addresses count here) addresses)
           (counts : count' ≡ pick r.labelled (count + 1) count) (one-is : one ≡ pick (ltb 0 size) (set used here 1) used)
-          (two_is : two ≡ pick (ltb 1 size) (set one (here + 1) 1) one) (ends : e ≡ lineEnd text at) where
+          (two_is : two ≡ pick (ltb 1 size) (set one (here + 1) 1) one) (ends : e ≡ line_end text at) where
         pub same-room : length addresses' ≡ length addresses
         same-room = case r.labelled
             (λ l. let a : addresses' ≡ set addresses count here = noted ∙ rw l refl in ap length a ∙ length-set addresses count here)

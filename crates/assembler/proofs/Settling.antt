@@ -8,20 +8,20 @@ use native.Mathlib.Omega.{arith}
 use lib.Dec.{eqb, ltb}
 use lib.ListN.{get_or, length, set, take}
 use lib.Seq.{sets}
-use Rattle.assembler.specs.Forms.{romSize}
+use Rattle.assembler.specs.Forms.{rom_size}
 use Rattle.isa.specs.Choice.{pick}
-use Rattle.operand.specs.Read.{names_at, tokensAt}
+use Rattle.operand.specs.Read.{names_at, tokens_at}
 use Rattle.operand.proofs.Places.{names-count}
 use Rattle.assembler.specs.Statement.{Statement, statement}
 use Rattle.assembler.specs.Program.{Above, address_of, bytes, end, first, misfit, misplaced, next, program, put, start}
-use Rattle.assembler.specs.Shapes.{bytesIn, firsts, isMisfit, listed, low_bytes, shapes, sizeIn}
+use Rattle.assembler.specs.Shapes.{bytes_in, firsts, is_misfit, listed, low_bytes, shapes, size_in}
 use Rattle.assembler.specs.Read.{Shows}
-use Rattle.assembler.specs.Passing.{Placed, lineEnd}
+use Rattle.assembler.specs.Passing.{Placed, line_end}
 use Rattle.assembler.specs.declared.forms.Bytes.{Bytes}
 use Rattle.assembler.specs.declared.lines.Line.{Line}
 use Rattle.assembler.proofs.Addresses.{first-addresses, next-paired, shows-address, shows-bytes, shows-misfit, shows-placed, shows-put}
 use Rattle.assembler.proofs.Addresses.{shows-size, size-most, store-listed}
-use Rattle.assembler.proofs.Splitting.{last_line, next-line, programAt}
+use Rattle.assembler.proofs.Splitting.{last_line, next-line, program_at}
 use Rattle.assembler.proofs.Walking.{Walk, walk-begin, walk-few, walk-names, walk_none, walk-on, walk-past}
 use Rattle.assembler.proofs.Walking.{walk-readable}
 
@@ -29,18 +29,18 @@ use Rattle.assembler.proofs.Walking.{walk-readable}
 pub record Going (text : List ℕ) (at number count address : ℕ) (s : Above) : Type 0 where
   pub walk : Walk text at number count s
   pub at-is : address ≡ s.at
-  pub most : address ≤ romSize
+  pub most : address ≤ rom_size
   pub paired : length s.addresses ≡ length s.names
-  pub placed : first misplaced start 1 (program text) ≡ first misplaced s number (programAt text at)
+  pub placed : first misplaced start 1 (program text) ≡ first misplaced s number (program_at text at)
 
 pub goes : {text starts addresses : List ℕ} {all : ℕ} → Placed text starts addresses all → Going text 0 1 0 0 start
 goes {text} p = record { walk = walk-begin text p.settled.read; at-is = refl; most = omega arith; paired = refl; placed = refl }
 
 module _ {text starts addresses : List ℕ} {all : ℕ} (p : Placed text starts addresses all) {at number count address : ℕ} {s : Above}
     (g : Going text at number count address s) {r : Line}
-    (x : Shows text (names_at text starts count) (names_at text starts all) addresses (statement (tokensAt text at)) r) where
+    (x : Shows text (names_at text starts count) (names_at text starts all) addresses (statement (tokens_at text at)) r) where
   abbrev st : Statement
-  st = statement (tokensAt text at)
+  st = statement (tokens_at text at)
 
   abbrev whole : Above
   whole = end start (program text)
@@ -59,7 +59,7 @@ module _ {text starts addresses : List ℕ} {all : ℕ} (p : Placed text starts 
 
   stored : s.addresses ≡ take (length (names_at text starts count)) addresses
   stored =
-      first-addresses s (programAt text at) all addresses (ap (λ (a : Above). a.addresses) (sym g.walk.ends) ∙ p.addressed)
+      first-addresses s (program_at text at) all addresses (ap (λ (a : Above). a.addresses) (sym g.walk.ends) ∙ p.addressed)
       (omega (arith, many, few))
       ∙ ap (λ (n : ℕ). take n addresses) (many ∙ sym (names-count text starts count (omega (arith, few, p.settled.held))))
 
@@ -70,27 +70,27 @@ module _ {text starts addresses : List ℕ} {all : ℕ} (p : Placed text starts 
   in_place = walk_none g.walk misplaced g.placed p.placed
 
   module _ (here size : ℕ) (here-is : here ≡ pick (eqb r.form 0) (r.plus - r.minus) address)
-      (size_is : size ≡ sizeIn (get_or shapes r.form 0)) where
+      (size_is : size ≡ size_in (get_or shapes r.form 0)) where
     here-at : here ≡ pick (eqb r.form 0) (r.plus - r.minus) s.at
     here-at = here-is ∙ ap (λ (a : ℕ). pick (eqb r.form 0) (r.plus - r.minus) a) g.at-is
 
     address_is : address_of s st ≡ here
     address_is = shows-address x readable s names stored ∙ sym here-at
 
-    pub going-most : (here ≤ romSize) × (size ≤ 2) × (here + size ≤ romSize)
+    pub going-most : (here ≤ rom_size) × (size ≤ 2) × (here + size ≤ rom_size)
     going-most =
         let q = shows-placed x readable s names stored in_place (omega (arith, g.at-is, g.most)) in
         let z = shows-size x readable in
         (omega (arith, address_is, q.1), omega (arith, size_is, size-most (get_or shapes r.form 0)), omega (arith, address_is, q.0))
 
-    pub misfit-is : (shape : ℕ) → shape ≡ get_or shapes r.form 0 → misfit whole s st ≡ isMisfit size shape here r.plus r.minus
+    pub misfit-is : (shape : ℕ) → shape ≡ get_or shapes r.form 0 → misfit whole s st ≡ is_misfit size shape here r.plus r.minus
     misfit-is shape e = shows-misfit x readable s names stored whole p.settled.names whole-stored ∙ rw (sym here-at, sym size_is, sym e) refl
 
     next-at : here + size ≡ (next s st).at
     unfolding next
     next-at = rw (address_is, shows-size x readable, size_is) refl
 
-    pub going_on : (count' e : ℕ) → count' ≡ pick r.labelled (count + 1) count → e ≡ lineEnd text at → e < length text
+    pub going_on : (count' e : ℕ) → count' ≡ pick r.labelled (count + 1) count → e ≡ line_end text at → e < length text
         → Going text (e + 1) (number + 1) count' (here + size) (next s st)
     going_on count' e c q h = record {
       walk = walk-on g.walk x count' e c q h;
@@ -103,7 +103,7 @@ module _ {text starts addresses : List ℕ} {all : ℕ} (p : Placed text starts 
     -- the bytes that are stored
     module _ (fits : misfit whole s st ≡ false) (b : Bytes) (shape first value : ℕ) (Shape-is : shape ≡ get_or shapes r.form 0)
         (first-is : first ≡ get_or firsts r.form 0)
-        (value-is : value ≡ (r.plus - r.minus) % 65536) (bytes-are : listed b ≡ low_bytes (bytesIn shape first value)) (sized : b.size ≡ size)
+        (value-is : value ≡ (r.plus - r.minus) % 65536) (bytes-are : listed b ≡ low_bytes (bytes_in shape first value)) (sized : b.size ≡ size)
         (out one two : List ℕ) (one-is : one ≡ pick (ltb 0 b.size) (set out here b.first) out)
         (two_is : two ≡ pick (ltb 1 b.size) (set one (here + 1) b.second) one) where
       line-bytes : bytes whole st ≡ listed b
@@ -115,23 +115,23 @@ module _ {text starts addresses : List ℕ} {all : ℕ} (p : Placed text starts 
           ∙ ap (sets out here) (sym line-bytes) ∙ ap (λ (a : ℕ). sets out a (bytes whole st)) here-at
           ∙ shows-put x readable s names stored whole p.settled.names whole-stored out
 
-      put-line : (rest : List Statement) → programAt text at ≡ st ∷ rest → put whole s (programAt text at) out ≡ put whole (next s st) rest two
+      put-line : (rest : List Statement) → program_at text at ≡ st ∷ rest → put whole s (program_at text at) out ≡ put whole (next s st) rest two
       put-line rest is = ap (λ (ls : List Statement). put whole s ls out) is ∙ ap (put whole (next s st) rest) (sym stores)
 
-      pub put_last : (e : ℕ) → e ≡ lineEnd text at → e ≡ length text → put whole s (programAt text at) out ≡ two
+      pub put_last : (e : ℕ) → e ≡ line_end text at → e ≡ length text → put whole s (program_at text at) out ≡ two
       put_last e q h = put-line [] (last_line text at g.walk.within (sym q ∙ h))
 
-      pub put_on : (e : ℕ) → e ≡ lineEnd text at → e < length text → put whole s (programAt text at) out ≡ put whole (next s st)
-          (programAt text (e + 1)) two
-      put_on e q h = put-line (programAt text (e + 1))
-          (next-line text at g.walk.within (omega arith) ∙ ap (λ (k : ℕ). st ∷ programAt text k) (sym (add-one e ∙ ap suc q)))
+      pub put_on : (e : ℕ) → e ≡ line_end text at → e < length text → put whole s (program_at text at) out ≡ put whole (next s st)
+          (program_at text (e + 1)) two
+      put_on e q h = put-line (program_at text (e + 1))
+          (next-line text at g.walk.within (omega arith) ∙ ap (λ (k : ℕ). st ∷ program_at text k) (sym (add-one e ∙ ap suc q)))
 
 -- ---- values that are checked
 pub record Valuing (text : List ℕ) (at number count address : ℕ) : Type 0 where
   pub s : Above
   pub going : Going text at number count address s
   pub found : first (misfit (end start (program text))) start 1 (program text) ≡ first (misfit (end start (program text))) s number
-      (programAt text at)
+      (program_at text at)
 
 -- ---- bytes that are written: what is put from here on makes the whole; no value is a misfit
 pub record Writing (text out : List ℕ) (at count address : ℕ) (result : List ℕ) : Type 0 where
@@ -139,5 +139,5 @@ pub record Writing (text out : List ℕ) (at count address : ℕ) (result : List
   pub number : ℕ
   pub going : Going text at number count address s
   pub found : first (misfit (end start (program text))) start 1 (program text) ≡ first (misfit (end start (program text))) s number
-      (programAt text at)
-  pub whole : result ≡ put (end start (program text)) s (programAt text at) out
+      (program_at text at)
+  pub whole : result ≡ put (end start (program text)) s (program_at text at) out

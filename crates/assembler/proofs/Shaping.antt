@@ -12,19 +12,19 @@ use Rattle.isa.specs.Views.{view}
 use Rattle.isa.specs.declared.Instruction.{Instruction}
 use Rattle.isa.specs.declared.Instruction.TheVariants as I
 use Rattle.mnemonic.specs.Line.{line_of}
-use Rattle.assembler.specs.Forms.{always, operandDigits, forms, reaches, size, romSize}
-use Rattle.assembler.specs.Shapes.{bytesIn, digitsIn, firsts, formAt, low_bytes, reachesIn, shapes, sizeIn}
+use Rattle.assembler.specs.Forms.{always, operand_digits, forms, reaches, size, rom_size}
+use Rattle.assembler.specs.Shapes.{bytes_in, digits_in, firsts, form_at, low_bytes, reaches_in, shapes, size_in}
 
 pub record Shaped (f : ℕ → Instruction) (first s : ℕ) : Type 0 where
-  pub bytes : (v : ℕ) → bytes_of (f v) ≡ bytesIn s first v
-  pub digit : operandDigits f ≡ digitsIn s
-  pub sized : size f ≡ sizeIn s
+  pub bytes : (v : ℕ) → bytes_of (f v) ≡ bytes_in s first v
+  pub digit : operand_digits f ≡ digits_in s
+  pub sized : size f ≡ size_in s
   pub solid : eqb s 0 ≡ false
-  pub reach : (moved v : ℕ) → reaches f moved v ≡ reachesIn s moved v
-  pub low : (v : ℕ) → v < 16 ^ digitsIn s → low_bytes (bytesIn s first v) ≡ bytesIn s first v
+  pub reach : (moved v : ℕ) → reaches f moved v ≡ reaches_in s moved v
+  pub low : (v : ℕ) → v < 16 ^ digits_in s → low_bytes (bytes_in s first v) ≡ bytes_in s first v
 
-shaped : {f : ℕ → Instruction} {a s : ℕ} → ((v : ℕ) → bytes_of (f v) ≡ bytesIn s a v) → operandDigits f ≡ digitsIn s → size f ≡ sizeIn s → eqb s 0 ≡ false
-    → ((moved v : ℕ) → reaches f moved v ≡ reachesIn s moved v) → ((v : ℕ) → v < 16 ^ digitsIn s → low_bytes (bytesIn s a v) ≡ bytesIn s a v)
+shaped : {f : ℕ → Instruction} {a s : ℕ} → ((v : ℕ) → bytes_of (f v) ≡ bytes_in s a v) → operand_digits f ≡ digits_in s → size f ≡ size_in s → eqb s 0 ≡ false
+    → ((moved v : ℕ) → reaches f moved v ≡ reaches_in s moved v) → ((v : ℕ) → v < 16 ^ digits_in s → low_bytes (bytes_in s a v) ≡ bytes_in s a v)
     → Shaped f a s
 shaped b d z o r l = record { bytes = b; digit = d; sized = z; solid = o; reach = r; low = l }
 
@@ -32,22 +32,22 @@ two : {a b c d : ℕ} → a ≡ b → c ≡ d → ◌≡◌ {A = List ℕ} (a �
 two e f = cc
 
 module _ (a : ℕ) (h : T (leb a 240)) where
-  low-within : (v : ℕ) → v < 16 → low_bytes (bytesIn 3 a v) ≡ bytesIn 3 a v
+  low-within : (v : ℕ) → v < 16 → low_bytes (bytes_in 3 a v) ≡ bytes_in 3 a v
   low-within v l = let b = leb→le a 240 h in let e : (a + v) % 256 ≡ a + v = omega arith in ap (λ (x : ℕ). x ∷ []) e
 
-  low-nibble : (v : ℕ) → v < 16 → low_bytes (bytesIn 4 a v) ≡ bytesIn 4 a v
+  low-nibble : (v : ℕ) → v < 16 → low_bytes (bytes_in 4 a v) ≡ bytes_in 4 a v
   low-nibble v l = let b = leb→le a 240 h in two (omega arith) (omega arith)
 
-  low-pair : (v : ℕ) → v < 256 → low_bytes (bytesIn 5 a v) ≡ bytesIn 5 a v
+  low-pair : (v : ℕ) → v < 256 → low_bytes (bytes_in 5 a v) ≡ bytes_in 5 a v
   low-pair v l = let b = leb→le a 240 h in two (omega arith) (omega arith)
 
-  low_byte : (v : ℕ) → v < 256 → low_bytes (bytesIn 6 a v) ≡ bytesIn 6 a v
+  low_byte : (v : ℕ) → v < 256 → low_bytes (bytes_in 6 a v) ≡ bytes_in 6 a v
   low_byte v l = let b = leb→le a 240 h in two (omega arith) (omega arith)
 
-  low-address : (v : ℕ) → v < romSize → low_bytes (bytesIn 8 a v) ≡ bytesIn 8 a v
+  low-address : (v : ℕ) → v < rom_size → low_bytes (bytes_in 8 a v) ≡ bytes_in 8 a v
   low-address v l = let b = leb→le a 240 h in two (omega arith) (omega arith)
 
-low-branch : (a : ℕ) (h : T (leb a 248)) (v : ℕ) → v < romSize → low_bytes (bytesIn 7 a v) ≡ bytesIn 7 a v
+low-branch : (a : ℕ) (h : T (leb a 248)) (v : ℕ) → v < rom_size → low_bytes (bytes_in 7 a v) ≡ bytes_in 7 a v
 low-branch a h v l = let b = leb→le a 248 h in two (omega arith) (omega arith)
 
 infixr 67 ◌and◌
@@ -120,7 +120,7 @@ unfolding forms
 form-count = refl
 
 -- the form of each number but ORG's
-pub shape_at : (k : ℕ) → 0 < k → k < 97 → Shaped (formAt k) (get_or firsts k 0) (get_or shapes k 0)
-unfolding formAt
+pub shape_at : (k : ℕ) → 0 < k → k < 97 → Shaped (form_at k) (get_or firsts k 0) (get_or shapes k 0)
+unfolding form_at
 shape_at zero l h = absurd (omega arith)
 shape_at (suc k) l h = nth each k (omega (arith, form-count))

@@ -9,47 +9,47 @@ use lib.Dec.{eqb}
 use lib.ListN.{get_or, length, drop, drop_of_length-le, length-drop}
 use lib.Seq.{drop-cons, drop-drop}
 use Rattle.operand.specs.Text.{LF, lines, tokens}
-use Rattle.operand.specs.Read.{tokensAt, upToLf}
+use Rattle.operand.specs.Read.{tokens_at, up_to_lf}
 use Rattle.operand.proofs.Texts.{case}
 use Rattle.assembler.specs.Statement.{Statement, statement}
-use Rattle.assembler.specs.Passing.{lineEnd}
+use Rattle.assembler.specs.Passing.{line_end}
 
 module _ (text : List ℕ) (at : ℕ) where
-  pub end-past : length text ≤ at → lineEnd text at ≡ at
+  pub end-past : length text ≤ at → line_end text at ≡ at
   end-past h = rw (drop_of_length-le text h, add-zero) refl
 
   module _ (within : at < length text) where
-    pub end-here : get_or text at 0 ≡ LF → lineEnd text at ≡ at
+    pub end-here : get_or text at 0 ≡ LF → line_end text at ≡ at
     end-here e = rw (drop-cons text at 0 within, e, add-zero) refl
 
-    pub end_on : (get_or text at 0 ≡ LF → ⊥) → lineEnd text at ≡ lineEnd text (suc at)
+    pub end_on : (get_or text at 0 ≡ LF → ⊥) → line_end text at ≡ line_end text (suc at)
     end_on e = rw (drop-cons text at 0 within, ne_eqb (get_or text at 0) LF e, add-suc, suc-add) refl
 
-up-to-short : (s : List ℕ) → length (upToLf s) ≤ length s
+up-to-short : (s : List ℕ) → length (up_to_lf s) ≤ length s
 up-to-short [] = omega arith
 up-to-short (c ∷ s) = case (eqb c LF) (λ e. rw e (omega arith)) (λ e. rw e (omega (arith, up-to-short s)))
 
-lines-last : (s : List ℕ) → length (upToLf s) ≡ length s → lines s ≡ upToLf s ∷ []
+lines-last : (s : List ℕ) → length (up_to_lf s) ≡ length s → lines s ≡ up_to_lf s ∷ []
 lines-last [] h = refl
 lines-last (c ∷ s) h = case (eqb c LF) (λ e. absurd (omega (arith, rw e at h))) (λ e. rw e (rw (lines-last s (omega (arith, rw e at h))) refl))
 
-lines_more : (s : List ℕ) → length (upToLf s) < length s → lines s ≡ upToLf s ∷ lines (drop (suc (length (upToLf s))) s)
+lines_more : (s : List ℕ) → length (up_to_lf s) < length s → lines s ≡ up_to_lf s ∷ lines (drop (suc (length (up_to_lf s))) s)
 lines_more [] h = absurd (omega arith)
 lines_more (c ∷ s) h = case (eqb c LF) (λ e. rw e refl) (λ e. rw e (rw (lines_more s (omega (arith, rw e at h))) refl))
 
-abbrev pub programAt : List ℕ → ℕ → List Statement
-programAt text at = map statement (map tokens (lines (drop at text)))
+abbrev pub program_at : List ℕ → ℕ → List Statement
+program_at text at = map statement (map tokens (lines (drop at text)))
 
 module _ (text : List ℕ) (at : ℕ) (within : at ≤ length text) where
-  pub end-within : lineEnd text at ≤ length text
+  pub end-within : line_end text at ≤ length text
   end-within = omega (arith, up-to-short (drop at text), length-drop at text)
 
-  pub last_line : lineEnd text at ≡ length text → programAt text at ≡ statement (tokensAt text at) ∷ []
+  pub last_line : line_end text at ≡ length text → program_at text at ≡ statement (tokens_at text at) ∷ []
   last_line e = ap (λ (ls : List (List ℕ)). map statement (map tokens ls)) (lines-last (drop at text) (omega (arith, length-drop at text)))
 
-  pub next-line : lineEnd text at < length text → programAt text at ≡ statement (tokensAt text at) ∷ programAt text (suc (lineEnd text at))
+  pub next-line : line_end text at < length text → program_at text at ≡ statement (tokens_at text at) ∷ program_at text (suc (line_end text at))
   next-line h =
-      let n = length (upToLf (drop at text)) in
+      let n = length (up_to_lf (drop at text)) in
       ap (λ (ls : List (List ℕ)). map statement (map tokens ls)) (lines_more (drop at text) (omega (arith, length-drop at text)))
-      ∙ ap (λ (s : List ℕ). statement (tokensAt text at) ∷ map statement (map tokens (lines s)))
+      ∙ ap (λ (s : List ℕ). statement (tokens_at text at) ∷ map statement (map tokens (lines s)))
       (drop-drop (suc n) at text ∙ ap (λ (k : ℕ). drop k text) (add-suc at n))

@@ -16,18 +16,18 @@ use Rattle.isa.specs.declared.Instruction.{Instruction}
 use Rattle.mnemonic.specs.Spelling.{Token, letters, mark, operand, codes}
 use Rattle.operand.specs.Text.{begins, in_word, on_word, tokens}
 use Rattle.operand.specs.Words.{among}
-use Rattle.operand.specs.Operand.{Term, operandOf}
-use Rattle.operand.specs.Read.{names_at, tokensAt, upToLf, word_at}
+use Rattle.operand.specs.Operand.{Term, operand_of}
+use Rattle.operand.specs.Read.{names_at, tokens_at, up_to_lf, word_at}
 use Rattle.operand.proofs.Places.{names-count}
 use Rattle.operand.proofs.Texts.{case, differ}
-use Rattle.assembler.specs.Statement.{Statement, after, before, body, coded, code_of, equals, formIn, labelled}
-use Rattle.assembler.specs.Statement.{operandFor, orgOf, statement}
-use Rattle.assembler.specs.Forms.{operandDigits, forms}
-use Rattle.assembler.specs.Program.{Above, again, end, first, ifLabelled, label_of, mislabelled, named, next, program, start, unread}
-use Rattle.assembler.specs.Read.{Shows, broken, coded as code, empty, labelIn, origin}
-use Rattle.assembler.specs.Passing.{Settled, lineEnd}
+use Rattle.assembler.specs.Statement.{Statement, after, before, body, coded, code_of, equals, form_in, labelled}
+use Rattle.assembler.specs.Statement.{operand_for, org_of, statement}
+use Rattle.assembler.specs.Forms.{operand_digits, forms}
+use Rattle.assembler.specs.Program.{Above, again, end, first, if_labelled, label_of, mislabelled, named, next, program, start, unread}
+use Rattle.assembler.specs.Read.{Shows, broken, coded as code, empty, label_in, origin}
+use Rattle.assembler.specs.Passing.{Settled, line_end}
 use Rattle.assembler.specs.declared.lines.Line.{Line}
-use Rattle.assembler.proofs.Splitting.{end-within, last_line, next-line, programAt}
+use Rattle.assembler.proofs.Splitting.{end-within, last_line, next-line, program_at}
 
 -- ---- the first fault
 module _ (bad : Above → Statement → Bool) (s : Above) (n : ℕ) (l : Statement) (ls : List Statement) where
@@ -43,15 +43,15 @@ module _ (bad : Above → Statement → Bool) (s : Above) (n : ℕ) (l : Stateme
 -- ---- the line at a position
 pub record Split (text : List ℕ) (at : ℕ) : Type 0 where
   pub rest : List Statement
-  pub is : programAt text at ≡ statement (tokensAt text at) ∷ rest
+  pub is : program_at text at ≡ statement (tokens_at text at) ∷ rest
 
 pub split : (text : List ℕ) (at : ℕ) → at ≤ length text → Split text at
-split text at h = case (ltb (lineEnd text at) (length text))
-    (λ e. record { rest = programAt text (suc (lineEnd text at)); is = next-line text at h (ltb-true (lineEnd text at) (length text) e) })
+split text at h = case (ltb (line_end text at) (length text))
+    (λ e. record { rest = program_at text (suc (line_end text at)); is = next-line text at h (ltb-true (line_end text at) (length text) e) })
     (λ e. record {
       rest = [];
       is = last_line text at h
-          (let a = ltb-false (lineEnd text at) (length text) e in let b = end-within text at h in omega arith);
+          (let a = ltb-false (line_end text at) (length text) e in let b = end-within text at h in omega arith);
     })
 
 -- ---- the labels of the lines above
@@ -82,7 +82,7 @@ module _ (text starts : List ℕ) (all : ℕ) (room : all ≤ length starts) (s 
       ∙ ap (map (word_at text)) (take-take (length s.names) all starts few-names)
 
 -- ---- a label takes two tokens, and so two characters
-labels-none-org : (o : Option (List Term)) → label_of (orgOf none o) ≡ none
+labels-none-org : (o : Option (List Term)) → label_of (org_of none o) ≡ none
 labels-none-org none = refl
 labels-none-org (some ts) = refl
 
@@ -92,12 +92,12 @@ labels-none-code f (some ts) = refl
 
 labels-none-coded : (ts : List Token) (o : Option (ℕ → Instruction)) → label_of (coded none ts o) ≡ none
 labels-none-coded ts none = refl
-labels-none-coded ts (some f) = labels-none-code f (operandFor (operandDigits f) ts)
+labels-none-coded ts (some f) = labels-none-code f (operand_for (operand_digits f) ts)
 
 body-none : (ts : List Token) → label_of (body none ts) ≡ none
 unfolding body
-body-none ts = case (equals (letters (codes "ORG") ∷ []) (before ts)) (λ e. rw e (labels-none-org (operandOf (after ts))))
-    (λ e. rw e (labels-none-coded (after ts) (formIn forms (before ts))))
+body-none ts = case (equals (letters (codes "ORG") ∷ []) (before ts)) (λ e. rw e (labels-none-org (operand_of (after ts))))
+    (λ e. rw e (labels-none-coded (after ts) (form_in forms (before ts))))
 
 two-tokens : (ts : List Token) → labelled ts ≡ true → 2 ≤ length ts
 two-tokens [] e = absurd (differ e)
@@ -133,16 +133,16 @@ label-takes (t ∷ ts) w e = case (labelled (t ∷ ts)) (λ l. two-tokens (t ∷
     no q = let z : ◌≡◌ {A = ℕ} 0 1 = cc in omega arith
 
 -- ---- what a line that is read says
-named_in : (text : List ℕ) (present : Bool) (at : ℕ) → named (labelIn text present at) ≡ pick present (word_at text at ∷ []) []
+named_in : (text : List ℕ) (present : Bool) (at : ℕ) → named (label_in text present at) ≡ pick present (word_at text at ∷ []) []
 named_in text true at = refl
 named_in text false at = refl
 
-labelled-in : {A : Type 0} (text : List ℕ) (present : Bool) (at : ℕ) (a : A) → ifLabelled (labelIn text present at) a ≡ pick present (a ∷ []) []
+labelled-in : {A : Type 0} (text : List ℕ) (present : Bool) (at : ℕ) (a : A) → if_labelled (label_in text present at) a ≡ pick present (a ∷ []) []
 labelled-in text true at a = refl
 labelled-in text false at a = refl
 
 again-in : (text : List ℕ) (names : List (List ℕ)) (present : Bool) (at : ℕ)
-    → again names (labelIn text present at) ≡ (present && among names (word_at text at))
+    → again names (label_in text present at) ≡ (present && among names (word_at text at))
 again-in text names true at = refl
 again-in text names false at = refl
 
@@ -160,7 +160,7 @@ module _ {text : List ℕ} {above all : List (List ℕ)} {addresses : List ℕ} 
   shows-named (origin ts e b f v p) h = rw e (named_in text r.labelled r.label)
   shows-named (code ts e b f g v p) h = rw e (named_in text r.labelled r.label)
 
-  pub shows-labelled : {A : Type 0} → Shows text above all addresses st r → r.readable ≡ true → (a : A) → ifLabelled (label_of st) a ≡ pick
+  pub shows-labelled : {A : Type 0} → Shows text above all addresses st r → r.readable ≡ true → (a : A) → if_labelled (label_of st) a ≡ pick
       r.labelled (a ∷ []) []
   shows-labelled (broken e b) h a = absurd (differ (sym b ∙ h))
   shows-labelled (empty e b f l m) h a = rw (e, l) refl
@@ -182,8 +182,8 @@ module _ {text : List ℕ} {above all : List (List ℕ)} {addresses : List ℕ} 
   shows-mislabelled (code ts e b f g v p) h s q = rw (e, q, again-in text above r.labelled r.label, v.missed) refl
 
 -- a labelled line goes on for two characters
-pub labelled-long : (text : List ℕ) (at : ℕ) (w : List ℕ) → label_of (statement (tokensAt text at)) ≡ some w → at + 2 ≤ lineEnd text at
-labelled-long text at w e = omega (arith, label-takes (tokensAt text at) w e, tokens-short (upToLf (drop at text)))
+pub labelled-long : (text : List ℕ) (at : ℕ) (w : List ℕ) → label_of (statement (tokens_at text at)) ≡ some w → at + 2 ≤ line_end text at
+labelled-long text at w e = omega (arith, label-takes (tokens_at text at) w e, tokens-short (up_to_lf (drop at text)))
 
 -- ---- a walk over the lines, all of which can be read
 pub record Walk (text : List ℕ) (at number count : ℕ) (s : Above) : Type 0 where
@@ -191,15 +191,15 @@ pub record Walk (text : List ℕ) (at number count : ℕ) (s : Above) : Type 0 w
   pub some_number : 0 < number
   pub few : number ≤ at + 1
   pub counted : length s.names ≡ count
-  pub ends : end start (program text) ≡ end s (programAt text at)
-  pub read : first unread s number (programAt text at) ≡ 0
+  pub ends : end start (program text) ≡ end s (program_at text at)
+  pub read : first unread s number (program_at text at) ≡ 0
 
 pub walk-begin : (text : List ℕ) → first unread start 1 (program text) ≡ 0 → Walk text 0 1 0 start
 walk-begin text r = record { within = omega arith; some_number = omega arith; few = omega arith; counted = refl; ends = refl; read = r }
 
 module _ {text : List ℕ} {at number count : ℕ} {s : Above} (w : Walk text at number count s) where
   abbrev here : Statement
-  here = statement (tokensAt text at)
+  here = statement (tokens_at text at)
 
   module _ {starts addresses : List ℕ} {all : ℕ} (settled : Settled text starts addresses all) where
     -- the labels above stand at the first places
@@ -207,13 +207,13 @@ module _ {text : List ℕ} {at number count : ℕ} {s : Above} (w : Walk text at
     walk-few = omega (
       arith,
       w.counted,
-      few-names text starts all settled.held s (programAt text at)
+      few-names text starts all settled.held s (program_at text at)
           (ap (λ (a : Above). a.names) (sym w.ends) ∙ settled.names),
     )
 
     pub walk-names : s.names ≡ names_at text starts count
     walk-names =
-        first-names text starts all settled.held s (programAt text at) (ap (λ (a : Above). a.names) (sym w.ends) ∙ settled.names)
+        first-names text starts all settled.held s (program_at text at) (ap (λ (a : Above). a.names) (sym w.ends) ∙ settled.names)
         ∙ ap (names_at text starts) w.counted
 
     pub walk-held : count ≤ length starts
@@ -249,36 +249,36 @@ module _ {text : List ℕ} {at number count : ℕ} {s : Above} (w : Walk text at
               (ap (λ (ls : List Statement). (end s ls).names) (sym l.is) ∙ ap (λ (a : Above). a.names) (sym w.ends) ∙ settled.names),
         )
 
-    pub walk-on : (count' e : ℕ) → count' ≡ pick r.labelled (count + 1) count → e ≡ lineEnd text at → e < length text
+    pub walk-on : (count' e : ℕ) → count' ≡ pick r.labelled (count + 1) count → e ≡ line_end text at → e < length text
         → Walk text (e + 1) (number + 1) count' (next s here)
     walk-on count' e c q h =
-        let is : programAt text at ≡ here ∷ programAt text (e + 1)
-        = next-line text at w.within (omega arith) ∙ ap (λ (k : ℕ). here ∷ programAt text k) (sym (add-one e ∙ ap suc q)) in
+        let is : program_at text at ≡ here ∷ program_at text (e + 1)
+        = next-line text at w.within (omega arith) ∙ ap (λ (k : ℕ). here ∷ program_at text k) (sym (add-one e ∙ ap suc q)) in
         record {
           within = omega arith;
           some_number = omega arith;
           few = omega (arith, w.few);
           counted = next-count count' c;
           ends = w.ends ∙ ap (end s) is;
-          read = ap (λ (k : ℕ). first unread (next s here) k (programAt text (e + 1))) (add-one number)
-              ∙ (first-clear unread s number here (programAt text (e + 1)) (ap (first unread s number) (sym is) ∙ w.read) w.some_number).1;
+          read = ap (λ (k : ℕ). first unread (next s here) k (program_at text (e + 1))) (add-one number)
+              ∙ (first-clear unread s number here (program_at text (e + 1)) (ap (first unread s number) (sym is) ∙ w.read) w.some_number).1;
         }
 
   -- a fault that is looked for on the way
-  module _ (bad : Above → Statement → Bool) (found : first bad start 1 (program text) ≡ first bad s number (programAt text at)) where
+  module _ (bad : Above → Statement → Bool) (found : first bad start 1 (program text) ≡ first bad s number (program_at text at)) where
     pub walk-found : bad s here ≡ true → number ≡ first bad start 1 (program text)
     walk-found e = let l = split text at w.within in sym (found ∙ ap (first bad s number) l.is ∙ first_found bad s number here l.rest e)
 
-    pub walk-clear : bad s here ≡ false → (e : ℕ) → e ≡ lineEnd text at → e ≡ length text → 0 ≡ first bad start 1 (program text)
+    pub walk-clear : bad s here ≡ false → (e : ℕ) → e ≡ line_end text at → e ≡ length text → 0 ≡ first bad start 1 (program text)
     walk-clear b e q h = sym (found ∙ ap (first bad s number) (last_line text at w.within (sym q ∙ h)) ∙ first_on bad s number here [] b)
 
-    pub walk-past : bad s here ≡ false → (e : ℕ) → e ≡ lineEnd text at → e < length text
-        → first bad start 1 (program text) ≡ first bad (next s here) (number + 1) (programAt text (e + 1))
+    pub walk-past : bad s here ≡ false → (e : ℕ) → e ≡ line_end text at → e < length text
+        → first bad start 1 (program text) ≡ first bad (next s here) (number + 1) (program_at text (e + 1))
     walk-past b e q h =
-        let is : programAt text at ≡ here ∷ programAt text (e + 1)
-        = next-line text at w.within (omega arith) ∙ ap (λ (k : ℕ). here ∷ programAt text k) (sym (add-one e ∙ ap suc q)) in
-        found ∙ ap (first bad s number) is ∙ first_on bad s number here (programAt text (e + 1)) b
-        ∙ ap (λ (k : ℕ). first bad (next s here) k (programAt text (e + 1))) (sym (add-one number))
+        let is : program_at text at ≡ here ∷ program_at text (e + 1)
+        = next-line text at w.within (omega arith) ∙ ap (λ (k : ℕ). here ∷ program_at text k) (sym (add-one e ∙ ap suc q)) in
+        found ∙ ap (first bad s number) is ∙ first_on bad s number here (program_at text (e + 1)) b
+        ∙ ap (λ (k : ℕ). first bad (next s here) k (program_at text (e + 1))) (sym (add-one number))
 
     -- one that no line has
     pub walk_none : first bad start 1 (program text) ≡ 0 → bad s here ≡ false

@@ -16,8 +16,8 @@ use Rattle.mnemonic.specs.Line.{line_of}
 use Rattle.mnemonic.specs.Spelling.{Token, letters, mark, operand}
 
 -- under a name of its own: `addresses` is here where labels stand (Program, `Above`)
-abbrev pub romSize : ℕ
-romSize = addresses
+abbrev pub rom_size : ℕ
+rom_size = addresses
 
 -- a line with no operand
 abbrev pub always : Instruction → ℕ → Instruction
@@ -52,23 +52,23 @@ forms =
     ∷ always I.SoundOne ∷ always I.SoundLoop ∷ always I.SoundOff ∷ always I.Halt ∷ []
 
 -- the words and signs of a text before its operand, and how many hexadecimal digits the operand has, 0 where there is none
-abbrev pub leadOf : List Token → List Token
-leadOf [] = []
-leadOf (letters w ∷ ts) = letters w ∷ leadOf ts
-leadOf (mark c ∷ ts) = mark c ∷ leadOf ts
-leadOf (operand n v ∷ ts) = []
+abbrev pub lead_of : List Token → List Token
+lead_of [] = []
+lead_of (letters w ∷ ts) = letters w ∷ lead_of ts
+lead_of (mark c ∷ ts) = mark c ∷ lead_of ts
+lead_of (operand n v ∷ ts) = []
 
-abbrev pub digitsOf : List Token → ℕ
-digitsOf [] = 0
-digitsOf (letters w ∷ ts) = digitsOf ts
-digitsOf (mark c ∷ ts) = digitsOf ts
-digitsOf (operand n v ∷ ts) = n
+abbrev pub digits_of : List Token → ℕ
+digits_of [] = 0
+digits_of (letters w ∷ ts) = digits_of ts
+digits_of (mark c ∷ ts) = digits_of ts
+digits_of (operand n v ∷ ts) = n
 
 abbrev pub lead : (ℕ → Instruction) → List Token
-lead f = leadOf (line_of (f 0))
+lead f = lead_of (line_of (f 0))
 
-abbrev pub operandDigits : (ℕ → Instruction) → ℕ
-operandDigits f = digitsOf (line_of (f 0))
+abbrev pub operand_digits : (ℕ → Instruction) → ℕ
+operand_digits f = digits_of (line_of (f 0))
 
 -- how many bytes the form takes
 abbrev pub size : (ℕ → Instruction) → ℕ
@@ -76,17 +76,17 @@ size f = length (bytes_of (f 0))
 
 -- how many values its operand can have; one, 0, where it has none
 abbrev pub field : (ℕ → Instruction) → ℕ
-field f = 16 ^ operandDigits f
+field f = 16 ^ operand_digits f
 
 -- "A conditional branch whose target differs in bit 11 from its moved PC does not fit"
-abbrev pub reachesBy : {i : Instruction} → View i → ℕ → ℕ → Bool
-reachesBy on moved v = true
-reachesBy (jmp t) moved v = true
-reachesBy (branch t k) moved v = eqb (v / 2048) (moved / 2048)
-reachesBy (call t) moved v = true
-reachesBy ret moved v = true
-reachesBy reti moved v = true
-reachesBy ei moved v = true
+abbrev pub reaches_by : {i : Instruction} → View i → ℕ → ℕ → Bool
+reaches_by on moved v = true
+reaches_by (jmp t) moved v = true
+reaches_by (branch t k) moved v = eqb (v / 2048) (moved / 2048)
+reaches_by (call t) moved v = true
+reaches_by ret moved v = true
+reaches_by reti moved v = true
+reaches_by ei moved v = true
 
 abbrev pub reaches : (ℕ → Instruction) → ℕ → ℕ → Bool
-reaches f moved v = reachesBy (view (f 0)) moved v
+reaches f moved v = reaches_by (view (f 0)) moved v

@@ -1,11 +1,11 @@
 -- What the passes leave and need: for contracts inside this crate alone, `assemble` promises nothing of it. Assumes nothing.
 use Rattle.std.specs.Prelude.{ℕ, ◌+◌, ◌≤◌, ◌≡◌, List, length, drop, take}
-use Rattle.operand.specs.Read.{names_at, upToLf}
+use Rattle.operand.specs.Read.{names_at, up_to_lf}
 use Rattle.assembler.specs.Program.{end, first, misplaced, program, start, unread}
 use Rattle.assembler.specs.declared.passes.Labels.{Labels}
 
-abbrev pub lineEnd : List ℕ → ℕ → ℕ
-lineEnd text at = at + length (upToLf (drop at text))
+abbrev pub line_end : List ℕ → ℕ → ℕ
+line_end text at = at + length (up_to_lf (drop at text))
 
 -- the first pass: the labels' words stand at these places, if every line can be read
 pub record Collected (text starts : List ℕ) (r : Labels) : Type 0 where

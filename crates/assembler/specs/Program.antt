@@ -6,11 +6,11 @@ use Rattle.std.proofs.lemmas.List.Edits.{sets}
 use Rattle.isa.specs.Choice.{pick}
 use Rattle.isa.specs.Code.{bytes_of}
 use Rattle.isa.specs.declared.Instruction.{Instruction}
-use Rattle.rom.specs.Fetching.{movedBy}
+use Rattle.rom.specs.Fetching.{moved_by}
 use Rattle.operand.specs.Text.{lines, tokens}
 use Rattle.operand.specs.Words.{among}
 use Rattle.operand.specs.Operand.{Term, minus, missing, plus}
-use Rattle.assembler.specs.Forms.{field, reaches, size, romSize}
+use Rattle.assembler.specs.Forms.{field, reaches, size, rom_size}
 use Rattle.assembler.specs.Statement.{Statement, unreadable, blank, org, mnemonic, statement}
 use Rattle.assembler.specs.declared.assemble.Answer as Given
 
@@ -49,9 +49,9 @@ address_of s (org l ts) = plus s.names s.addresses ts - minus s.names s.addresse
 address_of s (mnemonic l f ts) = s.at
 
 -- one of these where there is a label
-abbrev pub ifLabelled : {A : Type 0} → Option (List ℕ) → A → List A
-ifLabelled none a = []
-ifLabelled (some w) a = a ∷ []
+abbrev pub if_labelled : {A : Type 0} → Option (List ℕ) → A → List A
+if_labelled none a = []
+if_labelled (some w) a = a ∷ []
 
 abbrev pub named : Option (List ℕ) → List (List ℕ)
 named none = []
@@ -65,7 +65,7 @@ span a (suc n) = a ∷ span (suc a) n
 unfoldable pub next : Above → Statement → Above
 next s l = record {
   names = s.names ++ named (label_of l);
-  addresses = s.addresses ++ ifLabelled (label_of l) (address_of s l);
+  addresses = s.addresses ++ if_labelled (label_of l) (address_of s l);
   at = address_of s l + size_of l;
   written = s.written ++ span (address_of s l) (size_of l);
 }
@@ -102,24 +102,24 @@ mislabelled all s (mnemonic l f ts) = missing all ts || again s.names l
 abbrev pub within : ℕ → ℕ → ℕ → Bool
 within n added taken = leb taken added && ltb (added - taken) n
 
-abbrev pub isIn : List ℕ → ℕ → Bool
-isIn [] a = false
-isIn (b ∷ bs) a = eqb b a || isIn bs a
+abbrev pub is_in : List ℕ → ℕ → Bool
+is_in [] a = false
+is_in (b ∷ bs) a = eqb b a || is_in bs a
 
 abbrev pub meets : List ℕ → List ℕ → Bool
 meets written [] = false
-meets written (a ∷ more) = isIn written a || meets written more
+meets written (a ∷ more) = is_in written a || meets written more
 
 -- "13 an ORG outside 0 to 4,095, a byte past 4,095 or written twice"
 abbrev pub misplaced : Above → Statement → Bool
 misplaced s unreadable = false
 misplaced s blank = false
-misplaced s (org l ts) = not (within romSize (plus s.names s.addresses ts) (minus s.names s.addresses ts))
-misplaced s (mnemonic l f ts) = ltb romSize (s.at + size f) || meets s.written (span s.at (size f))
+misplaced s (org l ts) = not (within rom_size (plus s.names s.addresses ts) (minus s.names s.addresses ts))
+misplaced s (mnemonic l f ts) = ltb rom_size (s.at + size f) || meets s.written (span s.at (size f))
 
 -- a value in its field, and a branch that fits
 abbrev pub fitting : ℕ → (ℕ → Instruction) → ℕ → ℕ → Bool
-fitting at f added taken = within (field f) added taken && reaches f (movedBy (size f) at) (added - taken)
+fitting at f added taken = within (field f) added taken && reaches f (moved_by (size f) at) (added - taken)
 
 -- "13 any other value outside its field, or a branch that does not fit", where `whole` has all labels
 abbrev pub misfit : Above → Above → Statement → Bool
@@ -145,7 +145,7 @@ put whole s (l ∷ ls) out = put whole (next s l) ls (sets out s.at (bytes whole
 
 -- "Bytes not written are 3E. The result has 4,096 bytes"
 abbrev pub image : List Statement → List ℕ
-image ls = put (end start ls) start ls (replicate romSize 0x3e)
+image ls = put (end start ls) start ls (replicate rom_size 0x3e)
 
 -- refused with a number at a line, or the bytes
 pub data Answer : Type 0 where
@@ -158,8 +158,8 @@ judged n zero otherwise = otherwise
 judged n (suc line) otherwise = refused n (suc line)
 
 -- "in this order over the whole text, each with the first such line (from 1)"
-abbrev pub answerTo : List Statement → Answer
-answerTo ls = judged 12 (first unread start 1 ls)
+abbrev pub answer_to : List Statement → Answer
+answer_to ls = judged 12 (first unread start 1 ls)
     (judged 14 (first (mislabelled (end start ls).names) start 1 ls)
     (judged 13 (first misplaced start 1 ls)
     (judged 13 (first (misfit (end start ls)) start 1 ls)
@@ -167,11 +167,11 @@ answerTo ls = judged 12 (first unread start 1 ls)
 
 -- "12 .. or the text too long (line 1)"
 unfoldable pub assembled : List ℕ → Answer
-assembled text = pick (ltb 65535 (length text)) (refused 12 1) (answerTo (program text))
+assembled text = pick (ltb 65535 (length text)) (refused 12 1) (answer_to (program text))
 
 -- "after 2 for a result buffer not 4,096"; it has no line, so 0
 unfoldable pub answered : List ℕ → List ℕ → Answer
-answered text out = pick (eqb (length out) romSize) (assembled text) (refused 2 0)
+answered text out = pick (eqb (length out) rom_size) (assembled text) (refused 2 0)
 
 -- the number, the line, and the lent bytes then: "Nothing is written" where it is refused (document 01)
 abbrev pub refusal : Answer → ℕ

@@ -6,28 +6,28 @@ use Rattle.isa.specs.declared.Instruction.{Instruction}
 use Rattle.isa.specs.declared.Instruction.TheVariants as I
 use Rattle.mnemonic.specs.Spelling.{Token, letters, codes}
 use Rattle.operand.specs.Read.{kind_of, packed}
-use Rattle.rom.specs.Fetching.{movedBy}
-use Rattle.assembler.specs.Forms.{always, forms, lead, romSize}
+use Rattle.rom.specs.Fetching.{moved_by}
+use Rattle.assembler.specs.Forms.{always, forms, lead, rom_size}
 use Rattle.assembler.specs.declared.forms.Bytes.{Bytes}
 
 -- ORG is number 0, and stands for no instruction; NOP for it and for no form
-unfoldable pub formAt : ℕ → ℕ → Instruction
+unfoldable pub form_at : ℕ → ℕ → Instruction
 unfolding forms
-formAt k = get_or (always I.Nop ∷ forms) k (always I.Nop)
+form_at k = get_or (always I.Nop ∷ forms) k (always I.Nop)
 
 -- the kinds of tokens in a row as one number, the last the lowest
 abbrev pub key_of : List Token → ℕ
 key_of ts = packed (reverse (map kind_of ts))
 
-abbrev pub orgLead : List Token
-orgLead = letters (codes "ORG") ∷ []
+abbrev pub org_lead : List Token
+org_lead = letters (codes "ORG") ∷ []
 
-abbrev pub leadKey : (ℕ → Instruction) → ℕ
-leadKey f = key_of (lead f)
+abbrev pub lead_key : (ℕ → Instruction) → ℕ
+lead_key f = key_of (lead f)
 
-unfoldable pub formKeys : List ℕ
+unfoldable pub form_keys : List ℕ
 unfolding forms
-formKeys = key_of orgLead ∷ map leadKey forms
+form_keys = key_of org_lead ∷ map lead_key forms
 
 abbrev pub firsts : List ℕ
 firsts =
@@ -44,14 +44,14 @@ shapes =
     1 ∷ 1 ∷ 1 ∷ 1 ∷ 1 ∷ 1 ∷ 1 ∷ 1 ∷ 1 ∷ 1 ∷ 1 ∷ 1 ∷ 1 ∷ 3 ∷ 5 ∷ 5 ∷ 4 ∷ 1 ∷ 1 ∷ 1 ∷ 1 ∷ 1 ∷ 1 ∷ 1 ∷ 1 ∷ 8 ∷ 7 ∷ 7 ∷ 7 ∷ 7 ∷ 7 ∷ 7 ∷ 7 ∷ 7 ∷
     7 ∷ 7 ∷ 7 ∷ 7 ∷ 8 ∷ 1 ∷ 1 ∷ 1 ∷ 1 ∷ 1 ∷ 1 ∷ 1 ∷ 6 ∷ 1 ∷ 1 ∷ 1 ∷ 1 ∷ 1 ∷ 1 ∷ 1 ∷ 1 ∷ 1 ∷ 1 ∷ 4 ∷ 1 ∷ 1 ∷ 1 ∷ 1 ∷ 2 ∷ []
 
-abbrev pub sizeIn : ℕ → ℕ
-sizeIn s = pick (eqb s 0) 0 (pick (eqb s 1) 1 (pick (eqb s 3) 1 2))
+abbrev pub size_in : ℕ → ℕ
+size_in s = pick (eqb s 0) 0 (pick (eqb s 1) 1 (pick (eqb s 3) 1 2))
 
-abbrev pub digitsIn : ℕ → ℕ
-digitsIn s = pick (ltb s 3) 0 (pick (ltb s 5) 1 (pick (ltb s 7) 2 3))
+abbrev pub digits_in : ℕ → ℕ
+digits_in s = pick (ltb s 3) 0 (pick (ltb s 5) 1 (pick (ltb s 7) 2 3))
 
-abbrev pub bytesIn : ℕ → ℕ → ℕ → List ℕ
-bytesIn s first v =
+abbrev pub bytes_in : ℕ → ℕ → ℕ → List ℕ
+bytes_in s first v =
     pick (eqb s 0) []
     (pick (eqb s 1) (first ∷ [])
     (pick (eqb s 2) (first ∷ 0x3e ∷ [])
@@ -65,24 +65,24 @@ abbrev pub low_bytes : List ℕ → List ℕ
 low_bytes [] = []
 low_bytes (b ∷ bs) = (b % 256) ∷ low_bytes bs
 
-abbrev pub reachesIn : ℕ → ℕ → ℕ → Bool
-reachesIn s moved v = pick (eqb s 7) (eqb (v / 2048) (moved / 2048)) true
+abbrev pub reaches_in : ℕ → ℕ → ℕ → Bool
+reaches_in s moved v = pick (eqb s 7) (eqb (v / 2048) (moved / 2048)) true
 
 abbrev pub listed : Bytes → List ℕ
 listed b = take b.size (b.first ∷ b.second ∷ [])
 
 -- the kinds of fixed words, commas and brackets
-abbrev pub leadsIn : ℕ → Bool
-leadsIn kind = leb 128 kind || eqb kind 44 || eqb kind 91 || eqb kind 93
+abbrev pub leads_in : ℕ → Bool
+leads_in kind = leb 128 kind || eqb kind 44 || eqb kind 91 || eqb kind 93
 
 -- bytes at an address that are not past the end and not written; flags of 1 say which are
 abbrev pub is_taken : List ℕ → ℕ → Bool → Bool
 is_taken used at wanted = wanted && not (eqb (get_or used at 0) 0)
 
-abbrev pub isFree : List ℕ → ℕ → ℕ → Bool
-isFree used at size = leb (at + size) romSize && (not (is_taken used at (ltb 0 size)) && not (is_taken used (at + 1) (ltb 1 size)))
+abbrev pub is_free : List ℕ → ℕ → ℕ → Bool
+is_free used at size = leb (at + size) rom_size && (not (is_taken used at (ltb 0 size)) && not (is_taken used (at + 1) (ltb 1 size)))
 
 -- a value outside a field, or a branch that does not fit, by shape
-abbrev pub isMisfit : ℕ → ℕ → ℕ → ℕ → ℕ → Bool
-isMisfit size s at added taken =
-    ltb 0 size && not (leb taken added && ltb (added - taken) (16 ^ digitsIn s) && reachesIn s (movedBy size at) (added - taken))
+abbrev pub is_misfit : ℕ → ℕ → ℕ → ℕ → ℕ → Bool
+is_misfit size s at added taken =
+    ltb 0 size && not (leb taken added && ltb (added - taken) (16 ^ digits_in s) && reaches_in s (moved_by size at) (added - taken))

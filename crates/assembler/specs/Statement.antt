@@ -8,9 +8,9 @@ use Rattle.std.proofs.Math.Option.{Option, none, some}
 use Rattle.isa.specs.Choice.{pick}
 use Rattle.isa.specs.declared.Instruction.{Instruction}
 use Rattle.mnemonic.specs.Spelling.{Token, letters, mark, operand, codes}
-use Rattle.operand.specs.Words.{isFixed, isLabel, same}
-use Rattle.operand.specs.Operand.{Term, operandOf}
-use Rattle.assembler.specs.Forms.{operandDigits, forms, lead}
+use Rattle.operand.specs.Words.{is_fixed, is_label, same}
+use Rattle.operand.specs.Operand.{Term, operand_of}
+use Rattle.assembler.specs.Forms.{operand_digits, forms, lead}
 
 pub data Statement : Type 0 where
   unreadable : Statement
@@ -20,7 +20,7 @@ pub data Statement : Type 0 where
   mnemonic : Option (List ℕ) → (ℕ → Instruction) → List Term → Statement
 
 abbrev pub leads : Token → Bool
-leads (letters w) = isFixed w
+leads (letters w) = is_fixed w
 leads (mark c) = eqb c (code ",") || eqb c (code "[") || eqb c (code "]")
 leads (operand n v) = false
 
@@ -49,13 +49,13 @@ equals (t ∷ ts) [] = false
 equals (t ∷ ts) (u ∷ us) = equal t u && equals ts us
 
 -- the form, of these, that has these words and signs
-abbrev pub formIn : List (ℕ → Instruction) → List Token → Option (ℕ → Instruction)
-formIn [] ts = none
-formIn (f ∷ fs) ts = pick (equals (lead f) ts) (some f) (formIn fs ts)
+abbrev pub form_in : List (ℕ → Instruction) → List Token → Option (ℕ → Instruction)
+form_in [] ts = none
+form_in (f ∷ fs) ts = pick (equals (lead f) ts) (some f) (form_in fs ts)
 
-abbrev pub orgOf : Option (List ℕ) → Option (List Term) → Statement
-orgOf l none = unreadable
-orgOf l (some terms) = org l terms
+abbrev pub org_of : Option (List ℕ) → Option (List Term) → Statement
+org_of l none = unreadable
+org_of l (some terms) = org l terms
 
 abbrev pub code_of : Option (List ℕ) → (ℕ → Instruction) → Option (List Term) → Statement
 code_of l f none = unreadable
@@ -67,20 +67,20 @@ nothing [] = some []
 nothing (t ∷ ts) = none
 
 -- the operand of a form, which has one or none
-abbrev pub operandFor : ℕ → List Token → Option (List Term)
-operandFor zero ts = nothing ts
-operandFor (suc n) ts = operandOf ts
+abbrev pub operand_for : ℕ → List Token → Option (List Term)
+operand_for zero ts = nothing ts
+operand_for (suc n) ts = operand_of ts
 
 abbrev pub coded : Option (List ℕ) → List Token → Option (ℕ → Instruction) → Statement
 coded l ts none = unreadable
-coded l ts (some f) = code_of l f (operandFor (operandDigits f) ts)
+coded l ts (some f) = code_of l f (operand_for (operand_digits f) ts)
 
 -- what follows the label
 unfoldable pub body : Option (List ℕ) → List Token → Statement
-body l ts = pick (equals (letters (codes "ORG") ∷ []) (before ts)) (orgOf l (operandOf (after ts))) (coded l (after ts) (formIn forms (before ts)))
+body l ts = pick (equals (letters (codes "ORG") ∷ []) (before ts)) (org_of l (operand_of (after ts))) (coded l (after ts) (form_in forms (before ts)))
 
 abbrev pub labelled : List Token → Bool
-labelled (letters w ∷ mark c ∷ ts) = isLabel w && eqb c (code ":")
+labelled (letters w ∷ mark c ∷ ts) = is_label w && eqb c (code ":")
 labelled (letters w ∷ letters v ∷ ts) = false
 labelled (letters w ∷ operand n v ∷ ts) = false
 labelled (letters w ∷ []) = false
@@ -94,11 +94,11 @@ label_of (mark c ∷ ts) = none
 label_of (operand n v ∷ ts) = none
 label_of [] = none
 
-abbrev pub afterTwo : List Token → List Token
-afterTwo (t ∷ u ∷ ts) = ts
-afterTwo (t ∷ []) = []
-afterTwo [] = []
+abbrev pub after_two : List Token → List Token
+after_two (t ∷ u ∷ ts) = ts
+after_two (t ∷ []) = []
+after_two [] = []
 
 abbrev pub statement : List Token → Statement
 statement [] = blank
-statement (t ∷ ts) = pick (labelled (t ∷ ts)) (body (label_of (t ∷ ts)) (afterTwo (t ∷ ts))) (body none (t ∷ ts))
+statement (t ∷ ts) = pick (labelled (t ∷ ts)) (body (label_of (t ∷ ts)) (after_two (t ∷ ts))) (body none (t ∷ ts))

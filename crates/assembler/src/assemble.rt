@@ -1,7 +1,7 @@
 // The whole of it: text to the 4,096 bytes of a mask.
 ghost use Rattle.std.specs.Prelude.{◌≡◌, ◌≤◌, length, replicate};
-ghost use Rattle.assembler.specs.Forms.{romSize};
-ghost use Rattle.assembler.specs.Program.{Answered, answerTo, answered, program};
+ghost use Rattle.assembler.specs.Forms.{rom_size};
+ghost use Rattle.assembler.specs.Program.{Answered, answer_to, answered, program};
 
 use crate::passes::{check_labels, check_values, place_lines, read_lines, write_lines};
 use isa::PLACES;
@@ -34,9 +34,9 @@ fn judged(
     used: &mut [u8],
     out: &mut [u8],
 ) -> Answer
-    requires text_len_bound { (length text.now ≤ 65535) × (length out.old ≡ romSize) }
-    requires starts_len { (length starts.old ≡ 32768) × (length addresses.old ≡ 32768) × (used.old ≡ replicate romSize 0) }
-    ensures { Answered (answerTo (program text.now)) out.old result out.new }
+    requires text_len_bound { (length text.now ≤ 65535) × (length out.old ≡ rom_size) }
+    requires starts_len { (length starts.old ≡ 32768) × (length addresses.old ≡ 32768) × (used.old ≡ replicate rom_size 0) }
+    ensures { Answered (answer_to (program text.now)) out.old result out.new }
 {
     let read = read_lines(text, starts, addresses);
     let unread = read.line;

@@ -1,7 +1,7 @@
 // The forms of a line, by the fixed words and signs before its operand: 0 is ORG, then come the lines of document 001's summary in its order.
 ghost use Rattle.std.specs.Prelude.{◌≡◌, ◌<◌, ◌^◌, ◌%◌, get_or};
 ghost use Rattle.operand.specs.Read.{place_of};
-ghost use Rattle.assembler.specs.Shapes.{bytesIn, digitsIn, firsts, formKeys, listed, low_bytes, shapes, sizeIn};
+ghost use Rattle.assembler.specs.Shapes.{bytes_in, digits_in, firsts, form_keys, listed, low_bytes, shapes, size_in};
 
 use operand::tokens::place;
 
@@ -36,7 +36,7 @@ pub const ADDRESS: u8 = 8;
 
 // The number of the form whose words and signs have these kinds in a row.
 pub(crate) fn form_of(key: u64) -> usize
-    ensures { result ≡ place_of formKeys key }
+    ensures { result ≡ place_of form_keys key }
 {
     let list = [
         0xbc, // ORG
@@ -359,7 +359,7 @@ pub(crate) fn shape_of(form: usize) -> u8
 
 // How many bytes.
 pub(crate) fn size_of(shape: u8) -> usize
-    ensures { result ≡ sizeIn shape }
+    ensures { result ≡ size_in shape }
 {
     if shape == EMPTY {
         return 0;
@@ -375,7 +375,7 @@ pub(crate) fn size_of(shape: u8) -> usize
 
 // How many hexadecimal digits the operand can have.
 pub(crate) fn digits_of(shape: u8) -> u8
-    ensures { result ≡ digitsIn shape }
+    ensures { result ≡ digits_in shape }
 {
     if shape < WITHIN {
         return 0;
@@ -423,7 +423,7 @@ fn byte(x: u32) -> u8
 
 // The bytes of a form and its operand's value, by the form's shape and first byte.
 pub(crate) fn bytes_of(shape: u8, first: u8, value: u16) -> Bytes
-    ensures { (listed result ≡ low_bytes (bytesIn shape first value)) × (result.size ≡ sizeIn shape) }
+    ensures { (listed result ≡ low_bytes (bytes_in shape first value)) × (result.size ≡ size_in shape) }
 {
     let a = first as u32;
     let v = value as u32;

@@ -1,9 +1,9 @@
 // One line: its label, its form and its operand.
 ghost use Rattle.std.specs.Prelude.{◌≡◌, false, ◌≤◌, length};
-ghost use Rattle.operand.specs.Read.{names_at, tokensAt};
+ghost use Rattle.operand.specs.Read.{names_at, tokens_at};
 ghost use Rattle.assembler.specs.Statement.{statement};
-ghost use Rattle.assembler.specs.Shapes.{leadsIn};
-ghost use Rattle.assembler.specs.Read.{Headed, Labelling, Operanded, Shows, bodied, labelIn};
+ghost use Rattle.assembler.specs.Shapes.{leads_in};
+ghost use Rattle.assembler.specs.Read.{Headed, Labelling, Operanded, Shows, bodied, label_in};
 
 use crate::forms::{BLANK, NONE, ORG, digits_of, form_of, shape_of};
 use operand::operands::operand;
@@ -34,7 +34,7 @@ struct Label {
 
 fn labelling(text: &[u8], at: usize) -> Label
     requires { at ≤ length text.now }
-    ensures { Labelling text.now (tokensAt text.now at) result }
+    ensures { Labelling text.now (tokens_at text.now at) result }
 {
     let word = token(text, at);
     let kind = word.kind;
@@ -66,7 +66,7 @@ fn labelling(text: &[u8], at: usize) -> Label
 
 // Whether a token is one of those before an operand: a fixed word, a comma or a bracket.
 fn leads(kind: u8) -> bool
-    ensures { result ≡ leadsIn kind }
+    ensures { result ≡ leads_in kind }
 {
     if kind >= FIXED {
         return true;
@@ -89,7 +89,7 @@ struct Head {
 
 fn heading(text: &[u8], at: usize) -> Head
     requires { at ≤ length text.now }
-    ensures { Headed text.now (tokensAt text.now at) result }
+    ensures { Headed text.now (tokens_at text.now at) result }
 {
     let mut key = 0u64;
     let mut count: u8 = 0;
@@ -135,7 +135,7 @@ fn with_operand(
 ) -> Line
     requires { length text.now ≤ 65535 }
     ensures { Operanded (names_at text.now starts.now count) addresses.now
-        (tokensAt text.now at) form name result }
+        (tokens_at text.now at) form name result }
 {
     let o = operand(text, at, starts, addresses, count);
     if !o.readable {
@@ -171,7 +171,7 @@ fn body(
     requires { (at ≤ length text.now) × (length text.now ≤ 65535) × (form ≤ 97) × (name.start ≤ length text.now) }
     ensures { Shows text.now (names_at text.now starts.now above)
         (names_at text.now starts.now all) addresses.now
-        (bodied form (labelIn text.now name.present name.start) (tokensAt text.now at)) result }
+        (bodied form (label_in text.now name.present name.start) (tokens_at text.now at)) result }
 {
     if form == NONE {
         return unreadable();
@@ -212,7 +212,7 @@ pub(crate) fn read_line(
 ) -> Line
     requires { (at ≤ length text.now) × (length text.now ≤ 65535) }
     ensures { Shows text.now (names_at text.now starts.now above)
-        (names_at text.now starts.now all) addresses.now (statement (tokensAt text.now at)) result }
+        (names_at text.now starts.now all) addresses.now (statement (tokens_at text.now at)) result }
 {
     let first = token(text, at);
     let kind = first.kind;

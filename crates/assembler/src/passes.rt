@@ -3,10 +3,10 @@ ghost use Rattle.std.specs.Prelude.{◌≡◌, true, false, not, ◌&&◌, ◌+�
 ghost use Rattle.isa.specs.Choice.{pick};
 ghost use Rattle.operand.specs.Words.{among};
 ghost use Rattle.operand.specs.Read.{names_at, word_at};
-ghost use Rattle.assembler.specs.Forms.{romSize};
+ghost use Rattle.assembler.specs.Forms.{rom_size};
 ghost use Rattle.assembler.specs.Program.{end, first, mislabelled, misfit, misplaced, program, put, start, within};
-ghost use Rattle.assembler.specs.Shapes.{isFree, isMisfit};
-ghost use Rattle.assembler.specs.Passing.{Collected, Placed, Settled, lineEnd};
+ghost use Rattle.assembler.specs.Shapes.{is_free, is_misfit};
+ghost use Rattle.assembler.specs.Passing.{Collected, Placed, Settled, line_end};
 
 use crate::forms::{BRANCH, ORG, bytes_of, digits_of, first_of, shape_of, size_of, values_of};
 use crate::lines::read_line;
@@ -18,7 +18,7 @@ const LAST_ADDRESS: u64 = MASK as u64 - 1;
 // Where the line that starts here ends.
 fn line_end(text: &[u8], at: usize) -> usize
     requires { at ≤ length text.now }
-    ensures { result ≡ lineEnd text.now at }
+    ensures { result ≡ line_end text.now at }
 {
     let mut i = at;
     while i < text.len() {
@@ -137,7 +137,7 @@ pub(crate) fn check_labels(text: &[u8], starts: &[u16], none: &[u16], all: usize
 
 // Whether a line is an ORG outside 0 to 4,095.
 fn strays(form: usize, plus: u64, minus: u64) -> bool
-    ensures { result ≡ (eqb form 0 && not (within romSize plus minus)) }
+    ensures { result ≡ (eqb form 0 && not (within rom_size plus minus)) }
 {
     if form != ORG {
         return false;
@@ -175,8 +175,8 @@ fn taken(used: &[u8], at: usize, wanted: bool) -> bool
 
 // Whether a line's bytes have a place.
 fn free(used: &[u8], at: usize, size: usize) -> bool
-    requires { (at ≤ romSize) × (size ≤ 2) }
-    ensures { result ≡ isFree used.now at size }
+    requires { (at ≤ rom_size) × (size ≤ 2) }
+    ensures { result ≡ is_free used.now at size }
 {
     if at + size > MASK {
         return false;
@@ -196,7 +196,7 @@ pub(crate) fn place_lines(
     all: usize,
 ) -> u32
     requires settled { Settled text.now starts.now addresses.old all }
-    requires used_value { used.old ≡ replicate romSize 0 }
+    requires used_value { used.old ≡ replicate rom_size 0 }
     ensures { (result ≡ first misplaced start 1 (program text.now))
         × (result ≡ 0 → Placed text.now starts.now addresses.new all) }
 {
@@ -232,8 +232,8 @@ pub(crate) fn place_lines(
 
 // Whether a value is outside its field, or a branch does not fit, where a line has bytes at all.
 fn misfits(size: usize, shape: u8, address: usize, plus: u64, minus: u64) -> bool
-    requires { (address ≤ romSize) × (size ≤ 2) }
-    ensures { result ≡ isMisfit size shape address plus minus }
+    requires { (address ≤ rom_size) × (size ≤ 2) }
+    ensures { result ≡ is_misfit size shape address plus minus }
 {
     if size == 0 {
         return false;

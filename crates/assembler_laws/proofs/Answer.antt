@@ -13,12 +13,12 @@ use borrow.Author.Tests.{lt-ltb, le-ltb, le-leb}
 use Rattle.isa.specs.Code.{bytes_of}
 use Rattle.isa.specs.declared.Instruction.{Instruction}
 use Rattle.isa.proofs.Exact.{and_both}
-use Rattle.rom.specs.Fetching.{movedBy}
+use Rattle.rom.specs.Fetching.{moved_by}
 use Rattle.operand.specs.Operand.{Term, plus, minus, missing}
-use Rattle.assembler.specs.Forms.{size, field, reaches, romSize}
+use Rattle.assembler.specs.Forms.{size, field, reaches, rom_size}
 use Rattle.assembler.specs.Statement.{Statement, org, mnemonic}
 use Rattle.assembler.specs.Program.{Above, start, next, end, address_of, span, first, unread, mislabelled, within, meets, misplaced, fitting, misfit}
-use Rattle.assembler.specs.Program.{put, Answer, written, judged, answerTo}
+use Rattle.assembler.specs.Program.{put, Answer, written, judged, answer_to}
 use Rattle.assembler_laws.proofs.Spoken.{term}
 
 nothing-found : (bad : Above → Statement → Bool) (l m : Statement) → bad start l ≡ false → bad (next start l) m ≡ false
@@ -50,8 +50,8 @@ above-second a =
 second_at : (a : ℕ) → (next start (org none (term a ∷ []))).at ≡ a
 second_at a = ap (λ (s : Above). s.at) (above-second a)
 
-module _ (a : ℕ) (f : ℕ → Instruction) (ts : List Term) (v : ℕ) (room : a < romSize) (fits : a + size f ≤ romSize) (low : v < field f)
-    (reach : reaches f (movedBy (size f) a) v ≡ true) (added : plus [] [] ts ≡ v) (taken : minus [] [] ts ≡ 0) (known : missing [] ts ≡ false) where
+module _ (a : ℕ) (f : ℕ → Instruction) (ts : List Term) (v : ℕ) (room : a < rom_size) (fits : a + size f ≤ rom_size) (low : v < field f)
+    (reach : reaches f (moved_by (size f) a) v ≡ true) (added : plus [] [] ts ≡ v) (taken : minus [] [] ts ≡ 0) (known : missing [] ts ≡ false) where
   abbrev first-line : Statement
   first-line = org none (term a ∷ [])
 
@@ -70,13 +70,13 @@ module _ (a : ℕ) (f : ℕ → Instruction) (ts : List Term) (v : ℕ) (room : 
 
   placed : first misplaced start 1 both ≡ 0
   placed =
-      nothing-found misplaced first-line second-line (ap not (value-within romSize a (a + 0) 0 (omega arith) refl room))
-      (subst (λ (s : Above). misplaced s second-line ≡ false) (sym (above-second a)) (rw (le-ltb romSize (a + size f) fits) (nowhere (span a (size f)))))
+      nothing-found misplaced first-line second-line (ap not (value-within rom_size a (a + 0) 0 (omega arith) refl room))
+      (subst (λ (s : Above). misplaced s second-line ≡ false) (sym (above-second a)) (rw (le-ltb rom_size (a + size f) fits) (nowhere (span a (size f)))))
 
   fits-there : (at : ℕ) → at ≡ a → fitting at f (plus [] [] ts) (minus [] [] ts) ≡ true
   fits-there at e =
       let d : plus [] [] ts - minus [] [] ts ≡ v = omega arith in
-      and_both (within (field f) (plus [] [] ts) (minus [] [] ts)) (reaches f (movedBy (size f) at) (plus [] [] ts - minus [] [] ts))
+      and_both (within (field f) (plus [] [] ts) (minus [] [] ts)) (reaches f (moved_by (size f) at) (plus [] [] ts - minus [] [] ts))
       (value-within (field f) v (plus [] [] ts) (minus [] [] ts) added taken low) (rw (e, d) reach)
 
   fitted : first (misfit whole) start 1 both ≡ 0
@@ -89,10 +89,10 @@ module _ (a : ℕ) (f : ℕ → Instruction) (ts : List Term) (v : ℕ) (room : 
       let d : plus [] [] ts - minus [] [] ts ≡ v = omega arith in
       ap₂ (λ (n m : ℕ). sets out n (bytes_of (f m))) (second_at a) d
 
-  pub answer : answerTo both ≡ written (sets (replicate romSize 0x3e) a (bytes_of (f v)))
+  pub answer : answer_to both ≡ written (sets (replicate rom_size 0x3e) a (bytes_of (f v)))
   answer =
       not-refused 12 (first unread start 1 both) _ refl
       ∙ not-refused 14 (first (mislabelled whole.names) start 1 both) _ labelled
       ∙ not-refused 13 (first misplaced start 1 both) _ placed
       ∙ not-refused 13 (first (misfit whole) start 1 both) _ fitted
-      ∙ ap written (imaged (replicate romSize 0x3e))
+      ∙ ap written (imaged (replicate rom_size 0x3e))

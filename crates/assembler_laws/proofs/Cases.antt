@@ -8,7 +8,7 @@ use mathlib.Core.Bool.{true, ◌&&◌}
 use mathlib.Core.Option.{some}
 use lib.Dec.{T, ltb, lit<}
 use borrow.Author.Tests.{ltb-true, eq-eqb}
-use Rattle.isa.specs.Code.{in_range, bitInRange}
+use Rattle.isa.specs.Code.{in_range, bit_in_range}
 use Rattle.isa.specs.Views.{view}
 use Rattle.isa.specs.declared.Pointer.{Pointer}
 use Rattle.isa.specs.declared.Pointer.TheVariants.{R1R0, R3R2}
@@ -20,11 +20,11 @@ use Rattle.isa.specs.declared.Condition.TheVariants.{Ja, JnzR0, JnzR1, JnzR4, Jz
 use Rattle.isa.specs.declared.Instruction.{Instruction}
 use Rattle.isa.specs.declared.Instruction.TheVariants as I
 use Rattle.isa.proofs.Exact.{and_left, and_right}
-use Rattle.rom.specs.Fetching.{branchTo}
+use Rattle.rom.specs.Fetching.{branch_to}
 use Rattle.mnemonic.specs.Line.{line_of}
 use Rattle.mnemonic.specs.Placing.{placed_at}
-use Rattle.assembler.specs.Forms.{always, paired, addressed, branching, forms, lead, field, reaches, romSize}
-use Rattle.assembler.specs.Statement.{formIn}
+use Rattle.assembler.specs.Forms.{always, paired, addressed, branching, forms, lead, field, reaches, rom_size}
+use Rattle.assembler.specs.Statement.{form_in}
 use Rattle.assembler.specs.Program.{span}
 use Rattle.assembler_laws.proofs.Each as Each
 use Rattle.assembler_laws.proofs.Each.{Each, ◌and◌}
@@ -33,7 +33,7 @@ use Rattle.assembler_laws.proofs.Spoken.{line-of}
 pub record Case (moved : ℕ) (i : Instruction) : Type 0 where
   pub form : ℕ → Instruction
   pub value : ℕ
-  pub found : formIn forms (lead form) ≡ some form
+  pub found : form_in forms (lead form) ≡ some form
   pub is : form value ≡ i
   pub low : value < field form
   pub reach : reaches form moved value ≡ true
@@ -48,16 +48,16 @@ counted {P} a (suc n) (suc k) (p and ps) h = subst P (suc-add a k ∙ sym (add-s
 each_below : (P : ℕ → Type 0) (n k : ℕ) → Each P (span 0 n) → ltb k n ≡ true → P k
 each_below P n k ps h = subst P (zero-add k) (counted 0 n k ps (ltb-true k n h))
 
-module _ (moved : ℕ) (bound : moved < romSize) where
-  with_value : {i : Instruction} (f : ℕ → Instruction) (v : ℕ) → formIn forms (lead f) ≡ some f → f v ≡ i → v < field f → reaches f moved v ≡ true
+module _ (moved : ℕ) (bound : moved < rom_size) where
+  with_value : {i : Instruction} (f : ℕ → Instruction) (v : ℕ) → form_in forms (lead f) ≡ some f → f v ≡ i → v < field f → reaches f moved v ≡ true
       → line_of (placed_at moved i) ≡ line-of f v → Case moved i
   with_value f v e p h r l = record { form = f; value = v; found = e; is = p; low = h; reach = r; line = l }
 
-  still : {i : Instruction} → formIn forms (lead (always i)) ≡ some (always i) → T (ltb 0 (field (always i))) → reaches (always i) moved 0 ≡ true
+  still : {i : Instruction} → form_in forms (lead (always i)) ≡ some (always i) → T (ltb 0 (field (always i))) → reaches (always i) moved 0 ≡ true
       → line_of (placed_at moved i) ≡ line-of (always i) 0 → Case moved i
   still {i} e h r l = with_value (always i) 0 e refl (lit< h) r l
 
-  pair : (p : Pointer) (low high : ℕ) → ltb low 16 && ltb high 16 ≡ true → formIn forms (lead (paired p)) ≡ some (paired p) → field (paired p) ≡ 256
+  pair : (p : Pointer) (low high : ℕ) → ltb low 16 && ltb high 16 ≡ true → form_in forms (lead (paired p)) ≡ some (paired p) → field (paired p) ≡ 256
       → reaches (paired p) moved (16 * high + low) ≡ true
       → line_of (placed_at moved (I.MovPairXX p low high)) ≡ line-of (paired p) (16 * high + low)
       → Case moved (I.MovPairXX p low high)
@@ -67,14 +67,14 @@ module _ (moved : ℕ) (bound : moved < romSize) where
       with_value (paired p) (16 * high + low) e (ap₂ (I.MovPairXX p) (omega arith) (omega arith)) (rw d (omega arith)) r l
 
   -- a branch, whose whole target gives its low 11 bits back and has the bit 11 of the moved address
-  to : (k : Condition) (t : ProgramAddress) → ltb t.0 2048 ≡ true → formIn forms (lead (branching k)) ≡ some (branching k)
-      → field (branching k) ≡ romSize → line_of (placed_at moved (I.Branch t k)) ≡ line-of (branching k) (branchTo moved t) → Case moved (I.Branch t k)
+  to : (k : Condition) (t : ProgramAddress) → ltb t.0 2048 ≡ true → form_in forms (lead (branching k)) ≡ some (branching k)
+      → field (branching k) ≡ rom_size → line_of (placed_at moved (I.Branch t k)) ≡ line-of (branching k) (branch_to moved t) → Case moved (I.Branch t k)
   unfolding view
   to k t h e d l =
       let b : t.0 < 2048 = ltb-true t.0 2048 h in
-      let back : branchTo moved t % 2048 ≡ t.0 = omega arith in
-      with_value (branching k) (branchTo moved t) e (ap (λ (n : ℕ). I.Branch (record { 0 = n }) k) back) (rw d (omega arith))
-      (eq-eqb (branchTo moved t / 2048) (moved / 2048) (omega arith)) l
+      let back : branch_to moved t % 2048 ≡ t.0 = omega arith in
+      with_value (branching k) (branch_to moved t) e (ap (λ (n : ℕ). I.Branch (record { 0 = n }) k) back) (rw d (omega arith))
+      (eq-eqb (branch_to moved t / 2048) (moved / 2048) (omega arith)) l
 
   -- JAn: the four bits
   bits : (t : ProgramAddress) → ltb t.0 2048 ≡ true → Each (λ (n : ℕ). Case moved (I.Branch t (Ja n))) (span 0 4)
@@ -84,7 +84,7 @@ module _ (moved : ℕ) (bound : moved < romSize) where
       and Each.none
 
   pub case : (i : Instruction) → in_range i ≡ true → Case moved i
-  unfolding forms in_range bitInRange line_of placed_at view
+  unfolding forms in_range bit_in_range line_of placed_at view
   case I.AddAM r = still refl tt refl refl
   case I.AdcAM r = still refl tt refl refl
   case I.SubAM r = still refl tt refl refl
@@ -135,7 +135,7 @@ module _ (moved : ℕ) (bound : moved < romSize) where
   case (I.InA Ps) r = still refl tt refl refl
   case (I.InA Pp) r = still refl tt refl refl
   case I.OutPaA r = still refl tt refl refl
-  case (I.Jmp t) r = with_value (addressed I.Jmp) t.0 refl refl (ltb-true t.0 romSize r) refl refl
+  case (I.Jmp t) r = with_value (addressed I.Jmp) t.0 refl refl (ltb-true t.0 rom_size r) refl refl
   case (I.Branch t (Ja n)) r =
       each_below (λ (n : ℕ). Case moved (I.Branch t (Ja n))) 4 n (bits t (and_right (ltb n 4) (ltb t.0 2048) r))
       (and_left (ltb n 4) (ltb t.0 2048) r)
@@ -147,7 +147,7 @@ module _ (moved : ℕ) (bound : moved < romSize) where
   case (I.Branch t Jc) r = to Jc t r refl refl refl
   case (I.Branch t Jnc) r = to Jnc t r refl refl refl
   case (I.Branch t Jtmr) r = to Jtmr t r refl refl refl
-  case (I.Call t) r = with_value (addressed I.Call) t.0 refl refl (ltb-true t.0 romSize r) refl refl
+  case (I.Call t) r = with_value (addressed I.Call) t.0 refl refl (ltb-true t.0 rom_size r) refl refl
   case I.Ret r = still refl tt refl refl
   case I.Reti r = still refl tt refl refl
   case I.Clc r = still refl tt refl refl

@@ -11,7 +11,7 @@ use mathlib.Core.Logic.{⊎_elim}
 use lib.ListN.{length}
 use borrow.Author.Tests.{ltb-true}
 use Rattle.isa.specs.Choice.{pick}
-use Rattle.isa.specs.Code.{in_range, bitInRange}
+use Rattle.isa.specs.Code.{in_range, bit_in_range}
 use Rattle.isa.specs.declared.Pointer.TheVariants.{R3R2}
 use Rattle.isa.specs.declared.Port.TheVariants.{Pm, Ps, Pp}
 use Rattle.isa.specs.declared.Page.TheVariants.{Current, F}
@@ -22,8 +22,8 @@ use Rattle.isa.specs.declared.Instruction.TheVariants as I
 use Rattle.isa.proofs.Exact.{and_left, and_right}
 use Rattle.mnemonic.specs.Line.{line_of}
 use Rattle.mnemonic.specs.Spelling.{Token, letters, mark, operand, codes}
-use Rattle.operand.specs.Words.{fixedWords, same, place, isFixed}
-use Rattle.assembler.specs.Forms.{operandDigits, lead}
+use Rattle.operand.specs.Words.{fixed_words, same, place, is_fixed}
+use Rattle.assembler.specs.Forms.{operand_digits, lead}
 use Rattle.assembler.specs.Statement.{leads}
 use Rattle.assembler_laws.specs.Fixed.{Stated, org, mnemonic, FixedExactly}
 use Rattle.assembler_laws.proofs.Each as Each
@@ -79,9 +79,9 @@ with-them =
     ∷ I.Ret ∷ I.Reti ∷ I.Clc ∷ I.Stc ∷ I.Ei ∷ I.Di ∷ I.Nop ∷ I.TimerOn ∷ I.TimerOn ∷ I.TimerOff ∷ I.MovATmrl ∷ I.MovATmrh
     ∷ I.ReadR4A Current ∷ I.ReadR4A Current ∷ I.ReadMr0A Current ∷ I.ReadR4A F ∷ I.SoundA ∷ I.SoundOne ∷ I.SoundLoop ∷ I.Halt ∷ []
 
-fixed-stated : Each Stated fixedWords
-unfolding fixedWords line_of in_range bitInRange
-fixed-stated = each-stated fixedWords with-them refl
+fixed-stated : Each Stated fixed_words
+unfolding fixed_words line_of in_range bit_in_range
+fixed-stated = each-stated fixed_words with-them refl
 
 -- what holds of each word of a list holds of a word that is among them
 found : (P : List ℕ → Type 0) (w : List ℕ) {vs : List (List ℕ)} → Each P vs → place vs w < length vs → P w
@@ -92,9 +92,9 @@ found P w (◌and◌ {a = v} {l = vs} p ps) h = go (same v w) refl h (found P w 
     go true q k f = subst P (same-is v w q) p
     go false q k f = f (le_of_suc-le-suc k)
 
-stated : (w : List ℕ) → isFixed w ≡ true → Stated w
-unfolding isFixed
-stated w e = found Stated w fixed-stated (ltb-true (place fixedWords w) (length fixedWords) e)
+stated : (w : List ℕ) → is_fixed w ≡ true → Stated w
+unfolding is_fixed
+stated w e = found Stated w fixed-stated (ltb-true (place fixed_words w) (length fixed_words) e)
 
 -- ---- each word of a line is fixed
 no_word : (w : List ℕ) (n v : ℕ) → Memᴰ (letters w) (spoken n v) → ⊥
@@ -103,21 +103,21 @@ no_word w (suc n) v m =
     let e : letters w ≡ operand (suc n) v = Memᴰ.eq_of_singleton m in
     let z : ◌≡◌ {A = ℕ} 0 1 = cc in omega arith
 
-word-fixed : (w : List ℕ) (ts : List Token) (n v : ℕ) → every leads ts ≡ true → Memᴰ (letters w) (ts ++ spoken n v) → isFixed w ≡ true
+word-fixed : (w : List ℕ) (ts : List Token) (n v : ℕ) → every leads ts ≡ true → Memᴰ (letters w) (ts ++ spoken n v) → is_fixed w ≡ true
 word-fixed w ts n v e m = ⊎_elim (λ q. passes leads (letters w) ts e q) (λ q. absurd (no_word w n v q)) (Memᴰ.append_cases ts m)
 
-line-fixed : (w : List ℕ) (i : Instruction) → in_range i ≡ true → Memᴰ (letters w) (line_of i) → isFixed w ≡ true
+line-fixed : (w : List ℕ) (i : Instruction) → in_range i ≡ true → Memᴰ (letters w) (line_of i) → is_fixed w ≡ true
 line-fixed w i r m =
     let f = (own-case i r).form in
-    word-fixed w (lead f) (operandDigits f) (own-case i r).value (tested-form f (own-case i r).found).words.fixed
+    word-fixed w (lead f) (operand_digits f) (own-case i r).value (tested-form f (own-case i r).found).words.fixed
     (subst (Memᴰ (letters w)) (own_line i r) m)
 
-org-fixed : isFixed (codes "ORG") ≡ true
-unfolding isFixed fixedWords
+org-fixed : is_fixed (codes "ORG") ≡ true
+unfolding is_fixed fixed_words
 org-fixed = refl
 
-fixed : (w : List ℕ) → Stated w → isFixed w ≡ true
-fixed w (org e) = ap isFixed e ∙ org-fixed
+fixed : (w : List ℕ) → Stated w → is_fixed w ≡ true
+fixed w (org e) = ap is_fixed e ∙ org-fixed
 fixed w (mnemonic i r m) = line-fixed w i r m
 
 pub fixed-exactly : FixedExactly

@@ -10,16 +10,16 @@ use lib.Dec.{T, eqb, leb, ltb, lit≤}
 use lib.ListN.{length}
 use borrow.Author.Tests.{eqb-true, lt-ltb}
 use Rattle.isa.specs.Choice.{pick}
-use Rattle.isa.specs.Code.{bytes_of, in_range, leading, bitInRange}
+use Rattle.isa.specs.Code.{bytes_of, in_range, leading, bit_in_range}
 use Rattle.isa.specs.Views.{view}
 use Rattle.isa.specs.declared.Instruction.{Instruction}
 use Rattle.isa.proofs.Exact.{and_both, and_left, and_right}
 use Rattle.mnemonic.specs.Line.{line_of}
 use Rattle.mnemonic.specs.Spelling.{Token, letters, codes}
-use Rattle.operand.specs.Operand.{Term, operandOf}
-use Rattle.assembler.specs.Forms.{always, forms, lead, operandDigits, size, field, reaches, romSize}
-use Rattle.assembler.specs.Statement.{Statement, unreadable, blank, org, mnemonic, before, after, equals, formIn, orgOf, code_of, operandFor, coded}
-use Rattle.assembler.specs.Statement.{body, labelled, label_of, afterTwo, statement}
+use Rattle.operand.specs.Operand.{Term, operand_of}
+use Rattle.assembler.specs.Forms.{always, forms, lead, operand_digits, size, field, reaches, rom_size}
+use Rattle.assembler.specs.Statement.{Statement, unreadable, blank, org, mnemonic, before, after, equals, form_in, org_of, code_of, operand_for, coded}
+use Rattle.assembler.specs.Statement.{body, labelled, label_of, after_two, statement}
 use Rattle.assembler_laws.specs.Lines.{GoesBy}
 use Rattle.assembler_laws.proofs.Each as Each
 use Rattle.assembler_laws.proofs.Each.{Each, ◌and◌}
@@ -49,14 +49,14 @@ nibbles : (v : ℕ) → v < 256 → ltb (v % 16) 16 && ltb (v / 16) 16 ≡ true
 nibbles v h = and_both (ltb (v % 16) 16) (ltb (v / 16) 16) (lt-ltb (v % 16) 16 (omega arith)) (lt-ltb (v / 16) 16 (omega arith))
 
 -- the whole target, where bit 11 is the moved PC's
-whole-target : (moved v : ℕ) → v < romSize → eqb (v / 2048) (moved / 2048) ≡ true → moved / 2048 * 2048 + v % 2048 % 2048 ≡ v
+whole-target : (moved v : ℕ) → v < rom_size → eqb (v / 2048) (moved / 2048) ≡ true → moved / 2048 * 2048 + v % 2048 % 2048 ≡ v
 whole-target moved v h e = let q = eqb-true (v / 2048) (moved / 2048) e in omega arith
 
-low_bits : (v : ℕ) → v < romSize → ltb (v % 2048) 2048 ≡ true
+low_bits : (v : ℕ) → v < rom_size → ltb (v % 2048) 2048 ≡ true
 low_bits v h = lt-ltb (v % 2048) 2048 (omega arith)
 
 pub forms-fit : Each Fits forms
-unfolding forms bytes_of in_range leading bitInRange line_of view
+unfolding forms bytes_of in_range leading bit_in_range line_of view
 forms-fit =
     still refl (λ m v. tt) and still refl (λ m v. tt) and still refl (λ m v. tt) and still refl (λ m v. tt) and direct (λ v. refl) (λ v. refl) tt (λ m v l r. tt) and direct (λ v. refl) (λ v. refl) tt (λ m v l r. tt)
     and still refl (λ m v. tt) and still refl (λ m v. tt) and still refl (λ m v. tt) and still refl (λ m v. tt) and still refl (λ m v. tt) and still refl (λ m v. tt) and still refl (λ m v. tt) and direct (λ v. refl) (λ v. refl) tt (λ m v l r. tt)
@@ -91,11 +91,11 @@ either : {A : Type 0} (P : A → Type 0) {a b : A} (t : Bool) → P a → P b �
 either P true p q = p
 either P false p q = q
 
-pub found : {P : (ℕ → Instruction) → Type 0} {fs : List (ℕ → Instruction)} (ts : List Token) → Each P fs → OfForm P (formIn fs ts)
+pub found : {P : (ℕ → Instruction) → Type 0} {fs : List (ℕ → Instruction)} (ts : List Token) → Each P fs → OfForm P (form_in fs ts)
 found ts Each.none = tt
 found {P} ts (◌and◌ {a = f} p ps) = either (OfForm P) (equals (lead f) ts) p (found ts ps)
 
-formed-org : (l : Option (List ℕ)) (o : Option (List Term)) → Formed (orgOf l o)
+formed-org : (l : Option (List ℕ)) (o : Option (List Term)) → Formed (org_of l o)
 formed-org l none = tt
 formed-org l (some ts) = tt
 
@@ -105,14 +105,14 @@ formed-code l (some ts) p = p
 
 formed-coded : (l : Option (List ℕ)) (ts : List Token) (o : Option (ℕ → Instruction)) → OfForm Fits o → Formed (coded l ts o)
 formed-coded l ts none p = tt
-formed-coded l ts (some f) p = formed-code l (operandFor (operandDigits f) ts) p
+formed-coded l ts (some f) p = formed-code l (operand_for (operand_digits f) ts) p
 
 formed-body : (l : Option (List ℕ)) (ts : List Token) → Formed (body l ts)
 unfolding body
 formed-body l ts =
-    either Formed (equals (letters (codes "ORG") ∷ []) (before ts)) (formed-org l (operandOf (after ts)))
-    (formed-coded l (after ts) (formIn forms (before ts)) (found (before ts) forms-fit))
+    either Formed (equals (letters (codes "ORG") ∷ []) (before ts)) (formed-org l (operand_of (after ts)))
+    (formed-coded l (after ts) (form_in forms (before ts)) (found (before ts) forms-fit))
 
 pub formed : (ts : List Token) → Formed (statement ts)
 formed [] = tt
-formed (t ∷ ts) = either Formed (labelled (t ∷ ts)) (formed-body (label_of (t ∷ ts)) (afterTwo (t ∷ ts))) (formed-body none (t ∷ ts))
+formed (t ∷ ts) = either Formed (labelled (t ∷ ts)) (formed-body (label_of (t ∷ ts)) (after_two (t ∷ ts))) (formed-body none (t ∷ ts))

@@ -10,18 +10,18 @@ use lib.ListN.{length}
 use borrow.Author.Tests.{lt-ltb}
 use Rattle.isa.specs.Choice.{pick}
 use Rattle.mnemonic.specs.Spelling.{Token, mark, sign}
-use Rattle.operand.specs.Text.{isDigit}
-use Rattle.operand.specs.Words.{first, isLabel, number_of}
+use Rattle.operand.specs.Text.{is_digit}
+use Rattle.operand.specs.Words.{first, is_label, number_of}
 use Rattle.operand.specs.Operand as Reading
-use Rattle.operand.specs.Operand.{Term, part_of, before, wanted, followed, operandOf}
+use Rattle.operand.specs.Operand.{Term, part_of, before, wanted, followed, operand_of}
 use Rattle.assembler_laws.specs.Grammar.{Tree, number, label, numeral, name, parenthesis}
-use Rattle.assembler_laws.specs.Grammar.{Operand, single, added, less, termsOf}
+use Rattle.assembler_laws.specs.Grammar.{Operand, single, added, less, terms_of}
 use Rattle.assembler_laws.proofs.Numbers.{not-label}
 
 -- ---- words
-pub starts-with-digit : (w : List ℕ) (n : ℕ) → number_of w ≡ some n → isDigit (first w) ≡ true
+pub starts-with-digit : (w : List ℕ) (n : ℕ) → number_of w ≡ some n → is_digit (first w) ≡ true
 unfolding number_of
-starts-with-digit w n e = go (isDigit (first w)) _ e
+starts-with-digit w n e = go (is_digit (first w)) _ e
   where
     go : (t : Bool) (o : Option ℕ) → pick t o none ≡ some n → t ≡ true
     go true o q = refl
@@ -31,7 +31,7 @@ pub numeral-part : (w : List ℕ) (n : ℕ) → number_of w ≡ some n → part_
 unfolding part_of
 numeral-part w n e = rw (not-label w (starts-with-digit w n e), e) refl
 
-pub name-part : (w : List ℕ) → isLabel w ≡ true → part_of w ≡ some (Reading.label w)
+pub name-part : (w : List ℕ) → is_label w ≡ true → part_of w ≡ some (Reading.label w)
 unfolding part_of
 name-part w e = rw e refl
 
@@ -60,11 +60,11 @@ minus-follows ts here (o ∷ os) = refl
 -- what is read of the tokens of a single, or of an operand, with others after them, where so many more parentheses may be opened
 abbrev SingleRead : ℕ → List Token → Tree → Type 0
 SingleRead d ts t = (rest : List Token) (away here : Bool) (outer : List Bool) → d + length outer ≤ 16
-    → wanted (ts ++ rest) away here outer ≡ ahead (termsOf away t) (followed rest here outer)
+    → wanted (ts ++ rest) away here outer ≡ ahead (terms_of away t) (followed rest here outer)
 
 abbrev OperandRead : ℕ → List Token → Tree → Type 0
 OperandRead d ts t = (rest : List Token) (here : Bool) (outer : List Bool) → d + length outer ≤ 16
-    → wanted (ts ++ rest) here here outer ≡ ahead (termsOf here t) (followed rest here outer)
+    → wanted (ts ++ rest) here here outer ≡ ahead (terms_of here t) (followed rest here outer)
 
 parenthesis-read : (d : ℕ) (ts : List Token) (t : Tree) → OperandRead d ts t → SingleRead (suc d) (sign "(" ∷ (ts ++ (sign ")" ∷ []))) t
 parenthesis-read d ts t p rest away here outer h =
@@ -77,12 +77,12 @@ joined-read : (c : ℕ) (turned : Bool → Bool)
     → ((ts : List Token) (here : Bool) (outer : List Bool) → followed (mark c ∷ ts) here outer ≡ wanted ts (turned here) here outer)
     → (d : ℕ) (ts us : List Token) (t u : Tree) → OperandRead d ts t → SingleRead d us u
     → (rest : List Token) (here : Bool) (outer : List Bool) → d + length outer ≤ 16
-    → wanted ((ts ++ (mark c ∷ us)) ++ rest) here here outer ≡ ahead (termsOf here t ++ termsOf (turned here) u) (followed rest here outer)
+    → wanted ((ts ++ (mark c ∷ us)) ++ rest) here here outer ≡ ahead (terms_of here t ++ terms_of (turned here) u) (followed rest here outer)
 joined-read c turned follows d ts us t u p s rest here outer h =
     ap (λ (vs : List Token). wanted vs here here outer) (append_assoc ts (mark c ∷ us) rest)
     ∙ p (mark c ∷ (us ++ rest)) here outer h
-    ∙ ap (ahead (termsOf here t)) (follows (us ++ rest) here outer ∙ s rest (turned here) here outer h)
-    ∙ ahead-append (termsOf here t) (termsOf (turned here) u) (followed rest here outer)
+    ∙ ap (ahead (terms_of here t)) (follows (us ++ rest) here outer ∙ s rest (turned here) here outer h)
+    ∙ ahead-append (terms_of here t) (terms_of (turned here) u) (followed rest here outer)
 
 operand_read : {d : ℕ} {ts : List Token} {t : Tree} → Operand d ts t → OperandRead d ts t
 operand_read p = elim p as (λ d ts t s. SingleRead d ts t) (λ d ts t p. OperandRead d ts t) [
@@ -94,8 +94,8 @@ operand_read p = elim p as (λ d ts t s. SingleRead d ts t) (λ d ts t p. Operan
   | less {d = d} {ts = ts} {us = us} {t = t} {u = u} (p → q) (s → r) ↦ joined-read (code "-") not minus-follows d ts us t u q r
 ]
 
-pub read : (ts : List Token) (t : Tree) → Operand 16 ts t → operandOf ts ≡ some (termsOf false t)
+pub read : (ts : List Token) (t : Tree) → Operand 16 ts t → operand_of ts ≡ some (terms_of false t)
 read ts t p =
     ap (λ (us : List Token). wanted us false false []) (sym (append-nil ts))
     ∙ operand_read p [] false [] (omega arith)
-    ∙ ahead-nothing (termsOf false t)
+    ∙ ahead-nothing (terms_of false t)

@@ -5,15 +5,15 @@ use mathlib.Core.Bool.{false}
 use mathlib.Core.List.{List}
 use mathlib.Core.Option.{some}
 use Rattle.mnemonic.specs.Spelling.{Token}
-use Rattle.operand.specs.Operand.{Term, operandOf, plus, minus}
-use Rattle.assembler_laws.specs.Grammar.{Tree, Operand, termsOf, Grammatical, valueIn, Counts, Worth}
+use Rattle.operand.specs.Operand.{Term, operand_of, plus, minus}
+use Rattle.assembler_laws.specs.Grammar.{Tree, Operand, terms_of, Grammatical, value_in, Counts, Worth}
 use Rattle.assembler_laws.proofs.Full.{read}
 use Rattle.assembler_laws.proofs.Sound.{has}
 use Rattle.assembler_laws.proofs.Tree.{one-tree}
 use Rattle.assembler_laws.proofs.Worth.{tree-counts}
 
 -- terms that are read are the tree's
-its-terms : (ts : List Token) (terms : List Term) (t : Tree) → Operand 16 ts t → operandOf ts ≡ some terms → termsOf false t ≡ terms
+its-terms : (ts : List Token) (terms : List Term) (t : Tree) → Operand 16 ts t → operand_of ts ≡ some terms → terms_of false t ≡ terms
 its-terms ts terms t p e = let q = read ts t p in cc
 
 pub grammatical : Grammatical
@@ -25,5 +25,5 @@ grammatical = record {
 
 pub worth : Worth
 worth names addresses ts terms t p e =
-    subst (λ (xs : List Term). Counts (plus names addresses xs) (minus names addresses xs) (valueIn names addresses t)) (its-terms ts terms t p e)
+    subst (λ (xs : List Term). Counts (plus names addresses xs) (minus names addresses xs) (value_in names addresses t)) (its-terms ts terms t p e)
     (tree-counts names addresses t)

@@ -12,13 +12,13 @@ use borrow.Author.Tests.{ltb-true, ltb-false, not-false}
 use Rattle.isa.specs.Code.{bytes_of}
 use Rattle.isa.specs.declared.Instruction.{Instruction}
 use Rattle.isa.proofs.Exact.{and_left, and_right}
-use Rattle.rom.specs.Fetching.{byteAt, movedBy}
+use Rattle.rom.specs.Fetching.{byte_at, moved_by}
 use Rattle.rom.specs.declared.reader.Code.{Code}
 use Rattle.rom.proofs.Fetching.{code-bytes}
 use Rattle.operand.specs.Text as Text
 use Rattle.operand.specs.Text.{tokens}
 use Rattle.operand.specs.Operand.{Term, plus, minus}
-use Rattle.assembler.specs.Forms.{size, field, reaches, romSize}
+use Rattle.assembler.specs.Forms.{size, field, reaches, rom_size}
 use Rattle.assembler.specs.Statement.{Statement, unreadable, blank, org, mnemonic, statement}
 use Rattle.assembler.specs.Program.{Above, start, end, span, meets, within, misplaced, misfit, instruction, bytes, put, image, program}
 use Rattle.assembler_laws.specs.Lines.{Stands, here, there, BytesRead, LinesRead, LinesReadAll}
@@ -32,19 +32,19 @@ each_line (p and ps) here = p
 each_line (p and ps) (there h) = each_line ps h
 
 -- at most two bytes that stand at an address, as the two that are read there
-two-read : (xs bs : List ℕ) (a : ℕ) → length xs ≤ 2 → a + length xs ≤ romSize → ((j : ℕ) → j < length xs → get_or bs (a + j) 0 ≡ get_or xs j 0)
-    → take (length xs) (byteAt bs a ∷ byteAt bs (a + 1) ∷ []) ≡ xs
+two-read : (xs bs : List ℕ) (a : ℕ) → length xs ≤ 2 → a + length xs ≤ rom_size → ((j : ℕ) → j < length xs → get_or bs (a + j) 0 ≡ get_or xs j 0)
+    → take (length xs) (byte_at bs a ∷ byte_at bs (a + 1) ∷ []) ≡ xs
 two-read [] bs a s h f = refl
 two-read (x ∷ []) bs a s h f =
-    let p : a % romSize ≡ a + 0 = omega arith in
+    let p : a % rom_size ≡ a + 0 = omega arith in
     ap (λ (n : ℕ). n ∷ []) (ap (λ (n : ℕ). get_or bs n 0) p ∙ f 0 (lit< tt))
 two-read (x ∷ y ∷ []) bs a s h f =
-    let p : a % romSize ≡ a + 0 = omega arith in
-    let q : (a + 1) % romSize ≡ a + 1 = omega arith in
+    let p : a % rom_size ≡ a + 0 = omega arith in
+    let q : (a + 1) % rom_size ≡ a + 1 = omega arith in
     ap₂ (λ (n m : ℕ). n ∷ m ∷ []) (ap (λ (n : ℕ). get_or bs n 0) p ∙ f 0 (lit< tt)) (ap (λ (n : ℕ). get_or bs n 0) q ∙ f 1 (lit< tt))
 two-read (x ∷ y ∷ z ∷ xs) bs a s h f = absurd (omega arith)
 
-module _ (ls : List Statement) (out : List ℕ) (room : length out ≡ romSize) (fits : Each Formed ls)
+module _ (ls : List Statement) (out : List ℕ) (room : length out ≡ rom_size) (fits : Each Formed ls)
     (placed : (u : Above) (k : Statement) → Stands start ls u k → misplaced u k ≡ false)
     (fitted : (u : Above) (k : Statement) → Stands start ls u k → misfit (end start ls) u k ≡ false) where
   abbrev whole : Above
@@ -64,7 +64,7 @@ module _ (ls : List Statement) (out : List ℕ) (room : length out ≡ romSize) 
       let q : length (bytes_of (instruction whole f ts)) ≡ size f = p.sized (added ts - taken ts) in
       record {
         spanned = ap (span u.at) (sym q);
-        clear = rw q (or_right (ltb romSize (u.at + size f)) (meets u.written (span u.at (size f))) e);
+        clear = rw q (or_right (ltb rom_size (u.at + size f)) (meets u.written (span u.at (size f))) e);
       }
 
   all-clear : (u : Above) (k : Statement) → Stands start ls u k → Clear whole u k
@@ -78,12 +78,12 @@ module _ (ls : List Statement) (out : List ℕ) (room : length out ≡ romSize) 
       let q : length (bytes_of (f v)) ≡ size f = p.sized v in
       let short : length (bytes_of (f v)) ≤ 2 = rw q p.short in
       let fit = not-false _ (fitted u (mnemonic l f ts) h) in
-      let value = and_left (within (field f) (added ts) (taken ts)) (reaches f (movedBy (size f) u.at) v) fit in
+      let value = and_left (within (field f) (added ts) (taken ts)) (reaches f (moved_by (size f) u.at) v) fit in
       let low : v < field f = ltb-true v (field f) (and_right (leb (taken ts) (added ts)) (ltb v (field f)) value) in
-      let here : u.at + size f ≤ romSize =
-      ltb-false romSize (u.at + size f)
-      (or_left (ltb romSize (u.at + size f)) (meets u.written (span u.at (size f))) (placed u (mnemonic l f ts) h)) in
-      let inside : u.at + length (bytes_of (f v)) ≤ romSize = rw q here in
+      let here : u.at + size f ≤ rom_size =
+      ltb-false rom_size (u.at + size f)
+      (or_left (ltb rom_size (u.at + size f)) (meets u.written (span u.at (size f))) (placed u (mnemonic l f ts) h)) in
+      let inside : u.at + length (bytes_of (f v)) ≤ rom_size = rw q here in
       record {
         reads = record {
           fields = p.in-range v low;
@@ -93,15 +93,15 @@ module _ (ls : List Statement) (out : List ℕ) (room : length out ≡ romSize) 
         };
         fits = here;
         in_field = value;
-        goes = p.goes (movedBy (size f) u.at) v low (and_right (within (field f) (added ts) (taken ts)) (reaches f (movedBy (size f) u.at) v) fit);
+        goes = p.goes (moved_by (size f) u.at) v low (and_right (within (field f) (added ts) (taken ts)) (reaches f (moved_by (size f) u.at) v) fit);
       }
 
 module _ (text bs : List ℕ) (p : Passed (program text) bs) where
   abbrev blank-mask : List ℕ
-  blank-mask = replicate romSize 0x3e
+  blank-mask = replicate rom_size 0x3e
 
-  room : length blank-mask ≡ romSize
-  room = length-replicate {A = ℕ} romSize 0x3e
+  room : length blank-mask ≡ rom_size
+  room = length-replicate {A = ℕ} rom_size 0x3e
 
   fits : Each Formed (program text)
   fits = each_map Formed statement formed (map tokens (Text.lines text))
@@ -119,7 +119,7 @@ module _ (text bs : List ℕ) (p : Passed (program text) bs) where
         lines = bytes_read (program text) blank-mask room fits placed fitted;
         others = λ a h e.
             unwritten (end start (program text)) start (program text) blank-mask a (all-clear (program text) blank-mask room fits placed fitted) e
-            ∙ get_or-replicate {A = ℕ} romSize a 0x3e 0 h;
+            ∙ get_or-replicate {A = ℕ} rom_size a 0x3e 0 h;
       }
 
 pub lines-read : LinesReadAll

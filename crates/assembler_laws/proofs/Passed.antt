@@ -10,7 +10,7 @@ use lib.ListN.{length}
 use Rattle.isa.specs.Choice.{pick}
 use Rattle.assembler.specs.Statement.{Statement}
 use Rattle.assembler.specs.Program.{Above, start, next, end, first, unread, mislabelled, misplaced, misfit, image, program}
-use Rattle.assembler.specs.Program.{Answer, refused, written, judged, answerTo, assembled}
+use Rattle.assembler.specs.Program.{Answer, refused, written, judged, answer_to, assembled}
 use Rattle.assembler_laws.specs.Lines.{Stands, here, there}
 
 pub record Passed (ls : List Statement) (bs : List ℕ) : Type 0 where
@@ -22,7 +22,7 @@ judged-out : (n k : ℕ) (a : Answer) (bs : List ℕ) → judged n k a ≡ writt
 judged-out n zero a bs e = (refl, e)
 judged-out n (suc k) a bs e = absurd (let z : ◌≡◌ {A = ℕ} 0 1 = cc in omega arith)
 
-accepted : (ls : List Statement) (bs : List ℕ) → answerTo ls ≡ written bs → Passed ls bs
+accepted : (ls : List Statement) (bs : List ℕ) → answer_to ls ≡ written bs → Passed ls bs
 accepted ls bs e =
     let a = judged-out 12 (first unread start 1 ls) _ bs e in
     let b = judged-out 14 (first (mislabelled (end start ls).names) start 1 ls) _ bs a.1 in
@@ -39,7 +39,7 @@ not-long false a bs e = e
 
 pub passed : (text bs : List ℕ) → assembled text ≡ written bs → Passed (program text) bs
 unfolding assembled
-passed text bs e = accepted (program text) bs (not-long (ltb 65535 (length text)) (answerTo (program text)) bs e)
+passed text bs e = accepted (program text) bs (not-long (ltb 65535 (length text)) (answer_to (program text)) bs e)
 
 -- a test that finds no line is false of each
 module _ (bad : Above → Statement → Bool) where

@@ -11,15 +11,15 @@ use lib.Seq.{sets}
 use borrow.Author.Tests.{le-ltb}
 use Rattle.isa.specs.Code.{bytes_of}
 use Rattle.isa.specs.declared.Instruction.{Instruction}
-use Rattle.rom.specs.Fetching.{movedBy}
-use Rattle.mnemonic.specs.Line.{textOf}
+use Rattle.rom.specs.Fetching.{moved_by}
+use Rattle.mnemonic.specs.Line.{text_of}
 use Rattle.mnemonic.specs.Placing.{placed_at}
 use Rattle.mnemonic.specs.Spelling.{Token, spelling}
 use Rattle.operand.specs.Text.{LF, tokens}
 use Rattle.operand.specs.Operand.{minus, missing}
-use Rattle.assembler.specs.Forms.{lead, operandDigits, size, romSize}
+use Rattle.assembler.specs.Forms.{lead, operand_digits, size, rom_size}
 use Rattle.assembler.specs.Statement.{Statement, org, mnemonic, statement}
-use Rattle.assembler.specs.Program.{program, written, answerTo, assembled}
+use Rattle.assembler.specs.Program.{program, written, answer_to, assembled}
 use Rattle.assembler_laws.specs.Printed.{printed, PrintsBack}
 use Rattle.assembler_laws.proofs.Answer.{answer}
 use Rattle.assembler_laws.proofs.Cases.{Case, case}
@@ -50,11 +50,11 @@ module _ (s t : List Token) {u w : List Token} (p : Reread s u) (q : Reread t w)
       ∙ ap₂ (λ (x y : List Token). statement x ∷ statement y ∷ []) p.read q.read
 
   -- the text is not too long
-  short-text : assembled joined ≡ answerTo (program joined)
+  short-text : assembled joined ≡ answer_to (program joined)
   unfolding assembled
   short-text = rw (le-ltb 65535 (length joined) (omega (arith, length-append (spelling s) (LF ∷ spelling t), p.short, q.short))) refl
 
-module _ (i : Instruction) (a : ℕ) (fits : a + length (bytes_of i) ≤ romSize) (c : Case (movedBy (length (bytes_of i)) a) i) where
+module _ (i : Instruction) (a : ℕ) (fits : a + length (bytes_of i) ≤ rom_size) (c : Case (moved_by (length (bytes_of i)) a) i) where
   abbrev f : ℕ → Instruction
   f = c.form
 
@@ -67,7 +67,7 @@ module _ (i : Instruction) (a : ℕ) (fits : a + length (bytes_of i) ≤ romSize
   sized : length (bytes_of i) ≡ size f
   sized = ap (λ (j : Instruction). length (bytes_of j)) (sym c.is) ∙ (subst (OfForm Fits) c.found (found (lead f) forms-fit)).sized v
 
-  room : a < romSize
+  room : a < rom_size
   room = omega (arith, fits, sized, good.takes)
 
   small : v ≤ 65535
@@ -77,26 +77,26 @@ module _ (i : Instruction) (a : ℕ) (fits : a + length (bytes_of i) ≤ romSize
   text = spelling (org-words ++ spoken 3 a) ++ (LF ∷ spelling (line-of f v))
 
   text-is : printed a i ≡ text
-  unfolding textOf
+  unfolding text_of
   text-is =
-      append_assoc (spelling (org-words ++ spoken 3 a)) (LF ∷ []) (textOf (placed_at (movedBy (length (bytes_of i)) a) i))
+      append_assoc (spelling (org-words ++ spoken 3 a)) (LF ∷ []) (text_of (placed_at (moved_by (length (bytes_of i)) a) i))
       ∙ ap (λ (ts : List Token). spelling (org-words ++ spoken 3 a) ++ (LF ∷ spelling ts)) c.line
 
-  program-is : program text ≡ org none (terms 3 a) ∷ mnemonic none f (terms (operandDigits f) v) ∷ []
+  program-is : program text ≡ org none (terms 3 a) ∷ mnemonic none f (terms (operand_digits f) v) ∷ []
   program-is =
       two-lines (org-words ++ spoken 3 a) (line-of f v) (reads-org a) (reads-form f v good.text)
       ∙ ap₂ (λ (l m : Statement). l ∷ m ∷ []) (org-said 2 a room (omega (arith, room)))
       (form-said f v good.words c.found c.low small)
 
-  text-assembled : assembled text ≡ written (sets (replicate romSize 0x3e) a (bytes_of (f v)))
+  text-assembled : assembled text ≡ written (sets (replicate rom_size 0x3e) a (bytes_of (f v)))
   text-assembled =
       short-text (org-words ++ spoken 3 a) (line-of f v) (reads-org a) (reads-form f v good.text)
-      ∙ ap answerTo program-is
-      ∙ answer a f (terms (operandDigits f) v) v room (rw sized at fits) c.low (rw sized at c.reach)
-      (plus-terms (operandDigits f) v c.low) (minus-terms (operandDigits f) v) (known-terms (operandDigits f) v)
+      ∙ ap answer_to program-is
+      ∙ answer a f (terms (operand_digits f) v) v room (rw sized at fits) c.low (rw sized at c.reach)
+      (plus-terms (operand_digits f) v c.low) (minus-terms (operand_digits f) v) (known-terms (operand_digits f) v)
 
-  pub assembles : assembled (printed a i) ≡ written (sets (replicate romSize 0x3e) a (bytes_of i))
-  assembles = ap assembled text-is ∙ text-assembled ∙ ap (λ (j : Instruction). written (sets (replicate romSize 0x3e) a (bytes_of j))) c.is
+  pub assembles : assembled (printed a i) ≡ written (sets (replicate rom_size 0x3e) a (bytes_of i))
+  assembles = ap assembled text-is ∙ text-assembled ∙ ap (λ (j : Instruction). written (sets (replicate rom_size 0x3e) a (bytes_of j))) c.is
 
 pub prints-back : PrintsBack
-prints-back i a r h = assembles i a h (case (movedBy (length (bytes_of i)) a) (omega arith) i r)
+prints-back i a r h = assembles i a h (case (moved_by (length (bytes_of i)) a) (omega arith) i r)

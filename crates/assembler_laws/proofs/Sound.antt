@@ -13,11 +13,11 @@ use borrow.Author.Tests.{eqb-true, ltb-true}
 use Rattle.isa.specs.Choice.{pick}
 use Rattle.isa.proofs.Exact.{and_left, and_right}
 use Rattle.mnemonic.specs.Spelling.{Token, letters, mark, operand, sign}
-use Rattle.operand.specs.Words.{isLabel, number_of}
+use Rattle.operand.specs.Words.{is_label, number_of}
 use Rattle.operand.specs.Operand as Reading
-use Rattle.operand.specs.Operand.{Part, Term, part_of, as_number, termed, wanted, followed, operandOf}
+use Rattle.operand.specs.Operand.{Part, Term, part_of, as_number, termed, wanted, followed, operand_of}
 use Rattle.assembler_laws.specs.Grammar.{Tree, number, label, sum, difference, Single, numeral, name, parenthesis}
-use Rattle.assembler_laws.specs.Grammar.{Operand, single, added, less, termsOf, Has}
+use Rattle.assembler_laws.specs.Grammar.{Operand, single, added, less, terms_of, Has}
 
 never : {A B : Type 0} {a : A} → none ≡ some a → B
 never e = absurd (let z : ◌≡◌ {A = ℕ} 0 1 = cc in omega arith)
@@ -29,9 +29,9 @@ leaf (Reading.label w) = label w
 
 word-single : (d : ℕ) (w : List ℕ) (p : Part) → part_of w ≡ some p → Single d (letters w ∷ []) (leaf p)
 unfolding part_of
-word-single d w p e = go (isLabel w) (number_of w) refl refl e
+word-single d w p e = go (is_label w) (number_of w) refl refl e
   where
-    go : (t : Bool) (o : Option ℕ) → isLabel w ≡ t → number_of w ≡ o → pick t (some (Reading.label w)) (as_number o) ≡ some p
+    go : (t : Bool) (o : Option ℕ) → is_label w ≡ t → number_of w ≡ o → pick t (some (Reading.label w)) (as_number o) ≡ some p
         → Single d (letters w ∷ []) (leaf p)
     go true o f g q = let r : Reading.label w ≡ p = cc in subst (λ (x : Part). Single d (letters w ∷ []) (leaf x)) r (name f)
     go false none f g q = never q
@@ -42,11 +42,11 @@ word-single d w p e = go (isLabel w) (number_of w) refl refl e
 record Whole (d : ℕ) (here : Bool) (ts : List Token) (terms : List Term) : Type 0 where
   tree : Tree
   whole : Operand d ts tree
-  its-terms : termsOf here tree ≡ terms
+  its-terms : terms_of here tree ≡ terms
 
 -- what may follow an operand in its parenthesis: both together are an operand, which has the terms of both
 abbrev More : ℕ → Bool → List Token → List Term → Type 0
-More d here us xs = (ts : List Token) (t : Tree) → Operand d ts t → Whole d here (ts ++ us) (termsOf here t ++ xs)
+More d here us xs = (ts : List Token) (t : Tree) → Operand d ts t → Whole d here (ts ++ us) (terms_of here t ++ xs)
 
 -- what follows it to the end, where these parentheses are open
 data Rests : ℕ → Bool → List Bool → List Token → List Term → Type 0 where
@@ -57,32 +57,32 @@ data Rests : ℕ → Bool → List Bool → List Token → List Term → Type 0 
 -- a single, and what follows it
 data Starts : ℕ → Bool → Bool → List Bool → List Token → List Term → Type 0 where
   start : {d : ℕ} {away here : Bool} {outer : List Bool} {ts us : List Token} {t : Tree} {xs : List Term} → Single d ts t → Rests d here outer us xs
-      → Starts d away here outer (ts ++ us) (termsOf away t ++ xs)
+      → Starts d away here outer (ts ++ us) (terms_of away t ++ xs)
 
 nothing-more : (d : ℕ) (here : Bool) → More d here [] []
 nothing-more d here ts t p = record {
   tree = t;
   whole = subst (λ (us : List Token). Operand d us t) (sym (append-nil ts)) p;
-  its-terms = sym (append-nil (termsOf here t));
+  its-terms = sym (append-nil (terms_of here t));
 }
 
 -- a sign and a single before what follows
 module _ (d c : ℕ) (turned : Bool → Bool) (with : Tree → Tree → Tree)
     (join : (ts us : List Token) (t u : Tree) → Operand d ts t → Single d us u → Operand d (ts ++ (mark c ∷ us)) (with t u))
-    (joined : (here : Bool) (t u : Tree) → termsOf here (with t u) ≡ termsOf here t ++ termsOf (turned here) u) where
+    (joined : (here : Bool) (t u : Tree) → terms_of here (with t u) ≡ terms_of here t ++ terms_of (turned here) u) where
   one_more : (here : Bool) (ts us : List Token) (t : Tree) (xs : List Term) → Single d ts t → More d here us xs
-      → More d here (mark c ∷ (ts ++ us)) (termsOf (turned here) t ++ xs)
+      → More d here (mark c ∷ (ts ++ us)) (terms_of (turned here) t ++ xs)
   one_more here ts us t xs s m vs v p =
       subst₂ (Whole d here) (append_assoc vs (mark c ∷ ts) us)
-      (ap (λ (l : List Term). l ++ xs) (joined here v t) ∙ append_assoc (termsOf here v) (termsOf (turned here) t) xs)
+      (ap (λ (l : List Term). l ++ xs) (joined here v t) ∙ append_assoc (terms_of here v) (terms_of (turned here) t) xs)
       (m (vs ++ (mark c ∷ ts)) (with v t) (join vs ts v t p s))
 
   before-rests : (here : Bool) {outer : List Bool} (ts : List Token) (t : Tree) {us : List Token} {xs : List Term} → Single d ts t
-      → Rests d here outer us xs → Rests d here outer (mark c ∷ (ts ++ us)) (termsOf (turned here) t ++ xs)
+      → Rests d here outer us xs → Rests d here outer (mark c ∷ (ts ++ us)) (terms_of (turned here) t ++ xs)
   before-rests here ts t s (end {us = us} {xs = xs} m) = end (one_more here ts us t xs s m)
   before-rests here ts t s (close {us = us} {vs = vs} {xs = xs} {ys = ys} m r) =
       subst₂ (Rests d here _) (ap (λ (l : List Token). mark c ∷ l) (append_assoc ts us (sign ")" ∷ vs)))
-      (append_assoc (termsOf (turned here) t) xs ys) (close (one_more here ts us t xs s m) r)
+      (append_assoc (terms_of (turned here) t) xs ys) (close (one_more here ts us t xs s m) r)
 
   signed : (here : Bool) {outer : List Bool} {ts : List Token} {terms : List Term} → Starts d (turned here) here outer ts terms
       → Rests d here outer (mark c ∷ ts) terms
@@ -106,8 +106,8 @@ module _ (d : ℕ) (away here : Bool) (outer : List Bool) where
       (ap (λ (l : List Term). l ++ ys) w.its-terms ∙ append_assoc zs xs ys) (start (parenthesis w.whole) r)
 
   rests-closed : {us : List Token} {xs : List Term} (ts : List Token) (t : Tree) → Single d ts t → Rests d away (here ∷ outer) us xs
-      → Starts (suc d) away here outer (sign "(" ∷ (ts ++ us)) (termsOf away t ++ xs)
-  rests-closed ts t s (close {us = us} {vs = vs} {xs = xs} {ys = ys} m r) = closed ts us vs xs ys (termsOf away t) (m ts t (single s)) r
+      → Starts (suc d) away here outer (sign "(" ∷ (ts ++ us)) (terms_of away t ++ xs)
+  rests-closed ts t s (close {us = us} {vs = vs} {xs = xs} {ys = ys} m r) = closed ts us vs xs ys (terms_of away t) (m ts t (single s)) r
 
   enclosed : {ts : List Token} {terms : List Term} → Starts d away away (here ∷ outer) ts terms
       → Starts (suc d) away here outer (sign "(" ∷ ts) terms
@@ -181,8 +181,8 @@ found : {ts : List Token} {terms : List Term} → Starts 16 false false [] ts te
 found (start {ts = ts} {t = t} s r) = at-end ts t s r
   where
     at-end : {us : List Token} {xs : List Term} (ts : List Token) (t : Tree) → Single 16 ts t → Rests 16 false [] us xs
-        → Has (ts ++ us) (termsOf false t ++ xs)
+        → Has (ts ++ us) (terms_of false t ++ xs)
     at-end ts t s (end m) = let w = m ts t (single s) in record { tree = w.tree; operand = w.whole; its-terms = w.its-terms }
 
-pub has : (ts : List Token) (terms : List Term) → operandOf ts ≡ some terms → Has ts terms
+pub has : (ts : List Token) (terms : List Term) → operand_of ts ≡ some terms → Has ts terms
 has ts terms e = found (wanted-starts ts 16 false false [] terms refl e)

@@ -14,16 +14,16 @@ use Rattle.isa.specs.declared.Instruction.{Instruction}
 use Rattle.isa.proofs.Exact.{and_left, and_right}
 use Rattle.mnemonic.specs.Line.{line_of}
 use Rattle.mnemonic.specs.Spelling.{Token, letters, mark, operand, codes, number, spelling}
-use Rattle.operand.specs.Text.{in_word, isLetter, tokens}
-use Rattle.operand.specs.Words.{fixedWords, first, isFixed, isLabel}
+use Rattle.operand.specs.Text.{in_word, is_letter, tokens}
+use Rattle.operand.specs.Words.{fixed_words, first, is_fixed, is_label}
 use Rattle.operand.specs.Operand as Operand
-use Rattle.operand.specs.Operand.{Term, operandOf}
-use Rattle.assembler.specs.Forms.{forms, leadOf, lead, operandDigits, field}
-use Rattle.assembler.specs.Statement.{org, mnemonic, leads, before, after, equals, formIn, orgOf, code_of, operandFor, coded, body, labelled}
+use Rattle.operand.specs.Operand.{Term, operand_of}
+use Rattle.assembler.specs.Forms.{forms, lead_of, lead, operand_digits, field}
+use Rattle.assembler.specs.Statement.{org, mnemonic, leads, before, after, equals, form_in, org_of, code_of, operand_for, coded, body, labelled}
 use Rattle.assembler.specs.Statement.{statement}
 use Rattle.assembler_laws.proofs.Each.{every}
 use Rattle.assembler_laws.proofs.Numbers.{number-led, not-fixed, number-part}
-use Rattle.assembler_laws.proofs.Tokens.{heard, isWord, notLF, readable, tight, spaced, heard-spelling, spelling-line}
+use Rattle.assembler_laws.proofs.Tokens.{heard, is_word, not_lf, readable, tight, spaced, heard-spelling, spelling-line}
 use Rattle.assembler_laws.proofs.Tokens.{wide, widths, spelling-length}
 
 -- a value as an operand's one term; no term where the form has no operand
@@ -61,18 +61,18 @@ after-said zero v = refl
 after-said (suc n) v = rw (not-fixed (number (suc n) v) (number-led n v).digit-first) refl
 
 -- ---- the operand
-operand-said : (n v : ℕ) → v < 16 ^ suc n → v ≤ 65535 → operandOf (said (suc n) v) ≡ some (terms (suc n) v)
+operand-said : (n v : ℕ) → v < 16 ^ suc n → v ≤ 65535 → operand_of (said (suc n) v) ≡ some (terms (suc n) v)
 operand-said n v h b = rw (number-part n v h b) refl
 
-operand-for : (n v : ℕ) → v < 16 ^ n → v ≤ 65535 → operandFor n (said n v) ≡ some (terms n v)
+operand-for : (n v : ℕ) → v < 16 ^ n → v ≤ 65535 → operand_for n (said n v) ≡ some (terms n v)
 operand-for zero v h b = refl
 operand-for (suc n) v h b = operand-said n v h b
 
 -- ---- no label
 -- a label is no fixed word, so a line that starts with fixed words has none
-fixed-no-label : (w : List ℕ) → isFixed w ≡ true → isLabel w ≡ false
-unfolding isLabel
-fixed-no-label w e = go (isLetter (first w)) (isFixed w) e
+fixed-no-label : (w : List ℕ) → is_fixed w ≡ true → is_label w ≡ false
+unfolding is_label
+fixed-no-label w e = go (is_letter (first w)) (is_fixed w) e
   where
     go : (a b : Bool) → b ≡ true → a && not b ≡ false
     go true true q = refl
@@ -100,23 +100,23 @@ abbrev pub org-words : List Token
 org-words = letters (codes "ORG") ∷ []
 
 pub body-parted : (l : Option (List ℕ)) (ts us : List Token) → every leads ts ≡ true → before us ≡ [] → after us ≡ us
-    → body l (ts ++ us) ≡ pick (equals org-words ts) (orgOf l (operandOf us)) (coded l us (formIn forms ts))
+    → body l (ts ++ us) ≡ pick (equals org-words ts) (org_of l (operand_of us)) (coded l us (form_in forms ts))
 unfolding body
 body-parted l ts us e b a = rw (before-there ts us e b, after-there ts us e a) refl
 
 body-said : (ts : List Token) (n v : ℕ) → every leads ts ≡ true
-    → body none (ts ++ said n v) ≡ pick (equals org-words ts) (orgOf none (operandOf (said n v))) (coded none (said n v) (formIn forms ts))
+    → body none (ts ++ said n v) ≡ pick (equals org-words ts) (org_of none (operand_of (said n v))) (coded none (said n v) (form_in forms ts))
 body-said ts n v e = body-parted none ts (said n v) e (before-said n v) (after-said n v)
 
 pub org-leads : every leads org-words ≡ true
-unfolding isFixed fixedWords
+unfolding is_fixed fixed_words
 org-leads = refl
 
 pub org-said : (n v : ℕ) → v < 16 ^ suc n → v ≤ 65535 → statement (org-words ++ said (suc n) v) ≡ org none (terms (suc n) v)
 org-said n v h b =
     bodied org-words (said (suc n) v) refl org-leads
     ∙ body-said org-words (suc n) v org-leads
-    ∙ ap (orgOf none) (operand-said n v h b)
+    ∙ ap (org_of none) (operand-said n v h b)
 
 -- a form whose words and signs are a line's before its operand, and not ORG
 pub record Worded (f : ℕ → Instruction) : Type 0 where
@@ -136,14 +136,14 @@ is-worded f w =
       no-org = not-true (equals org-words (lead f)) (and_right (every leads (lead f)) (not (equals org-words (lead f))) q);
     }
 
-pub form-said : (f : ℕ → Instruction) (v : ℕ) → Worded f → formIn forms (lead f) ≡ some f → v < field f → v ≤ 65535
-    → statement (lead f ++ said (operandDigits f) v) ≡ mnemonic none f (terms (operandDigits f) v)
+pub form-said : (f : ℕ → Instruction) (v : ℕ) → Worded f → form_in forms (lead f) ≡ some f → v < field f → v ≤ 65535
+    → statement (lead f ++ said (operand_digits f) v) ≡ mnemonic none f (terms (operand_digits f) v)
 form-said f v w e h b =
-    bodied (lead f) (said (operandDigits f) v) w.some_words w.fixed
-    ∙ body-said (lead f) (operandDigits f) v w.fixed
-    ∙ ap (λ (t : Bool). pick t (orgOf none (operandOf (said (operandDigits f) v))) (coded none (said (operandDigits f) v) (formIn forms (lead f)))) w.no-org
-    ∙ ap (coded none (said (operandDigits f) v)) e
-    ∙ ap (code_of none f) (operand-for (operandDigits f) v h b)
+    bodied (lead f) (said (operand_digits f) v) w.some_words w.fixed
+    ∙ body-said (lead f) (operand_digits f) v w.fixed
+    ∙ ap (λ (t : Bool). pick t (org_of none (operand_of (said (operand_digits f) v))) (coded none (said (operand_digits f) v) (form_in forms (lead f)))) w.no-org
+    ∙ ap (coded none (said (operand_digits f) v)) e
+    ∙ ap (code_of none f) (operand-for (operand_digits f) v h b)
 
 -- ---- the printed line
 tight-any : (ts : List Token) (n v w : ℕ) → tight (ts ++ spoken n v) ≡ tight (ts ++ spoken n w)
@@ -151,7 +151,7 @@ tight-any [] zero v w = refl
 tight-any [] (suc n) v w = refl
 tight-any (t ∷ []) zero v w = refl
 tight-any (t ∷ []) (suc n) v w = refl
-tight-any (t ∷ u ∷ ts) n v w = ap (λ (b : Bool). readable t && (not (isWord t && isWord u) && b)) (tight-any (u ∷ ts) n v w)
+tight-any (t ∷ u ∷ ts) n v w = ap (λ (b : Bool). readable t && (not (is_word t && is_word u) && b)) (tight-any (u ∷ ts) n v w)
 
 spaced-any : (ts : List Token) (n v w : ℕ) → spaced (ts ++ spoken n v) ≡ spaced (ts ++ spoken n w)
 spaced-any [] zero v w = refl
@@ -163,7 +163,7 @@ widths-any [] zero v w = refl
 widths-any [] (suc n) v w = refl
 widths-any (t ∷ ts) n v w = ap (λ (k : ℕ). wide t + k) (widths-any ts n v w)
 
-heard-lead : (ts : List Token) (n v : ℕ) → map heard (leadOf ts ++ spoken n v) ≡ leadOf ts ++ said n v
+heard-lead : (ts : List Token) (n v : ℕ) → map heard (lead_of ts ++ spoken n v) ≡ lead_of ts ++ said n v
 heard-lead [] zero v = refl
 heard-lead [] (suc n) v = refl
 heard-lead (letters w ∷ ts) n v = ap (λ (us : List Token). letters w ∷ us) (heard-lead ts n v)
@@ -173,11 +173,11 @@ heard-lead (operand m x ∷ ts) (suc n) v = refl
 
 -- the line of a form with a value
 abbrev pub line-of : (ℕ → Instruction) → ℕ → List Token
-line-of f v = lead f ++ spoken (operandDigits f) v
+line-of f v = lead f ++ spoken (operand_digits f) v
 
 -- a line that is printed, as it is read
 pub record Reread (ts us : List Token) : Type 0 where
-  pub line : every notLF (spelling ts) ≡ true
+  pub line : every not_lf (spelling ts) ≡ true
   pub read : tokens (spelling ts) ≡ us
   pub short : length (spelling ts) ≤ 1001
 
@@ -194,10 +194,10 @@ reads ts e =
       short = omega (arith, spelling-length ts, leb-true (widths ts) 1000 (and_right (spaced ts) (leb (widths ts) 1000) e));
     }
 
-pub reads-form : (f : ℕ → Instruction) (v : ℕ) → spelled (line-of f 0) ≡ true → Reread (line-of f v) (lead f ++ said (operandDigits f) v)
+pub reads-form : (f : ℕ → Instruction) (v : ℕ) → spelled (line-of f 0) ≡ true → Reread (line-of f v) (lead f ++ said (operand_digits f) v)
 reads-form f v e =
-    subst (Reread (line-of f v)) (heard-lead (line_of (f 0)) (operandDigits f) v)
-    (reads (line-of f v) (rw (spaced-any (lead f) (operandDigits f) v 0, widths-any (lead f) (operandDigits f) v 0) e))
+    subst (Reread (line-of f v)) (heard-lead (line_of (f 0)) (operand_digits f) v)
+    (reads (line-of f v) (rw (spaced-any (lead f) (operand_digits f) v 0, widths-any (lead f) (operand_digits f) v 0) e))
 
 pub reads-org : (a : ℕ) → Reread (org-words ++ spoken 3 a) (org-words ++ said 3 a)
 unfolding in_word

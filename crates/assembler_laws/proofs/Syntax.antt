@@ -14,13 +14,13 @@ use Rattle.isa.specs.declared.Instruction.{Instruction}
 use Rattle.isa.proofs.Exact.{and_left, and_right}
 use Rattle.mnemonic.specs.Line.{line_of}
 use Rattle.mnemonic.specs.Spelling.{Token, letters, mark, operand}
-use Rattle.operand.specs.Text.{isLetter}
-use Rattle.operand.specs.Words.{isFixed, isLabel, number_of, first}
+use Rattle.operand.specs.Text.{is_letter}
+use Rattle.operand.specs.Words.{is_fixed, is_label, number_of, first}
 use Rattle.operand.specs.Operand as Reading
-use Rattle.operand.specs.Operand.{Part, Term, part_of, as_number, termed, wanted, followed, operandOf}
-use Rattle.assembler.specs.Forms.{forms, leadOf, digitsOf, lead, operandDigits}
+use Rattle.operand.specs.Operand.{Part, Term, part_of, as_number, termed, wanted, followed, operand_of}
+use Rattle.assembler.specs.Forms.{forms, lead_of, digits_of, lead, operand_digits}
 use Rattle.assembler.specs.Statement as Statement
-use Rattle.assembler.specs.Statement.{Statement, leads, before, after, equal, equals, formIn, orgOf, code_of, operandFor, coded, body, statement}
+use Rattle.assembler.specs.Statement.{Statement, leads, before, after, equal, equals, form_in, org_of, code_of, operand_for, coded, body, statement}
 use Rattle.assembler_laws.specs.Grammar.{Has}
 use Rattle.assembler_laws.specs.Syntax as Syntax
 use Rattle.assembler_laws.specs.Syntax.{Fills, Body, Line, LineReads}
@@ -43,20 +43,20 @@ record Starts (ts : List Token) : Type 0 where
 starts-at : (t : Token) (ts : List Token) → leads t ≡ false → Starts (t ∷ ts)
 starts-at t ts e = record { none_before = rw e refl; all_after = rw e refl }
 
-label-free : (w : List ℕ) → isLabel w ≡ true → isFixed w ≡ false
-unfolding isLabel
-label-free w e = not-true (isFixed w) (and_right (isLetter (first w)) (not (isFixed w)) e)
+label-free : (w : List ℕ) → is_label w ≡ true → is_fixed w ≡ false
+unfolding is_label
+label-free w e = not-true (is_fixed w) (and_right (is_letter (first w)) (not (is_fixed w)) e)
 
-part_free : (w : List ℕ) (p : Part) → part_of w ≡ some p → isFixed w ≡ false
+part_free : (w : List ℕ) (p : Part) → part_of w ≡ some p → is_fixed w ≡ false
 unfolding part_of
-part_free w p e = go (isLabel w) (number_of w) refl refl e
+part_free w p e = go (is_label w) (number_of w) refl refl e
   where
-    go : (t : Bool) (o : Option ℕ) → isLabel w ≡ t → number_of w ≡ o → pick t (some (Reading.label w)) (as_number o) ≡ some p → isFixed w ≡ false
+    go : (t : Bool) (o : Option ℕ) → is_label w ≡ t → number_of w ≡ o → pick t (some (Reading.label w)) (as_number o) ≡ some p → is_fixed w ≡ false
     go true o f g q = label-free w f
     go false none f g q = never q
     go false (some n) f g q = not-fixed w (starts-with-digit w n g)
 
-operand-starts : (ts : List Token) (terms : List Term) → operandOf ts ≡ some terms → Starts ts
+operand-starts : (ts : List Token) (terms : List Term) → operand_of ts ≡ some terms → Starts ts
 operand-starts [] terms e = never e
 operand-starts (letters w ∷ ts) terms e = go (part_of w) refl e
   where
@@ -86,8 +86,8 @@ closed (operand (suc n) v ∷ t ∷ ts) = false
 -- tokens of a form's line, parted where its operand starts
 record Parted (ts us : List Token) (terms : List Term) : Type 0 where
   rest : List Token
-  whole : us ≡ leadOf ts ++ rest
-  its-operand : operandFor (digitsOf ts) rest ≡ some terms
+  whole : us ≡ lead_of ts ++ rest
+  its-operand : operand_for (digits_of ts) rest ≡ some terms
   starts : Starts rest
 
 parted : {ts us : List Token} {terms : List Term} → Fills ts us terms → closed ts ≡ true → Parted ts us terms
@@ -104,7 +104,7 @@ parted (Syntax.in_place {n = n} {us = us} {terms = terms} h) e = go n e
     go zero e = absurd (false≢true e)
     go (suc n) e = record { rest = us; whole = refl; its-operand = grammatical.full us terms h; starts = has-starts us terms h }
 
-filled : (ts us : List Token) (terms : List Term) → closed ts ≡ true → operandFor (digitsOf ts) us ≡ some terms → Fills ts (leadOf ts ++ us) terms
+filled : (ts us : List Token) (terms : List Term) → closed ts ≡ true → operand_for (digits_of ts) us ≡ some terms → Fills ts (lead_of ts ++ us) terms
 filled [] [] terms e q = let x : [] ≡ terms = cc in subst (Fills [] []) x Syntax.end
 filled [] (u ∷ us) terms e q = never q
 filled (letters w ∷ ts) us terms e q = Syntax.same_word (filled ts us terms e q)
@@ -136,10 +136,10 @@ forms-told : told forms ≡ true
 unfolding forms line_of
 forms-told = refl
 
-member-found : (fs : List (ℕ → Instruction)) (f : ℕ → Instruction) → told fs ≡ true → Memᴰ f fs → formIn fs (lead f) ≡ some f
+member-found : (fs : List (ℕ → Instruction)) (f : ℕ → Instruction) → told fs ≡ true → Memᴰ f fs → form_in fs (lead f) ≡ some f
 member-found (g ∷ gs) f e (Memᴰ.head p) =
     let own = and_left (equals (lead g) (lead g)) (every (other-than g) gs && told gs) e in
-    subst (λ (h : ℕ → Instruction). pick (equals (lead g) (lead h)) (some g) (formIn gs (lead h)) ≡ some h) (sym p) (rw own refl)
+    subst (λ (h : ℕ → Instruction). pick (equals (lead g) (lead h)) (some g) (form_in gs (lead h)) ≡ some h) (sym p) (rw own refl)
 member-found (g ∷ gs) f e (Memᴰ.tail m) =
     let q = and_right (equals (lead g) (lead g)) (every (other-than g) gs && told gs) e in
     let other = passes (other-than g) f gs (and_left (every (other-than g) gs) (told gs) q) m in
@@ -167,11 +167,11 @@ record FormOf (fs : List (ℕ → Instruction)) (ts : List Token) (f : ℕ → I
   member : Memᴰ f fs
   its-words : lead f ≡ ts
 
-found-member : (fs : List (ℕ → Instruction)) (ts : List Token) (f : ℕ → Instruction) → formIn fs ts ≡ some f → FormOf fs ts f
+found-member : (fs : List (ℕ → Instruction)) (ts : List Token) (f : ℕ → Instruction) → form_in fs ts ≡ some f → FormOf fs ts f
 found-member [] ts f e = never e
 found-member (g ∷ gs) ts f e = go (equals (lead g) ts) refl e (found-member gs ts f)
   where
-    go : (t : Bool) → equals (lead g) ts ≡ t → pick t (some g) (formIn gs ts) ≡ some f → (formIn gs ts ≡ some f → FormOf gs ts f)
+    go : (t : Bool) → equals (lead g) ts ≡ t → pick t (some g) (form_in gs ts) ≡ some f → (form_in gs ts ≡ some f → FormOf gs ts f)
         → FormOf (g ∷ gs) ts f
     go true p q k =
         let r : f ≡ g = cc in
@@ -188,14 +188,14 @@ split (t ∷ ts) = go (leads t) (split ts)
     go false p = refl
 
 module _ (l : Option (List ℕ)) (ts : List Token) (s : Statement) (n : s ≡ Statement.unreadable → ⊥) where
-  org-body : (o : Option (List Term)) → before ts ≡ org-words → operandOf (after ts) ≡ o → orgOf l o ≡ s → Body l ts s
+  org-body : (o : Option (List Term)) → before ts ≡ org-words → operand_of (after ts) ≡ o → org_of l o ≡ s → Body l ts s
   org-body none b p e = absurd (n (sym e))
   org-body (some terms) b p e =
       subst (Body l ts) e
       (subst (λ (us : List Token). Body l us (Statement.org l terms)) (ap (λ (us : List Token). us ++ after ts) (sym b) ∙ split ts)
       (Syntax.org (grammatical.sound (after ts) terms p)))
 
-  code_body : (f : ℕ → Instruction) (o : Option (List Term)) → FormOf forms (before ts) f → operandFor (operandDigits f) (after ts) ≡ o → code_of l f o ≡ s
+  code_body : (f : ℕ → Instruction) (o : Option (List Term)) → FormOf forms (before ts) f → operand_for (operand_digits f) (after ts) ≡ o → code_of l f o ≡ s
       → Body l ts s
   code_body f none m p e = absurd (n (sym e))
   code_body f (some terms) m p e =
@@ -203,24 +203,24 @@ module _ (l : Option (List ℕ)) (ts : List Token) (s : Statement) (n : s ≡ St
       (subst (λ (us : List Token). Body l us (Statement.mnemonic l f terms)) (ap (λ (us : List Token). us ++ after ts) m.its-words ∙ split ts)
       (Syntax.mnemonic m.member (filled (line_of (f 0)) (after ts) terms (member-closed f m.member) p)))
 
-  coded-body : (o : Option (ℕ → Instruction)) → formIn forms (before ts) ≡ o → coded l (after ts) o ≡ s → Body l ts s
+  coded-body : (o : Option (ℕ → Instruction)) → form_in forms (before ts) ≡ o → coded l (after ts) o ≡ s → Body l ts s
   coded-body none p e = absurd (n (sym e))
-  coded-body (some f) p e = code_body f (operandFor (operandDigits f) (after ts)) (found-member forms (before ts) f p) refl e
+  coded-body (some f) p e = code_body f (operand_for (operand_digits f) (after ts)) (found-member forms (before ts) f p) refl e
 
   body-sound : body l ts ≡ s → Body l ts s
   unfolding body
   body-sound e = go (equals org-words (before ts)) refl e
     where
       go : (b : Bool) → equals org-words (before ts) ≡ b
-          → pick b (orgOf l (operandOf (after ts))) (coded l (after ts) (formIn forms (before ts))) ≡ s → Body l ts s
-      go true p q = org-body (operandOf (after ts)) (sym (equals-is org-words (before ts) p)) refl q
-      go false p q = coded-body (formIn forms (before ts)) refl q
+          → pick b (org_of l (operand_of (after ts))) (coded l (after ts) (form_in forms (before ts))) ≡ s → Body l ts s
+      go true p q = org-body (operand_of (after ts)) (sym (equals-is org-words (before ts) p)) refl q
+      go false p q = coded-body (form_in forms (before ts)) refl q
 
 sound : (ts : List Token) (s : Statement) → statement ts ≡ s → (s ≡ Statement.unreadable → ⊥) → Line ts s
 sound [] s e n = subst (Line []) e Syntax.blank
-sound (letters w ∷ mark c ∷ us) s e n = go (isLabel w) (eqb c (code ":")) refl refl e
+sound (letters w ∷ mark c ∷ us) s e n = go (is_label w) (eqb c (code ":")) refl refl e
   where
-    go : (a b : Bool) → isLabel w ≡ a → eqb c (code ":") ≡ b → pick (a && b) (body (some w) us) (body none (letters w ∷ mark c ∷ us)) ≡ s
+    go : (a b : Bool) → is_label w ≡ a → eqb c (code ":") ≡ b → pick (a && b) (body (some w) us) (body none (letters w ∷ mark c ∷ us)) ≡ s
         → Line (letters w ∷ mark c ∷ us) s
     go true true p q r =
         subst (λ (k : ℕ). Line (letters w ∷ mark k ∷ us) s) (sym (eqb-true c (code ":") q)) (Syntax.labelled p (body-sound (some w) us s n r))
@@ -242,7 +242,7 @@ org-read : (l : Option (List ℕ)) (us : List Token) (terms : List Term) → Has
 org-read l us terms h =
     let p = has-starts us terms h in
     record {
-      says = body-parted l org-words us org-leads p.none_before p.all_after ∙ ap (orgOf l) (grammatical.full us terms h);
+      says = body-parted l org-words us org-leads p.none_before p.all_after ∙ ap (org_of l) (grammatical.full us terms h);
       unlabelled = bodied org-words us refl org-leads;
     }
 
@@ -256,7 +256,7 @@ form-read l f us terms m p =
     (record {
       says =
           body-parted l (lead f) q.rest w.fixed q.starts.none_before q.starts.all_after
-          ∙ ap (λ (t : Bool). pick t (orgOf l (operandOf q.rest)) (coded l q.rest (formIn forms (lead f)))) w.no-org
+          ∙ ap (λ (t : Bool). pick t (org_of l (operand_of q.rest)) (coded l q.rest (form_in forms (lead f)))) w.no-org
           ∙ ap (coded l q.rest) found
           ∙ ap (code_of l f) q.its-operand;
       unlabelled = bodied (lead f) q.rest w.some_words w.fixed;

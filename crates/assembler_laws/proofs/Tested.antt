@@ -12,10 +12,10 @@ use Rattle.isa.specs.declared.Instruction.{Instruction}
 use Rattle.isa.proofs.Exact.{and_left, and_right}
 use Rattle.mnemonic.specs.Line.{line_of}
 use Rattle.operand.specs.Text.{in_word}
-use Rattle.operand.specs.Words.{fixedWords, isFixed, isLabel}
+use Rattle.operand.specs.Words.{fixed_words, is_fixed, is_label}
 use Rattle.operand.specs.Operand.{plus}
 use Rattle.assembler.specs.Forms.{forms, lead, size, field}
-use Rattle.assembler.specs.Statement.{formIn}
+use Rattle.assembler.specs.Statement.{form_in}
 use Rattle.assembler_laws.proofs.Each.{every, each-passes}
 use Rattle.assembler_laws.proofs.Form.{OfForm, found}
 use Rattle.assembler_laws.proofs.Spoken.{terms, Worded, worded, is-worded, line-of, spelled}
@@ -27,7 +27,7 @@ abbrev good : (ℕ → Instruction) → Bool
 good f = worded f && (spelled (line-of f 0) && bounded f)
 
 tested : every good forms ≡ true
-unfolding forms line_of bytes_of leading isFixed isLabel fixedWords in_word
+unfolding forms line_of bytes_of leading is_fixed is_label fixed_words in_word
 tested = refl
 
 pub record Tested (f : ℕ → Instruction) : Type 0 where
@@ -36,7 +36,7 @@ pub record Tested (f : ℕ → Instruction) : Type 0 where
   pub takes : 0 < size f
   pub small : field f ≤ 65536
 
-pub tested-form : (f : ℕ → Instruction) → formIn forms (lead f) ≡ some f → Tested f
+pub tested-form : (f : ℕ → Instruction) → form_in forms (lead f) ≡ some f → Tested f
 tested-form f e =
     let p = subst (OfForm (λ (f : ℕ → Instruction). good f ≡ true)) e (found (lead f) (each-passes good forms tested)) in
     let q = and_right (worded f) (spelled (line-of f 0) && bounded f) p in

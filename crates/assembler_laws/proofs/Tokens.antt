@@ -22,22 +22,22 @@ heard (mark c) = mark c
 heard (operand n v) = letters (number n v)
 
 -- whether it is a word
-abbrev pub isWord : Token → Bool
-isWord (letters w) = true
-isWord (mark c) = false
-isWord (operand n v) = true
+abbrev pub is_word : Token → Bool
+is_word (letters w) = true
+is_word (mark c) = false
+is_word (operand n v) = true
 
 abbrev filled : List ℕ → Bool
 filled [] = false
 filled (c ∷ w) = every in_word (c ∷ w)
 
-abbrev pub notLF : ℕ → Bool
-notLF c = not (eqb c LF)
+abbrev pub not_lf : ℕ → Bool
+not_lf c = not (eqb c LF)
 
 -- whether it can be read
 abbrev pub readable : Token → Bool
 readable (letters w) = filled w
-readable (mark c) = not (in_word c) && (not (eqb c 32) && notLF c)
+readable (mark c) = not (in_word c) && (not (eqb c 32) && not_lf c)
 readable (operand zero v) = false
 readable (operand (suc n) v) = true
 
@@ -45,7 +45,7 @@ readable (operand (suc n) v) = true
 abbrev pub tight : List Token → Bool
 tight [] = true
 tight (t ∷ []) = readable t
-tight (t ∷ u ∷ ts) = readable t && (not (isWord t && isWord u) && tight (u ∷ ts))
+tight (t ∷ u ∷ ts) = readable t && (not (is_word t && is_word u) && tight (u ∷ ts))
 
 abbrev pub spaced : List Token → Bool
 spaced [] = true
@@ -93,32 +93,32 @@ number-filled n v = go (number (suc n) v) (number-led n v)
     go (c ∷ s) l = l.word
 
 not-word : (c : ℕ) → readable (mark c) ≡ true → in_word c ≡ false
-not-word c e = not-true (in_word c) (and_left (not (in_word c)) (not (eqb c 32) && notLF c) e)
+not-word c e = not-true (in_word c) (and_left (not (in_word c)) (not (eqb c 32) && not_lf c) e)
 
-token : (t : Token) (s : List ℕ) → readable t ≡ true → (isWord t ≡ true → begins s ≡ false) → tokens (spelt t ++ s) ≡ heard t ∷ tokens s
+token : (t : Token) (s : List ℕ) → readable t ≡ true → (is_word t ≡ true → begins s ≡ false) → tokens (spelt t ++ s) ≡ heard t ∷ tokens s
 token (letters w) s e b = word w s e (b refl)
 token (mark c) s e b =
-    sign c s (not-word c e) (not-true (eqb c 32) (and_left (not (eqb c 32)) (notLF c) (and_right (not (in_word c)) (not (eqb c 32) && notLF c) e)))
+    sign c s (not-word c e) (not-true (eqb c 32) (and_left (not (eqb c 32)) (not_lf c) (and_right (not (in_word c)) (not (eqb c 32) && not_lf c) e)))
 token (operand zero v) s e b = absurd (false≢true e)
 token (operand (suc n) v) s e b = word (number (suc n) v) s (number-filled n v) (b refl)
 
 -- ---- tokens with nothing between them
 -- no word begins with what stands after a word
-apart : (t u : Token) (ts : List Token) → not (isWord t && isWord u) ≡ true → tight (u ∷ ts) ≡ true → isWord t ≡ true
+apart : (t u : Token) (ts : List Token) → not (is_word t && is_word u) ≡ true → tight (u ∷ ts) ≡ true → is_word t ≡ true
     → begins (closed (u ∷ ts)) ≡ false
 apart t (letters w) ts n e f = absurd (false≢true (rw f at n))
 apart t (mark c) [] n e f = not-word c e
-apart t (mark c) (u ∷ ts) n e f = not-word c (and_left (readable (mark c)) (not (isWord (mark c) && isWord u) && tight (u ∷ ts)) e)
+apart t (mark c) (u ∷ ts) n e f = not-word c (and_left (readable (mark c)) (not (is_word (mark c) && is_word u) && tight (u ∷ ts)) e)
 apart t (operand m v) ts n e f = absurd (false≢true (rw f at n))
 
 heard-closed : (ts : List Token) → tight ts ≡ true → tokens (closed ts) ≡ map heard ts
 heard-closed [] e = refl
 heard-closed (t ∷ []) e = ap tokens (sym (append-nil (spelt t))) ∙ token t [] e (λ p. refl)
 heard-closed (t ∷ u ∷ ts) e =
-    let n = and_right (readable t) (not (isWord t && isWord u) && tight (u ∷ ts)) e in
-    let k = and_right (not (isWord t && isWord u)) (tight (u ∷ ts)) n in
-    token t (closed (u ∷ ts)) (and_left (readable t) (not (isWord t && isWord u) && tight (u ∷ ts)) e)
-    (apart t u ts (and_left (not (isWord t && isWord u)) (tight (u ∷ ts)) n) k)
+    let n = and_right (readable t) (not (is_word t && is_word u) && tight (u ∷ ts)) e in
+    let k = and_right (not (is_word t && is_word u)) (tight (u ∷ ts)) n in
+    token t (closed (u ∷ ts)) (and_left (readable t) (not (is_word t && is_word u) && tight (u ∷ ts)) e)
+    (apart t u ts (and_left (not (is_word t && is_word u)) (tight (u ∷ ts)) n) k)
     ∙ ap (λ (us : List Token). heard t ∷ us) (heard-closed (u ∷ ts) k)
 
 pub heard-spelling : (ts : List Token) → spaced ts ≡ true → tokens (spelling ts) ≡ map heard ts
@@ -129,37 +129,37 @@ heard-spelling (t ∷ u ∷ ts) e =
     ∙ ap (λ (us : List Token). heard t ∷ us) (heard-closed (u ∷ ts) (and_right (readable t) (tight (u ∷ ts)) e))
 
 -- ---- lines
-pub one_line : (s : List ℕ) → every notLF s ≡ true → lines s ≡ s ∷ []
+pub one_line : (s : List ℕ) → every not_lf s ≡ true → lines s ≡ s ∷ []
 one_line [] e = refl
-one_line (c ∷ s) e = rw (not-true (eqb c LF) (and_left (notLF c) (every notLF s) e), one_line s (and_right (notLF c) (every notLF s) e)) refl
+one_line (c ∷ s) e = rw (not-true (eqb c LF) (and_left (not_lf c) (every not_lf s) e), one_line s (and_right (not_lf c) (every not_lf s) e)) refl
 
-pub first-line : (s t : List ℕ) → every notLF s ≡ true → lines (s ++ (LF ∷ t)) ≡ s ∷ lines t
+pub first-line : (s t : List ℕ) → every not_lf s ≡ true → lines (s ++ (LF ∷ t)) ≡ s ∷ lines t
 first-line [] t e = refl
-first-line (c ∷ s) t e = rw (not-true (eqb c LF) (and_left (notLF c) (every notLF s) e), first-line s t (and_right (notLF c) (every notLF s) e)) refl
+first-line (c ∷ s) t e = rw (not-true (eqb c LF) (and_left (not_lf c) (every not_lf s) e), first-line s t (and_right (not_lf c) (every not_lf s) e)) refl
 
-word_line : (w : List ℕ) → filled w ≡ true → every notLF w ≡ true
+word_line : (w : List ℕ) → filled w ≡ true → every not_lf w ≡ true
 word_line [] e = refl
-word_line (c ∷ w) e = every_of in_word notLF (λ d p. rw (other d LF p feed) refl) (c ∷ w) e
+word_line (c ∷ w) e = every_of in_word not_lf (λ d p. rw (other d LF p feed) refl) (c ∷ w) e
 
-token-line : (t : Token) → readable t ≡ true → every notLF (spelt t) ≡ true
+token-line : (t : Token) → readable t ≡ true → every not_lf (spelt t) ≡ true
 token-line (letters w) e = word_line w e
-token-line (mark c) e = and_both (notLF c) true (and_right (not (eqb c 32)) (notLF c) (and_right (not (in_word c)) (not (eqb c 32) && notLF c) e)) refl
+token-line (mark c) e = and_both (not_lf c) true (and_right (not (eqb c 32)) (not_lf c) (and_right (not (in_word c)) (not (eqb c 32) && not_lf c) e)) refl
 token-line (operand zero v) e = absurd (false≢true e)
 token-line (operand (suc n) v) e = word_line (number (suc n) v) (number-filled n v)
 
-closed-line : (ts : List Token) → tight ts ≡ true → every notLF (closed ts) ≡ true
+closed-line : (ts : List Token) → tight ts ≡ true → every not_lf (closed ts) ≡ true
 closed-line [] e = refl
 closed-line (t ∷ []) e = token-line t e
 closed-line (t ∷ u ∷ ts) e =
-    every_append notLF (spelt t) (closed (u ∷ ts)) (token-line t (and_left (readable t) (not (isWord t && isWord u) && tight (u ∷ ts)) e))
+    every_append not_lf (spelt t) (closed (u ∷ ts)) (token-line t (and_left (readable t) (not (is_word t && is_word u) && tight (u ∷ ts)) e))
     (closed-line (u ∷ ts)
-    (and_right (not (isWord t && isWord u)) (tight (u ∷ ts)) (and_right (readable t) (not (isWord t && isWord u) && tight (u ∷ ts)) e)))
+    (and_right (not (is_word t && is_word u)) (tight (u ∷ ts)) (and_right (readable t) (not (is_word t && is_word u) && tight (u ∷ ts)) e)))
 
-pub spelling-line : (ts : List Token) → spaced ts ≡ true → every notLF (spelling ts) ≡ true
+pub spelling-line : (ts : List Token) → spaced ts ≡ true → every not_lf (spelling ts) ≡ true
 spelling-line [] e = refl
 spelling-line (t ∷ []) e = token-line t (and_left (readable t) true e)
 spelling-line (t ∷ u ∷ ts) e =
-    every_append notLF (spelt t) (codes " " ++ closed (u ∷ ts)) (token-line t (and_left (readable t) (tight (u ∷ ts)) e))
+    every_append not_lf (spelt t) (codes " " ++ closed (u ∷ ts)) (token-line t (and_left (readable t) (tight (u ∷ ts)) e))
     (closed-line (u ∷ ts) (and_right (readable t) (tight (u ∷ ts)) e))
 
 -- ---- length

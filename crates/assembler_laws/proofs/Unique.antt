@@ -7,11 +7,11 @@ use mathlib.Core.List.{List, []}
 use mathlib.Core.Option.{none}
 use Rattle.isa.specs.Code.{in_range}
 use Rattle.isa.specs.declared.Instruction.{Instruction}
-use Rattle.mnemonic.specs.Line.{textOf}
+use Rattle.mnemonic.specs.Line.{text_of}
 use Rattle.mnemonic.specs.Spelling.{Token, spelling}
 use Rattle.operand.specs.Text.{tokens}
 use Rattle.operand.specs.Operand.{Term, plus}
-use Rattle.assembler.specs.Forms.{operandDigits}
+use Rattle.assembler.specs.Forms.{operand_digits}
 use Rattle.assembler.specs.Statement.{mnemonic, statement}
 use Rattle.assembler_laws.specs.Unique.{PrintedOnce}
 use Rattle.assembler_laws.proofs.Own.{own-case, own_line}
@@ -25,8 +25,8 @@ module _ (i : Instruction) (r : in_range i ≡ true) where
   abbrev value : ℕ
   value = (own-case i r).value
 
-  reads-back : statement (tokens (textOf i)) ≡ mnemonic none form (terms (operandDigits form) value)
-  unfolding textOf
+  reads-back : statement (tokens (text_of i)) ≡ mnemonic none form (terms (operand_digits form) value)
+  unfolding text_of
   reads-back =
       let t = tested-form form (own-case i r).found in
       let small : value ≤ 65535 = omega (arith, (own-case i r).low, t.small) in
@@ -34,8 +34,8 @@ module _ (i : Instruction) (r : in_range i ≡ true) where
       ∙ ap statement (reads-form form value t.text).read
       ∙ form-said form value t.words (own-case i r).found (own-case i r).low small
 
-  its-value : plus [] [] (terms (operandDigits form) value) ≡ value
-  its-value = plus-terms (operandDigits form) value (own-case i r).low
+  its-value : plus [] [] (terms (operand_digits form) value) ≡ value
+  its-value = plus-terms (operand_digits form) value (own-case i r).low
 
 same_parts : (f g : ℕ → Instruction) (v w : ℕ) (xs ys : List Term) → mnemonic none f xs ≡ mnemonic none g ys → plus [] [] xs ≡ v → plus [] [] ys ≡ w
     → f v ≡ g w

@@ -13,7 +13,7 @@ use Rattle.isa.proofs.Exact.{and_left, and_right, and_both}
 use Rattle.operand.specs.Operand as Reading
 use Rattle.operand.specs.Operand.{Term, value_of, plus, minus}
 use Rattle.assembler.specs.Program.{within}
-use Rattle.assembler_laws.specs.Grammar.{Tree, number, label, sum, difference, termsOf, valueIn, Counts}
+use Rattle.assembler_laws.specs.Grammar.{Tree, number, label, sum, difference, terms_of, value_in, Counts}
 
 -- ---- whole numbers
 middle : (a b c d : ℤ) → (a +ℤ b) +ℤ (c +ℤ d) ≡ (a +ℤ c) +ℤ (b +ℤ d)
@@ -65,17 +65,17 @@ module _ (names : List (List ℕ)) (addresses : List ℕ) where
   one true v = let e : v + 0 ≡ v = omega arith in ap (λ (n : ℕ). pos 0 -ℤ pos n) e ∙ +ℤ_idl (neg_ℤ (pos v))
   one false v = ap pos (omega arith)
 
-  counted-tree : (away : Bool) (t : Tree) → counted (termsOf away t) ≡ turned away (valueIn names addresses t)
+  counted-tree : (away : Bool) (t : Tree) → counted (terms_of away t) ≡ turned away (value_in names addresses t)
   counted-tree away (number n) = one away n
   counted-tree away (label w) = one away (value_of names addresses (Reading.label w))
   counted-tree away (sum t u) =
-      counted-append (termsOf away t) (termsOf away u)
+      counted-append (terms_of away t) (terms_of away u)
       ∙ ap₂ ◌+ℤ◌ (counted-tree away t) (counted-tree away u)
-      ∙ turned-sum away (valueIn names addresses t) (valueIn names addresses u)
+      ∙ turned-sum away (value_in names addresses t) (value_in names addresses u)
   counted-tree away (difference t u) =
-      counted-append (termsOf away t) (termsOf (not away) u)
+      counted-append (terms_of away t) (terms_of (not away) u)
       ∙ ap₂ ◌+ℤ◌ (counted-tree away t) (counted-tree (not away) u)
-      ∙ turned-difference away (valueIn names addresses t) (valueIn names addresses u)
+      ∙ turned-difference away (value_in names addresses t) (value_in names addresses u)
 
 -- ---- the test of a value
 pub counts : (a b : ℕ) (z : ℤ) → pos a -ℤ pos b ≡ z → Counts a b z
@@ -92,7 +92,7 @@ counts a b z e = record { worth = e; in_field = inside; field_in = outside }
         and_both (leb b a) (ltb (a - b) n) (le-leb b a (omega arith)) (lt-ltb (a - b) n (omega arith))
 
 pub tree-counts : (names : List (List ℕ)) (addresses : List ℕ) (t : Tree)
-    → Counts (plus names addresses (termsOf false t)) (minus names addresses (termsOf false t)) (valueIn names addresses t)
+    → Counts (plus names addresses (terms_of false t)) (minus names addresses (terms_of false t)) (value_in names addresses t)
 tree-counts names addresses t =
-    counts (plus names addresses (termsOf false t)) (minus names addresses (termsOf false t)) (valueIn names addresses t)
+    counts (plus names addresses (terms_of false t)) (minus names addresses (terms_of false t)) (value_in names addresses t)
     (counted-tree names addresses false t)

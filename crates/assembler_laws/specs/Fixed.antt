@@ -6,7 +6,7 @@ use Rattle.isa.specs.Code.{in_range}
 use Rattle.isa.specs.declared.Instruction.{Instruction}
 use Rattle.mnemonic.specs.Line.{line_of}
 use Rattle.mnemonic.specs.Spelling.{letters, codes}
-use Rattle.operand.specs.Words.{isFixed}
+use Rattle.operand.specs.Words.{is_fixed}
 
 -- ORG, or a word that stands in the line of an instruction in range
 pub data Stated (w : List ℕ) : Type 0 where
@@ -14,5 +14,5 @@ pub data Stated (w : List ℕ) : Type 0 where
   mnemonic : (i : Instruction) → in_range i ≡ true → Memᴰ (letters w) (line_of i) → Stated w
 
 pub record FixedExactly : Type 0 where
-  pub sound : (w : List ℕ) → isFixed w ≡ true → Stated w
-  pub full : (w : List ℕ) → Stated w → isFixed w ≡ true
+  pub sound : (w : List ℕ) → is_fixed w ≡ true → Stated w
+  pub full : (w : List ℕ) → Stated w → is_fixed w ≡ true

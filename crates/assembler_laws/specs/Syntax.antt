@@ -6,7 +6,7 @@ use Rattle.std.proofs.Math.Option.{Option, none, some}
 use Rattle.isa.specs.declared.Instruction.{Instruction}
 use Rattle.mnemonic.specs.Line.{line_of}
 use Rattle.mnemonic.specs.Spelling.{Token, letters, mark, operand, codes, sign}
-use Rattle.operand.specs.Words.{isLabel}
+use Rattle.operand.specs.Words.{is_label}
 use Rattle.operand.specs.Operand.{Term}
 use Rattle.assembler.specs.Forms.{forms}
 use Rattle.assembler.specs.Statement as Statement
@@ -30,7 +30,7 @@ pub data Body (l : Option (List ℕ)) : List Token → Statement → Type 0 wher
 pub data Line : List Token → Statement → Type 0 where
   blank : Line [] Statement.blank
   unlabelled : {us : List Token} {s : Statement} → Body none us s → Line us s
-  labelled : {w : List ℕ} {us : List Token} {s : Statement} → isLabel w ≡ true → Body (some w) us s → Line (letters w ∷ sign ":" ∷ us) s
+  labelled : {w : List ℕ} {us : List Token} {s : Statement} → is_label w ≡ true → Body (some w) us s → Line (letters w ∷ sign ":" ∷ us) s
 
 pub record LineReads : Type 0 where
   pub sound : (ts : List Token) (s : Statement) → statement ts ≡ s → (s ≡ Statement.unreadable → ⊥) → Line ts s

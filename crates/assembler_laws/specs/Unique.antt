@@ -2,7 +2,7 @@
 use Rattle.std.specs.Prelude.{◌≡◌, true}
 use Rattle.isa.specs.Code.{in_range}
 use Rattle.isa.specs.declared.Instruction.{Instruction}
-use Rattle.mnemonic.specs.Line.{textOf}
+use Rattle.mnemonic.specs.Line.{text_of}
 
 abbrev pub PrintedOnce : Type 0
-PrintedOnce = (i j : Instruction) → in_range i ≡ true → in_range j ≡ true → textOf i ≡ textOf j → i ≡ j
+PrintedOnce = (i j : Instruction) → in_range i ≡ true → in_range j ≡ true → text_of i ≡ text_of j → i ≡ j

@@ -9,22 +9,22 @@ use lib.Dec.{ltb}
 use lib.ListN.{get_or}
 use borrow.Author.Tests.{ltb-true}
 use Rattle.isa.specs.Code.{addresses}
-use Rattle.isa.specs.Timing.{entries, columnsOf}
+use Rattle.isa.specs.Timing.{entries, columns_of}
 use Rattle.isa.specs.Views.{View, on, jmp, branch, call, ret, reti, ei, view}
 use Rattle.isa.specs.Reading.{opcodes, decoded}
 use Rattle.isa.specs.declared.Instruction.{Instruction}
 use Rattle.isa.specs.declared.decoder.Decoded.{Decoded}
 use Rattle.isa.specs.declared.decoder.Decoded.TheVariants.{Read, Unreadable}
-use Rattle.rom.specs.Fetching.{Bytes, code_at, readAt, cyclesAt, movedFrom}
+use Rattle.rom.specs.Fetching.{Bytes, code_at, read_at, cycles_at, moved_from}
 use Rattle.rom.specs.declared.reader.Code.{Code}
 use Rattle.rom.proofs.Fetching.{read-code, read-cycles, cycles-entry}
 use Rattle.reach.specs.Walk.{Small}
-use Rattle.checker.specs.Marks.{flowBy, flow_of, flowRead, flowAt, fault}
+use Rattle.checker.specs.Marks.{flow_by, flow_of, flow_read, flow_at, fault}
 use Rattle.checker.specs.declared.flow.Flow.{Flow}
 use Rattle.checker.specs.declared.flow.Flow.TheVariants.{Unread, On, Enable, Jump, To, Sub, Back}
 use Rattle.checker.proofs.Reach.{Targets, flow-targets}
 use Rattle.bound.specs.Bounds.{within}
-use Rattle.bound.specs.Walk.{handedTo, nextAddresses, HandedOn, Follows, StandsAt}
+use Rattle.bound.specs.Walk.{handed_to, next_addresses, HandedOn, Follows, StandsAt}
 use Rattle.bound.specs.declared.ways.Ways.{Ways}
 use Rattle.bound.specs.declared.ways.Ways.TheVariants.{Stop, Out, One, Two}
 
@@ -48,15 +48,15 @@ cheap-at (x ∷ xs) zero e = (first-cheap x xs e).0
 cheap-at (x ∷ xs) (suc k) e = cheap-at xs k (first-cheap x xs e).1
 
 all-cheap : cheap entries ≡ true
-unfolding entries columnsOf opcodes cheap
+unfolding entries columns_of opcodes cheap
 all-cheap = refl
 
-pub two-cycles : (mask : List ℕ) (a : ℕ) → cyclesAt mask a ≤ 2
+pub two-cycles : (mask : List ℕ) (a : ℕ) → cycles_at mask a ≤ 2
 two-cycles mask a = subst (λ (n : ℕ). n ≤ 2) (cycles-entry mask a) (cheap-at entries (code_at mask a).first all-cheap)
 
 -- a return takes one
-return-cycles : {i : Instruction} (v : View i) → flowBy v ≡ Back → (columnsOf i).cycles ≡ 1
-unfolding columnsOf
+return-cycles : {i : Instruction} (v : View i) → flow_by v ≡ Back → (columns_of i).cycles ≡ 1
+unfolding columns_of
 return-cycles on e = let z : ◌≡◌ {A = ℕ} 0 1 = cc in absurd (omega arith)
 return-cycles (jmp t) e = let z : ◌≡◌ {A = ℕ} 0 1 = cc in absurd (omega arith)
 return-cycles (branch t k) e = let z : ◌≡◌ {A = ℕ} 0 1 = cc in absurd (omega arith)
@@ -65,24 +65,24 @@ return-cycles ret e = refl
 return-cycles reti e = refl
 return-cycles ei e = let z : ◌≡◌ {A = ℕ} 0 1 = cc in absurd (omega arith)
 
-pub returned-cycles : (mask : List ℕ) → Bytes mask → (a : ℕ) → flowAt mask a ≡ Back → cyclesAt mask a ≡ 1
-unfolding flowAt flow_of
-returned-cycles mask bytes a = go (readAt mask a) refl
+pub returned-cycles : (mask : List ℕ) → Bytes mask → (a : ℕ) → flow_at mask a ≡ Back → cycles_at mask a ≡ 1
+unfolding flow_at flow_of
+returned-cycles mask bytes a = go (read_at mask a) refl
   where
-    go : (d : Decoded) → readAt mask a ≡ d → flowRead d ≡ Back → cyclesAt mask a ≡ 1
+    go : (d : Decoded) → read_at mask a ≡ d → flow_read d ≡ Back → cycles_at mask a ≡ 1
     go (Read i) e b = read-cycles mask a bytes i e ∙ return-cycles (view i) b
     go Unreadable e b = let z : ◌≡◌ {A = ℕ} 0 1 = cc in absurd (omega arith)
 
 -- ---- what follows
 module _ (mask : List ℕ) (a : ℕ) where
-  pub next-flow : nextAddresses mask a ≡ handedTo (flowAt mask a) (movedFrom mask a)
+  pub next-flow : next_addresses mask a ≡ handed_to (flow_at mask a) (moved_from mask a)
   unfolding within fault
   next-flow = refl
 
-  pub next_small : Bytes mask → Small addresses (nextAddresses mask a)
-  next_small bytes = subst (Small addresses) (sym next-flow) (go (flowAt mask a) (flow-targets mask bytes a))
+  pub next_small : Bytes mask → Small addresses (next_addresses mask a)
+  next_small bytes = subst (Small addresses) (sym next-flow) (go (flow_at mask a) (flow-targets mask bytes a))
     where
-      go : (f : Flow) → Targets f → Small addresses (handedTo f (movedFrom mask a))
+      go : (f : Flow) → Targets f → Small addresses (handed_to f (moved_from mask a))
       go Unread t = tt
       go On t = (omega arith, tt)
       go Enable t = (omega arith, tt)
@@ -92,15 +92,15 @@ module _ (mask : List ℕ) (a : ℕ) where
       go Back t = tt
 
   -- the ways of the code there
-  pub stands : (c : Code) (moved : ℕ) (w : Ways) → c ≡ code_at mask a → moved ≡ movedFrom mask a → HandedOn (decoded c.first c.second) moved w → StandsAt mask a w
-  unfolding flowAt
+  pub stands : (c : Code) (moved : ℕ) (w : Ways) → c ≡ code_at mask a → moved ≡ moved_from mask a → HandedOn (decoded c.first c.second) moved w → StandsAt mask a w
+  unfolding flow_at
   stands c moved w at m = go w
     where
-      read : decoded c.first c.second ≡ readAt mask a
+      read : decoded c.first c.second ≡ read_at mask a
       read = ap (λ (c : Code). decoded c.first c.second) at ∙ read-code mask a
 
-      next : handedTo (flowRead (decoded c.first c.second)) moved ≡ nextAddresses mask a
-      next = ap₂ (λ (d : Decoded) (n : ℕ). handedTo (flowRead d) n) read m ∙ sym next-flow
+      next : handed_to (flow_read (decoded c.first c.second)) moved ≡ next_addresses mask a
+      next = ap₂ (λ (d : Decoded) (n : ℕ). handed_to (flow_read d) n) read m ∙ sym next-flow
 
       go : (w : Ways) → HandedOn (decoded c.first c.second) moved w → StandsAt mask a w
       go Stop h = sym read ∙ h

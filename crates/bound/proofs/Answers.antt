@@ -11,13 +11,13 @@ use Rattle.isa.specs.Choice.{pick}
 use Rattle.isa.specs.Code.{addresses}
 use Rattle.rom.specs.Fetching.{Bytes, sized}
 use Rattle.checker.specs.Marks.{levels, Pair, pair, Reached}
-use Rattle.checker.specs.Verdicts.{marksSize, Answers, Marked, Safe, isMarked}
+use Rattle.checker.specs.Verdicts.{marks_size, Answers, Marked, Safe, is_marked}
 use Rattle.checker.specs.declared.check.Verdict.{Verdict}
 use Rattle.checker.specs.declared.check.Verdict.TheVariants.{Passed, Failed, BadMask, BadMarks}
 use Rattle.bound.specs.Paths.{Longest}
 use Rattle.bound.specs.Bounds.{Asked, ReachedAbove, Unbounded, Bounded, BoundAnswers, BoundDetermines}
 use Rattle.bound.specs.Lists.{bound_at}
-use Rattle.bound.specs.Lists.{boundOf, endless}
+use Rattle.bound.specs.Lists.{bound_of, endless}
 use Rattle.bound.specs.Walk.{ToldOf}
 use Rattle.bound.specs.declared.bound.Bound.{Bound}
 use Rattle.bound.specs.declared.bound.Bound.TheVariants.{NotReached, NoBound, Cycles, BadPair, MaskFails}
@@ -25,7 +25,7 @@ use Rattle.bound.specs.declared.bound.Bound.TheVariants.{BadMask as NoMask}
 use Rattle.bound.proofs.Levels.{told-unbounded, told-bounded, bounded-some}
 
 -- the checker's verdict on a mask and marks of their lengths
-module _ (mask old new : List ℕ) (size : sized mask ≡ true) (room : length old ≡ marksSize) where
+module _ (mask old new : List ℕ) (size : sized mask ≡ true) (room : length old ≡ marks_size) where
   pub fails : (v : Verdict) → Answers mask old new v → (v ≡ Passed → ⊥) → Safe mask → ⊥
   fails Passed h n s = n refl
   fails (Failed f a l) h n s = let k = h.1 in k.not-zero (sym k.forbidden ∙ s (pair a l) k.reached)
@@ -43,10 +43,10 @@ module _ (mask new : List ℕ) (a l : ℕ) (size : sized mask ≡ true) (h : a <
   pub main : l ≡ 0 → BoundAnswers mask (pair a l) NotReached
   main e = (asked, λ r. let z = r.0 in omega arith)
 
-  pub unmarked : isMarked new a l ≡ false → BoundAnswers mask (pair a l) NotReached
+  pub unmarked : is_marked new a l ≡ false → BoundAnswers mask (pair a l) NotReached
   unmarked e = (asked, λ r. false≢true (sym e ∙ marks.full a l h k r.1))
 
-  pub marked : (l ≡ 0 → ⊥) → isMarked new a l ≡ true → (n : ℕ) → ToldOf mask a n → BoundAnswers mask (pair a l) (boundOf n)
+  pub marked : (l ≡ 0 → ⊥) → is_marked new a l ≡ true → (n : ℕ) → ToldOf mask a n → BoundAnswers mask (pair a l) (bound_of n)
   marked z e n t = go (eqb n endless) (eqb-true n endless) (eqb-false n endless)
     where
       above : 0 < l
@@ -60,16 +60,16 @@ module _ (mask new : List ℕ) (a l : ℕ) (size : sized mask ≡ true) (h : a <
       go false f g = (asked, held, told-bounded mask l above safe a n held.1 t (g refl))
 
   -- its entry in a list
-  pub listed : Bytes mask → 0 < l → (n : ℕ) → ToldOf mask a n → BoundAnswers mask (pair a l) (bound_at (pick (isMarked new a l) n 0))
-  listed bytes z n t = go (isMarked new a l) refl
+  pub listed : Bytes mask → 0 < l → (n : ℕ) → ToldOf mask a n → BoundAnswers mask (pair a l) (bound_at (pick (is_marked new a l) n 0))
+  listed bytes z n t = go (is_marked new a l) refl
     where
-      some : BoundAnswers mask (pair a l) (boundOf n) → n ≡ 0 → ⊥
+      some : BoundAnswers mask (pair a l) (bound_of n) → n ≡ 0 → ⊥
       some b e =
-          let c = subst (λ (n : ℕ). BoundAnswers mask (pair a l) (boundOf n)) e b in
+          let c = subst (λ (n : ℕ). BoundAnswers mask (pair a l) (bound_of n)) e b in
           let y = bounded-some mask bytes (pair a l) 0 c.2 in
           omega arith
 
-      go : (b : Bool) → isMarked new a l ≡ b → BoundAnswers mask (pair a l) (bound_at (pick b n 0))
+      go : (b : Bool) → is_marked new a l ≡ b → BoundAnswers mask (pair a l) (bound_at (pick b n 0))
       go true e =
           let b = marked (λ y. omega arith) e n t in rw (ne_eqb n 0 (some b)) b
       go false e = unmarked e

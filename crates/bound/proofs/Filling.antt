@@ -15,18 +15,18 @@ use Rattle.isa.specs.Code.{addresses}
 use Rattle.isa.specs.declared.ProgramAddress.{ProgramAddress}
 use Rattle.rom.specs.Fetching.{Bytes, sized}
 use Rattle.reach.specs.Walk.{zeros}
-use Rattle.reach.proofs.Count.{after-set, getD-zeros}
-use Rattle.checker.specs.Marks.{levels, pair, flowAt}
-use Rattle.checker.specs.Verdicts.{Marked, Safe, isMarked}
+use Rattle.reach.proofs.Count.{after-set, get_d-zeros}
+use Rattle.checker.specs.Marks.{levels, pair, flow_at}
+use Rattle.checker.specs.Verdicts.{Marked, Safe, is_marked}
 use Rattle.checker.specs.declared.flow.Flow.{Flow}
 use Rattle.checker.specs.declared.flow.Flow.TheVariants.{Unread, On, Enable, Jump, To, Sub, Back}
 use Rattle.checker.proofs.Reach.{Targets, flow-targets}
 use Rattle.bound.specs.Paths.{Endless}
 use Rattle.bound.specs.Bounds.{BoundAnswers}
-use Rattle.bound.specs.Lists.{bound_at, boundsSize, place_of, entry_of, Entries, Largest, Called, CallTargets}
+use Rattle.bound.specs.Lists.{bound_at, bounds_size, place_of, entry_of, Entries, Largest, Called, CallTargets}
 use Rattle.bound.specs.Paths.{Leads}
 use Rattle.bound.specs.Lists.{endless}
-use Rattle.bound.specs.Walk.{nextAddresses, HaltsAt, ToldOf, RemembersOf, TargetOf}
+use Rattle.bound.specs.Walk.{next_addresses, HaltsAt, ToldOf, RemembersOf, TargetOf}
 use Rattle.bound.proofs.Answers.{listed}
 use Rattle.bound.proofs.Turn.{Left, Turned, fresh, fresh-left}
 
@@ -37,32 +37,32 @@ cases (inr b) f g = g b
 
 -- ---- the entries
 -- the entry of a pair above main
-pub entry_at : (list : List ℕ) (a l : ℕ) → length list ≡ boundsSize → a < addresses → 0 < l → l < levels → entry_of list a l ≡ get_or list (place_of a l) 0
-entry_at list a l e h z k = rw (eq-eqb (length list) boundsSize e, lt-ltb a addresses h, lt-ltb 0 l z, lt-ltb l levels k) refl
+pub entry_at : (list : List ℕ) (a l : ℕ) → length list ≡ bounds_size → a < addresses → 0 < l → l < levels → entry_of list a l ≡ get_or list (place_of a l) 0
+entry_at list a l e h z k = rw (eq-eqb (length list) bounds_size e, lt-ltb a addresses h, lt-ltb 0 l z, lt-ltb l levels k) refl
 
 module _ (mask marks : List ℕ) (bytes : Bytes mask) (size : sized mask ≡ true) (marked : Marked mask marks) (safe : Safe mask) where
   -- the entries of the addresses before a
   pub record Filling (list found : List ℕ) (a : ℕ) : Type 0 where
-    pub room : length list ≡ boundsSize
+    pub room : length list ≡ bounds_size
     pub known : RemembersOf mask (λ (k : ℕ). ⊥) found
     pub few : zeros found ≤ addresses
     pub done : (b l : ℕ) → b < a → 0 < l → l < levels → BoundAnswers mask (pair b l) (bound_at (get_or list (place_of b l) 0))
 
-  pub filling-start : (list : List ℕ) → length list ≡ boundsSize → Filling list (replicate addresses 0) 0
+  pub filling-start : (list : List ℕ) → length list ≡ bounds_size → Filling list (replicate addresses 0) 0
   filling-start list e = record { room = e; known = fresh mask (λ (k : ℕ). ⊥); few = fresh-left; done = λ b l h. absurd (omega arith) }
 
   -- what the walk from the next address is told
   pub filling-given : (list found : List ℕ) (a : ℕ) → Filling list found a → a < addresses
-      → ((a < addresses) × (zeros found ≤ addresses)) × RemembersOf mask (λ (k : ℕ). Leads (nextAddresses mask) k a) found
+      → ((a < addresses) × (zeros found ≤ addresses)) × RemembersOf mask (λ (k : ℕ). Leads (next_addresses mask) k a) found
   filling-given list found a f h =
       ((h, f.few), record { size = f.known.size; unbounded = λ k e. sure k (f.known.unbounded k e); bounded = f.known.bounded })
     where
-      sure : (k : ℕ) → Endless (nextAddresses mask) (HaltsAt mask) k ⊎ ⊥ → Endless (nextAddresses mask) (HaltsAt mask) k ⊎ Leads (nextAddresses mask) k a
+      sure : (k : ℕ) → Endless (next_addresses mask) (HaltsAt mask) k ⊎ ⊥ → Endless (next_addresses mask) (HaltsAt mask) k ⊎ Leads (next_addresses mask) k a
       sure k (inl e) = inl e
 
   -- the two entries of the address
   pub filling-next : (list found new : List ℕ) (a n x y : ℕ) → Filling list found a → a < addresses → Turned mask a found new n
-      → x ≡ pick (isMarked marks a 1) n 0 → y ≡ pick (isMarked marks a 2) n 0 → Filling (set (set list (a * 2) x) (a * 2 + 1) y) new (a + 1)
+      → x ≡ pick (is_marked marks a 1) n 0 → y ≡ pick (is_marked marks a 2) n 0 → Filling (set (set list (a * 2) x) (a * 2 + 1) y) new (a + 1)
   filling-next list found new a n x y f h t ex ey =
       record {
         room = length-set (set list (a * 2) x) (a * 2 + 1) y ∙ length-set list (a * 2) x ∙ f.room;
@@ -71,18 +71,18 @@ module _ (mask marks : List ℕ) (bytes : Bytes mask) (size : sized mask ≡ tru
         done = each;
       }
     where
-      sure : (k : ℕ) → Endless (nextAddresses mask) (HaltsAt mask) k ⊎ (get_or found k 0 ≡ endless) → Endless (nextAddresses mask) (HaltsAt mask) k ⊎ ⊥
+      sure : (k : ℕ) → Endless (next_addresses mask) (HaltsAt mask) k ⊎ (get_or found k 0 ≡ endless) → Endless (next_addresses mask) (HaltsAt mask) k ⊎ ⊥
       sure k (inl e) = inl e
       sure k (inr e) = f.known.unbounded k e
 
-      here : (b l : ℕ) → b ≡ a → 0 < l → l < levels → BoundAnswers mask (pair b l) (bound_at (pick (isMarked marks a l) n 0))
+      here : (b l : ℕ) → b ≡ a → 0 < l → l < levels → BoundAnswers mask (pair b l) (bound_at (pick (is_marked marks a l) n 0))
       here b l e z k =
-          subst (λ (b : ℕ). BoundAnswers mask (pair b l) (bound_at (pick (isMarked marks a l) n 0))) (sym e)
+          subst (λ (b : ℕ). BoundAnswers mask (pair b l) (bound_at (pick (is_marked marks a l) n 0))) (sym e)
           (listed mask marks a l size h k marked safe bytes z n t.0)
 
-      at : (b l m v : ℕ) → b ≡ a → l ≡ m → 0 < l → l < levels → v ≡ pick (isMarked marks a m) n 0 → BoundAnswers mask (pair b l) (bound_at v)
+      at : (b l m v : ℕ) → b ≡ a → l ≡ m → 0 < l → l < levels → v ≡ pick (is_marked marks a m) n 0 → BoundAnswers mask (pair b l) (bound_at v)
       at b l m v e f z k g =
-          subst (λ (v : ℕ). BoundAnswers mask (pair b l) (bound_at v)) (sym (g ∙ ap (λ (m : ℕ). pick (isMarked marks a m) n 0) (sym f))) (here b l e z k)
+          subst (λ (v : ℕ). BoundAnswers mask (pair b l) (bound_at v)) (sym (g ∙ ap (λ (m : ℕ). pick (is_marked marks a m) n 0) (sym f))) (here b l e z k)
 
       each : (b l : ℕ) → b < a + 1 → 0 < l → l < levels
           → BoundAnswers mask (pair b l) (bound_at (get_or (set (set list (a * 2) x) (a * 2 + 1) y) (place_of b l) 0))
@@ -94,7 +94,7 @@ module _ (mask marks : List ℕ) (bytes : Bytes mask) (size : sized mask ≡ tru
           (λ g. at b l 1 x (omega arith) (omega arith) z k ex)
           (λ g. f.done b l (omega (arith, e, g)) z k))
 
-  pub filling-end : (list found : List ℕ) (a : ℕ) → Filling list found a → addresses ≤ a → (length list ≡ boundsSize) × Entries mask list
+  pub filling-end : (list found : List ℕ) (a : ℕ) → Filling list found a → addresses ≤ a → (length list ≡ bounds_size) × Entries mask list
   filling-end list found a f h =
       (f.room, λ b l i z k. subst (λ (n : ℕ). BoundAnswers mask (pair b l) (bound_at n)) (sym (entry_at list b l f.room i z k)) (f.done b l (omega arith) z k))
 
@@ -156,7 +156,7 @@ called true Back r e h = absurd (omega (arith, e))
 called false f r e h = absurd (omega (arith, e))
 
 -- a marked pair is in range
-marked-inside : (marks : List ℕ) (a l : ℕ) → isMarked marks a l ≡ true → a < addresses
+marked-inside : (marks : List ℕ) (a l : ℕ) → is_marked marks a l ≡ true → a < addresses
 marked-inside marks a l = go (ltb a addresses) (ltb l levels) (eqb (get_or marks a 0 / 2 ^ l % 2) 1) (ltb-true a addresses)
   where
     go : (b d t : Bool) → (b ≡ true → a < addresses) → (b && d && t) ≡ true → a < addresses
@@ -173,18 +173,18 @@ module _ (mask marks : List ℕ) where
 
   pub calling-start : Calling (replicate addresses 0) 0
   calling-start =
-      record { size = length-replicate {A = ℕ} addresses 0; flags-two = λ t. omega (arith, getD-zeros addresses t); sound = λ t e. absurd (omega (arith, getD-zeros addresses t)); full = λ t h k z. absurd (omega arith) }
+      record { size = length-replicate {A = ℕ} addresses 0; flags-two = λ t. omega (arith, get_d-zeros addresses t); sound = λ t e. absurd (omega (arith, get_d-zeros addresses t)); full = λ t h k z. absurd (omega arith) }
 
   abbrev pub TargetAt : ℕ → ℕ → Type 0
-  TargetAt a r = TargetOf (pick (isMarked marks a 0) (flowAt mask a) Unread) r
+  TargetAt a r = TargetOf (pick (is_marked marks a 0) (flow_at mask a) Unread) r
 
   module _ (flags : List ℕ) (a r : ℕ) (c : Calling flags a) (h : a < addresses) (target : TargetAt a r) where
     -- where a CALL at the address goes
     goes : (t : ℕ) (k : Called mask marks t) → k.from ≡ a → r ≡ t
     goes t k e = subst (λ (f : Flow). TargetOf f r) both target ∙ k.there
       where
-        both : pick (isMarked marks a 0) (flowAt mask a) Unread ≡ Sub k.target
-        both = subst (λ (a : ℕ). pick (isMarked marks a 0) (flowAt mask a) Unread ≡ Sub k.target) e (rw k.marked k.calls)
+        both : pick (is_marked marks a 0) (flow_at mask a) Unread ≡ Sub k.target
+        both = subst (λ (a : ℕ). pick (is_marked marks a 0) (flow_at mask a) Unread ≡ Sub k.target) e (rw k.marked k.calls)
 
     pub calling-new : r < addresses → Calling (set flags r 1) (a + 1)
     calling-new l =
@@ -198,7 +198,7 @@ module _ (mask marks : List ℕ) where
       where
         new : (t : ℕ) → t ≡ r → Called mask marks t
         new t e =
-            let x = called (isMarked marks a 0) (flowAt mask a) r target l in
+            let x = called (is_marked marks a 0) (flow_at mask a) r target l in
             record { from = a; target = x.1; calls = x.2; there = x.3 ∙ sym e; marked = x.0 }
 
         earlier : (t : ℕ) (k : Called mask marks t) → k.from < a + 1 → (k.from ≡ a → ⊥) → k.from < a

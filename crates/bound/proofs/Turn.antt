@@ -10,14 +10,14 @@ use lib.Dec.{ltb}
 use lib.ListN.{length, get_or, set, replicate, length-replicate}
 use Rattle.isa.specs.Choice.{pick}
 use Rattle.isa.specs.Code.{addresses}
-use Rattle.rom.specs.Fetching.{Bytes, cyclesAt}
+use Rattle.rom.specs.Fetching.{Bytes, cycles_at}
 use Rattle.reach.specs.Chains.{Member, here, there}
 use Rattle.reach.specs.Walk.{zeros}
 use Rattle.reach.proofs.Chains.{all-member}
-use Rattle.reach.proofs.Count.{zeros-replicate, getD-zeros}
+use Rattle.reach.proofs.Count.{zeros-replicate, get_d-zeros}
 use Rattle.bound.specs.Paths.{Leads}
 use Rattle.bound.specs.Lists.{endless}
-use Rattle.bound.specs.Walk.{mostCycles, settled, Remembers, Told, nextAddresses, HaltsAt, ToldOf, RemembersOf, StandsAt}
+use Rattle.bound.specs.Walk.{most_cycles, settled, Remembers, Told, next_addresses, HaltsAt, ToldOf, RemembersOf, StandsAt}
 use Rattle.bound.specs.declared.ways.Ways.{Ways}
 use Rattle.bound.specs.declared.ways.Ways.TheVariants.{Stop, Out, One, Two}
 use Rattle.bound.proofs.Addresses.{two-cycles, next_small}
@@ -36,8 +36,8 @@ pub fresh : (mask : List ℕ) (P : ℕ → Type 0) → RemembersOf mask P (repli
 fresh mask P =
     record {
       size = length-replicate {A = ℕ} addresses 0;
-      unbounded = λ k e. absurd (omega (arith, getD-zeros addresses k));
-      bounded = λ k n. absurd (n (getD-zeros addresses k));
+      unbounded = λ k e. absurd (omega (arith, get_d-zeros addresses k));
+      bounded = λ k n. absurd (n (get_d-zeros addresses k));
     }
 
 pub fresh-left : zeros (replicate addresses 0) ≤ addresses
@@ -45,9 +45,9 @@ fresh-left = omega (arith, zeros-replicate addresses)
 
 module _ (mask : List ℕ) (bytes : Bytes mask) where
   -- a number of an address is 65,535 or small
-  pub told-small : (q n : ℕ) → q < addresses → ToldOf mask q n → (n ≡ endless → ⊥) → n ≤ mostCycles
+  pub told-small : (q n : ℕ) → q < addresses → ToldOf mask q n → (n ≡ endless → ⊥) → n ≤ most_cycles
   told-small q n h t f =
-      finite-small (nextAddresses mask) (HaltsAt mask) (cyclesAt mask) (λ k. next_small mask k bytes) (two-cycles mask) q n h (t.bounded f)
+      finite-small (next_addresses mask) (HaltsAt mask) (cycles_at mask) (λ k. next_small mask k bytes) (two-cycles mask) q n h (t.bounded f)
 
   pub told-most : (q n : ℕ) → q < addresses → ToldOf mask q n → n ≤ endless
   told-most q n h t = go (ℕ_discrete n endless)
@@ -57,11 +57,11 @@ module _ (mask : List ℕ) (bytes : Bytes mask) where
       go (no f) = let l = told-small q n h t f in omega arith
 
   module _ (a left : ℕ) (found : List ℕ) (h : a < addresses) (l : zeros found ≤ left)
-      (before : RemembersOf mask (λ (k : ℕ). Leads (nextAddresses mask) k a) found) where
+      (before : RemembersOf mask (λ (k : ℕ). Leads (next_addresses mask) k a) found) where
     pub known : (get_or found a 0 ≡ 0 → ⊥) → Turned mask a found found (get_or found a 0)
     known n = (
-      told-known (nextAddresses mask) (HaltsAt mask) (cyclesAt mask) a found before n,
-      (stays (nextAddresses mask) (HaltsAt mask) (cyclesAt mask) a found before, omega arith),
+      told-known (next_addresses mask) (HaltsAt mask) (cycles_at mask) a found before n,
+      (stays (next_addresses mask) (HaltsAt mask) (cycles_at mask) a found before, omega arith),
     )
 
     module _ (z : get_or found a 0 ≡ 0) where
@@ -78,23 +78,23 @@ module _ (mask : List ℕ) (bytes : Bytes mask) where
 
       pub begun : Walked (set found a endless)
       begun =
-          record { opened = opened (nextAddresses mask) (HaltsAt mask) (cyclesAt mask) a found before h; fewer = omega (arith, marked) }
+          record { opened = opened (next_addresses mask) (HaltsAt mask) (cycles_at mask) a found before h; fewer = omega (arith, marked) }
 
       -- a successor's turn: what it is told, and what it leaves
-      pub inside : (q : ℕ) → Member q (nextAddresses mask a) → q < addresses
+      pub inside : (q : ℕ) → Member q (next_addresses mask a) → q < addresses
       inside q m = all-member (λ (k : ℕ). k < addresses) m (next_small mask a bytes)
 
-      pub given : (q : ℕ) (now : List ℕ) → Walked now → Member q (nextAddresses mask a)
-          → ((q < addresses) × (zeros now ≤ left - 1)) × RemembersOf mask (λ (k : ℕ). Leads (nextAddresses mask) k q) now
+      pub given : (q : ℕ) (now : List ℕ) → Walked now → Member q (next_addresses mask a)
+          → ((q < addresses) × (zeros now ≤ left - 1)) × RemembersOf mask (λ (k : ℕ). Leads (next_addresses mask) k q) now
       given q now w m =
           let f = w.fewer in
-          ((inside q m, omega arith), descend (nextAddresses mask) (HaltsAt mask) (cyclesAt mask) a found before h q now w.opened m)
+          ((inside q m, omega arith), descend (next_addresses mask) (HaltsAt mask) (cycles_at mask) a found before h q now w.opened m)
 
       pub after : (now new : List ℕ) → Walked now → Left mask now new → Walked new
       after now new w r =
           let f = w.fewer in
           record {
-            opened = ascend (nextAddresses mask) (HaltsAt mask) (cyclesAt mask) a found before h now new w.opened r.0;
+            opened = ascend (next_addresses mask) (HaltsAt mask) (cycles_at mask) a found before h now new w.opened r.0;
             fewer = omega (arith, r.1);
           }
 
@@ -103,58 +103,58 @@ module _ (mask : List ℕ) (bytes : Bytes mask) where
       closes now w r t =
           let f = w.fewer in
           let y = zeros-set-most now a r in
-          (t, (closed (nextAddresses mask) (HaltsAt mask) (cyclesAt mask) a found before h now r w.opened t, omega arith))
+          (t, (closed (next_addresses mask) (HaltsAt mask) (cycles_at mask) a found before h now r w.opened t, omega arith))
 
       pub halts : HaltsAt mask a → (r : ℕ) → r ≡ endless → Turned mask a found (set (set found a endless) a r) r
-      halts e r p = closes (set found a endless) begun r (subst (ToldOf mask a) (sym p) (told-halt (nextAddresses mask) (HaltsAt mask) (cyclesAt mask) a e))
+      halts e r p = closes (set found a endless) begun r (subst (ToldOf mask a) (sym p) (told-halt (next_addresses mask) (HaltsAt mask) (cycles_at mask) a e))
 
       settles : (now : List ℕ) (w r : ℕ) → Walked now → (HaltsAt mask a → ⊥)
-          → Worst (nextAddresses mask) (HaltsAt mask) (cyclesAt mask) (nextAddresses mask a) w → ((w ≡ endless → ⊥) → w ≤ mostCycles)
-          → r ≡ settled w (cyclesAt mask a) → Turned mask a found (set now a r) r
+          → Worst (next_addresses mask) (HaltsAt mask) (cycles_at mask) (next_addresses mask a) w → ((w ≡ endless → ⊥) → w ≤ most_cycles)
+          → r ≡ settled w (cycles_at mask a) → Turned mask a found (set now a r) r
       settles now w r k n worst s e =
           closes now k r
-          (subst (ToldOf mask a) (sym e) (told-settled (nextAddresses mask) (HaltsAt mask) (cyclesAt mask) a w n worst s (two-cycles mask a)))
+          (subst (ToldOf mask a) (sym e) (told-settled (next_addresses mask) (HaltsAt mask) (cycles_at mask) a w n worst s (two-cycles mask a)))
 
-      pub settles-none : (r : ℕ) → StandsAt mask a Out → r ≡ settled 0 (cyclesAt mask a) → Turned mask a found (set (set found a endless) a r) r
+      pub settles-none : (r : ℕ) → StandsAt mask a Out → r ≡ settled 0 (cycles_at mask a) → Turned mask a found (set (set found a endless) a r) r
       settles-none r k =
           settles (set found a endless) 0 r begun k.0
-          (subst (λ (qs : List ℕ). Worst (nextAddresses mask) (HaltsAt mask) (cyclesAt mask) qs 0) k.1
-          (worst-none (nextAddresses mask) (HaltsAt mask) (cyclesAt mask))) (λ n. omega arith)
+          (subst (λ (qs : List ℕ). Worst (next_addresses mask) (HaltsAt mask) (cycles_at mask) qs 0) k.1
+          (worst-none (next_addresses mask) (HaltsAt mask) (cycles_at mask))) (λ n. omega arith)
 
       -- one way on
       module _ (q : ℕ) (k : StandsAt mask a (One q)) where
-        pub one-first : Member q (nextAddresses mask a)
+        pub one-first : Member q (next_addresses mask a)
         one-first = subst (Member q) k.1 here
 
-        pub settles-one : (now : List ℕ) (n r : ℕ) → Walked now → ToldOf mask q n → r ≡ settled n (cyclesAt mask a) → Turned mask a found (set now a r) r
+        pub settles-one : (now : List ℕ) (n r : ℕ) → Walked now → ToldOf mask q n → r ≡ settled n (cycles_at mask a) → Turned mask a found (set now a r) r
         settles-one now n r w t =
             settles now n r w k.0
-            (subst (λ (qs : List ℕ). Worst (nextAddresses mask) (HaltsAt mask) (cyclesAt mask) qs n) k.1
-            (worst-one (nextAddresses mask) (HaltsAt mask) (cyclesAt mask) q n t)) (told-small q n (inside q one-first) t)
+            (subst (λ (qs : List ℕ). Worst (next_addresses mask) (HaltsAt mask) (cycles_at mask) qs n) k.1
+            (worst-one (next_addresses mask) (HaltsAt mask) (cycles_at mask) q n t)) (told-small q n (inside q one-first) t)
 
       -- two
       module _ (q s : ℕ) (k : StandsAt mask a (Two q s)) where
-        pub two-first : Member q (nextAddresses mask a)
+        pub two-first : Member q (next_addresses mask a)
         two-first = subst (Member q) k.1 here
 
-        pub two-second : Member s (nextAddresses mask a)
+        pub two-second : Member s (next_addresses mask a)
         two-second = subst (Member s) k.1 (there here)
 
-        pub two-small : (n m : ℕ) → ToldOf mask q n → ToldOf mask s m → (pick (ltb n m) m n ≡ endless → ⊥) → pick (ltb n m) m n ≤ mostCycles
+        pub two-small : (n m : ℕ) → ToldOf mask q n → ToldOf mask s m → (pick (ltb n m) m n ≡ endless → ⊥) → pick (ltb n m) m n ≤ most_cycles
         two-small n m t u = go (ltb n m)
           where
-            go : (b : Bool) → (pick b m n ≡ endless → ⊥) → pick b m n ≤ mostCycles
+            go : (b : Bool) → (pick b m n ≡ endless → ⊥) → pick b m n ≤ most_cycles
             go true e = told-small s m (inside s two-second) u e
             go false e = told-small q n (inside q two-first) t e
 
-        pub settles-two : (now : List ℕ) (n m r : ℕ) → Walked now → ToldOf mask q n → ToldOf mask s m → r ≡ settled (pick (ltb n m) m n) (cyclesAt mask a)
+        pub settles-two : (now : List ℕ) (n m r : ℕ) → Walked now → ToldOf mask q n → ToldOf mask s m → r ≡ settled (pick (ltb n m) m n) (cycles_at mask a)
             → Turned mask a found (set now a r) r
         settles-two now n m r w t u =
             settles now (pick (ltb n m) m n) r w k.0
-            (subst (λ (qs : List ℕ). Worst (nextAddresses mask) (HaltsAt mask) (cyclesAt mask) qs (pick (ltb n m) m n)) k.1
-            (worst-two (nextAddresses mask) (HaltsAt mask) (cyclesAt mask) q s n m t u (told-most q n (inside q two-first) t) (told-most s m (inside s two-second) u)))
+            (subst (λ (qs : List ℕ). Worst (next_addresses mask) (HaltsAt mask) (cycles_at mask) qs (pick (ltb n m) m n)) k.1
+            (worst-two (next_addresses mask) (HaltsAt mask) (cycles_at mask) q s n m t u (told-most q n (inside q two-first) t) (told-most s m (inside s two-second) u)))
             (two-small n m t u)
 
         -- the second is known already
         pub known-second : (now : List ℕ) → Walked now → (get_or now s 0 ≡ 0 → ⊥) → ToldOf mask s (get_or now s 0)
-        known-second now w = told-known (nextAddresses mask) (HaltsAt mask) (cyclesAt mask) s now (given s now w two-second).1
+        known-second now w = told-known (next_addresses mask) (HaltsAt mask) (cycles_at mask) s now (given s now w two-second).1

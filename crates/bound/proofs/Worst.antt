@@ -21,7 +21,7 @@ use Rattle.reach.proofs.Count.{after-set}
 use Rattle.bound.specs.Paths.{Loop, Endless, total, Spends, Longest}
 use Rattle.bound.specs.Paths.{Leads}
 use Rattle.bound.specs.Lists.{endless}
-use Rattle.bound.specs.Walk.{mostCycles, settled, Last, Finite, Told, Remembers}
+use Rattle.bound.specs.Walk.{most_cycles, settled, Last, Finite, Told, Remembers}
 use Rattle.bound.proofs.Loops.{endless-over, endless-loop, few}
 
 -- ---- counting what is not found yet
@@ -138,7 +138,7 @@ module _ (next : ℕ → List ℕ) (Halt : ℕ → Type 0) (cost : ℕ → ℕ) 
         go {e} (more {q = q} {ps = ps} m c) l =
             let h = worst.most f q (total cost ps) m (record { chain = ps; end = e; links = c; ends = l; spent = refl }) in omega arith
 
-    pub told-settled : ((w ≡ endless → ⊥) → w ≤ mostCycles) → cost a ≤ 2 → Told next Halt cost a (settled w (cost a))
+    pub told-settled : ((w ≡ endless → ⊥) → w ≤ most_cycles) → cost a ≤ 2 → Told next Halt cost a (settled w (cost a))
     told-settled h k = go (eqb w endless) (eqb-true w endless) (eqb-false w endless)
       where
         go : (b : Bool) → (b ≡ true → w ≡ endless) → (b ≡ false → w ≡ endless → ⊥) → Told next Halt cost a (pick b endless (w + cost a))
@@ -163,7 +163,7 @@ module _ (next : ℕ → List ℕ) (Halt : ℕ → Type 0) (cost : ℕ → ℕ) 
     total-most [] = omega arith
     total-most (p ∷ ps) = let h = total-most ps in let k = cheap p in omega arith
 
-    pub finite-small : (a n : ℕ) → a < addresses → Finite next Halt cost a n → n ≤ mostCycles
+    pub finite-small : (a n : ℕ) → a < addresses → Finite next Halt cost a n → n ≤ most_cycles
     finite-small a n h f =
         let s = f.longest.met in
         let l = few addresses next small {Halts = Halt} h s.links f.ends in

@@ -4,8 +4,8 @@ use Rattle.std.specs.Prelude.{ℕ, ◌<◌, ◌≡◌, true, cond, List, eqb}
 use Rattle.isa.specs.Code.{addresses}
 use Rattle.isa.specs.declared.Instruction.TheVariants as I
 use Rattle.isa.specs.declared.decoder.Decoded.TheVariants.{Read}
-use Rattle.rom.specs.Fetching.{sized, readAt, cyclesAt, movedFrom}
-use Rattle.checker.specs.Marks.{levels, Pair, flowAt, onward, unlessForbidden, Reached}
+use Rattle.rom.specs.Fetching.{sized, read_at, cycles_at, moved_from}
+use Rattle.checker.specs.Marks.{levels, Pair, flow_at, onward, unless_forbidden, Reached}
 use Rattle.checker.specs.Verdicts.{Safe}
 use Rattle.checker.specs.declared.flow.Flow.TheVariants.{Back}
 use Rattle.bound.specs.Paths.{Endless, Longest}
@@ -15,19 +15,19 @@ use Rattle.bound.specs.declared.bound.Bound.TheVariants.{NotReached, NoBound, Cy
 -- "The vector successors of EI are not followed": document 01's successors without them. Above level 0 CALL is forbidden, so that each one left is in
 -- the pair's own level: hence "reached in that level"
 unfoldable pub within : List ℕ → Pair → List Pair
-within mask p = unlessForbidden mask p (onward (flowAt mask p.address) (movedFrom mask p.address) p.level)
+within mask p = unless_forbidden mask p (onward (flow_at mask p.address) (moved_from mask p.address) p.level)
 
 -- "a return": RET or RETI
 abbrev pub Returns : List ℕ → Pair → Type 0
-Returns mask p = flowAt mask p.address ≡ Back
+Returns mask p = flow_at mask p.address ≡ Back
 
 -- "a HALT"
 abbrev pub Halts : List ℕ → Pair → Type 0
-Halts mask p = readAt mask p.address ≡ Read I.Halt
+Halts mask p = read_at mask p.address ≡ Read I.Halt
 
 -- a pair's cycles, by document 01's list
-abbrev pub cyclesOf : List ℕ → Pair → ℕ
-cyclesOf mask p = cyclesAt mask p.address
+abbrev pub cycles_of : List ℕ → Pair → ℕ
+cycles_of mask p = cycles_at mask p.address
 
 -- "'no bound' exactly when a loop or a HALT can be reached in that level"
 abbrev pub Unbounded : List ℕ → Pair → Type 0
@@ -36,7 +36,7 @@ Unbounded mask p = Endless (within mask) (Halts mask) p
 -- "the largest cycle total over all chains from it to a return, the return included"
 pub record Bounded (mask : List ℕ) (p : Pair) (n : ℕ) : Type 0 where
   pub ends : Unbounded mask p → ⊥
-  pub longest : Longest (within mask) (Returns mask) (cyclesOf mask) p n
+  pub longest : Longest (within mask) (Returns mask) (cycles_of mask) p n
 
 -- "a pair out of range": "A program address counts to 4,095", levels 0 to 2
 abbrev pub InRange : Pair → Type 0
@@ -53,13 +53,13 @@ abbrev pub ReachedAbove : List ℕ → Pair → Type 0
 ReachedAbove mask p = (0 < p.level) × Reached mask p
 
 -- the paper's number of each answer, 0 for an answer that is not refused
-abbrev pub boundRefusal : Bound → ℕ
-boundRefusal NotReached = 0
-boundRefusal NoBound = 0
-boundRefusal (Cycles n) = 0
-boundRefusal BadMask = 1
-boundRefusal BadPair = 5
-boundRefusal MaskFails = 15
+abbrev pub bound_refusal : Bound → ℕ
+bound_refusal NotReached = 0
+bound_refusal NoBound = 0
+bound_refusal (Cycles n) = 0
+bound_refusal BadMask = 1
+bound_refusal BadPair = 5
+bound_refusal MaskFails = 15
 
 -- what each number says: 0, that nothing is refused; document 01's "1: mask not 4,096 bytes"; "15 if the mask fails, after 1 and 5 (a pair out of
 -- range)"
@@ -73,12 +73,12 @@ BoundSays mask p n =
 
 -- an answer says what its number says, and what it tells of the pair
 abbrev pub BoundAnswers : List ℕ → Pair → Bound → Type 0
-BoundAnswers mask p NotReached = BoundSays mask p (boundRefusal NotReached) × (ReachedAbove mask p → ⊥)
-BoundAnswers mask p NoBound = BoundSays mask p (boundRefusal NoBound) × ReachedAbove mask p × Unbounded mask p
-BoundAnswers mask p (Cycles n) = BoundSays mask p (boundRefusal (Cycles n)) × ReachedAbove mask p × Bounded mask p n
-BoundAnswers mask p BadMask = BoundSays mask p (boundRefusal BadMask)
-BoundAnswers mask p BadPair = BoundSays mask p (boundRefusal BadPair)
-BoundAnswers mask p MaskFails = BoundSays mask p (boundRefusal MaskFails)
+BoundAnswers mask p NotReached = BoundSays mask p (bound_refusal NotReached) × (ReachedAbove mask p → ⊥)
+BoundAnswers mask p NoBound = BoundSays mask p (bound_refusal NoBound) × ReachedAbove mask p × Unbounded mask p
+BoundAnswers mask p (Cycles n) = BoundSays mask p (bound_refusal (Cycles n)) × ReachedAbove mask p × Bounded mask p n
+BoundAnswers mask p BadMask = BoundSays mask p (bound_refusal BadMask)
+BoundAnswers mask p BadPair = BoundSays mask p (bound_refusal BadPair)
+BoundAnswers mask p MaskFails = BoundSays mask p (bound_refusal MaskFails)
 
 -- the answer depends on the mask and the pair alone
 abbrev pub BoundDetermines : Type 0

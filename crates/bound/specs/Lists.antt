@@ -5,8 +5,8 @@ use Rattle.isa.specs.Choice.{pick}
 use Rattle.isa.specs.Code.{addresses}
 use Rattle.isa.specs.declared.ProgramAddress.{ProgramAddress}
 use Rattle.rom.specs.Fetching.{sized}
-use Rattle.checker.specs.Marks.{levels, pair, flowAt}
-use Rattle.checker.specs.Verdicts.{Safe, isMarked}
+use Rattle.checker.specs.Marks.{levels, pair, flow_at}
+use Rattle.checker.specs.Verdicts.{Safe, is_marked}
 use Rattle.checker.specs.declared.flow.Flow.TheVariants.{Sub}
 use Rattle.bound.specs.Bounds.{BoundAnswers}
 use Rattle.bound.specs.declared.bound.Bound.{Bound}
@@ -18,16 +18,16 @@ use Rattle.bound.specs.declared.bounds.Bounds.TheVariants.{Listed, BadMask, BadL
 abbrev pub endless : ℕ
 endless = 65535
 
-abbrev pub boundOf : ℕ → Bound
-boundOf n = pick (eqb n endless) NoBound (Cycles n)
+abbrev pub bound_of : ℕ → Bound
+bound_of n = pick (eqb n endless) NoBound (Cycles n)
 
 -- an entry: 0 for 'not reached', since a return takes a cycle
 abbrev pub bound_at : ℕ → Bound
-bound_at n = pick (eqb n 0) NotReached (boundOf n)
+bound_at n = pick (eqb n 0) NotReached (bound_of n)
 
 -- how many entries there are: two an address
-abbrev pub boundsSize : ℕ
-boundsSize = addresses * 2
+abbrev pub bounds_size : ℕ
+bounds_size = addresses * 2
 
 -- a pair's place, by address and then level
 abbrev pub place_of : ℕ → ℕ → ℕ
@@ -35,33 +35,33 @@ place_of a l = a * 2 + (l - 1)
 
 -- the entry of a pair above level 0; 0, 'not reached', for any other pair, and for a list of another length
 abbrev pub entry_of : List ℕ → ℕ → ℕ → ℕ
-entry_of list a l = pick (eqb (length list) boundsSize && ltb a addresses && ltb 0 l && ltb l levels) (get_or list (place_of a l) 0) 0
+entry_of list a l = pick (eqb (length list) bounds_size && ltb a addresses && ltb 0 l && ltb l levels) (get_or list (place_of a l) 0) 0
 
 -- each entry is the answer for its pair
 abbrev pub Entries : List ℕ → List ℕ → Type 0
 Entries mask list = (a l : ℕ) → a < addresses → 0 < l → l < levels → BoundAnswers mask (pair a l) (bound_at (entry_of list a l))
 
 -- the number of each answer: wish 5's, but for a pair's; 2 for a list of another length, as document 01 has it for marks
-abbrev pub boundsRefusal : Bounds → ℕ
-boundsRefusal Listed = 0
-boundsRefusal BadMask = 1
-boundsRefusal BadList = 2
-boundsRefusal MaskFails = 15
+abbrev pub bounds_refusal : Bounds → ℕ
+bounds_refusal Listed = 0
+bounds_refusal BadMask = 1
+bounds_refusal BadList = 2
+bounds_refusal MaskFails = 15
 
 -- what each refusal says
 abbrev pub BoundsRefused : List ℕ → List ℕ → ℕ → Type 0
 BoundsRefused mask old n =
     cond (eqb n 1) (sized mask ≡ true → ⊥)
-    (cond (eqb n 2) ((sized mask ≡ true) × (length old ≡ boundsSize → ⊥))
-    (cond (eqb n 15) ((sized mask ≡ true) × (length old ≡ boundsSize) × (Safe mask → ⊥))
+    (cond (eqb n 2) ((sized mask ≡ true) × (length old ≡ bounds_size → ⊥))
+    (cond (eqb n 15) ((sized mask ≡ true) × (length old ≡ bounds_size) × (Safe mask → ⊥))
     ⊥))
 
 -- what each answer says, by its number, of the mask and of the list at entry and at exit: 0, that each entry is there; after a refusal the list is as
 -- it was
 abbrev pub BoundsAnswer : List ℕ → List ℕ → List ℕ → Bounds → Type 0
 BoundsAnswer mask old new b =
-    cond (eqb (boundsRefusal b) 0) ((length old ≡ boundsSize) × (length new ≡ boundsSize) × Entries mask new)
-    (BoundsRefused mask old (boundsRefusal b) × (new ≡ old))
+    cond (eqb (bounds_refusal b) 0) ((length old ≡ bounds_size) × (length new ≡ bounds_size) × Entries mask new)
+    (BoundsRefused mask old (bounds_refusal b) × (new ≡ old))
 
 -- the first place whose entry is the largest
 pub record Largest (list : List ℕ) (place : ℕ) : Type 0 where
@@ -73,9 +73,9 @@ pub record Largest (list : List ℕ) (place : ℕ) : Type 0 where
 pub record Called (mask marks : List ℕ) (t : ℕ) : Type 0 where
   pub from : ℕ
   pub target : ProgramAddress
-  pub calls : flowAt mask from ≡ Sub target
+  pub calls : flow_at mask from ≡ Sub target
   pub there : target.0 ≡ t
-  pub marked : isMarked marks from 0 ≡ true
+  pub marked : is_marked marks from 0 ≡ true
 
 -- a flag for each address: 1 where it is called, else 0
 pub record CallTargets (mask marks flags : List ℕ) : Type 0 where

@@ -6,8 +6,8 @@ use Rattle.isa.specs.Code.{addresses}
 use Rattle.isa.specs.declared.Instruction.TheVariants as I
 use Rattle.isa.specs.declared.decoder.Decoded.{Decoded}
 use Rattle.isa.specs.declared.decoder.Decoded.TheVariants.{Read}
-use Rattle.rom.specs.Fetching.{readAt, cyclesAt}
-use Rattle.checker.specs.Marks.{Pair, pair, flowRead, faultIn, onward}
+use Rattle.rom.specs.Fetching.{read_at, cycles_at}
+use Rattle.checker.specs.Marks.{Pair, pair, flow_read, fault_in, onward}
 use Rattle.checker.specs.declared.flow.Flow.{Flow}
 use Rattle.checker.specs.declared.flow.Flow.TheVariants.{Unread, On, Enable, Jump, To, Sub, Back}
 use Rattle.bound.specs.Paths.{Endless, Longest}
@@ -17,8 +17,8 @@ use Rattle.bound.specs.declared.ways.Ways.{Ways}
 use Rattle.bound.specs.declared.ways.Ways.TheVariants.{Stop, Out, One, Two}
 
 -- no total is larger: a chain without a loop has each address once, and an address takes two cycles at most
-abbrev pub mostCycles : ℕ
-mostCycles = addresses * 2
+abbrev pub most_cycles : ℕ
+most_cycles = addresses * 2
 
 -- the cycles of an address before the most that can follow
 abbrev pub settled : ℕ → ℕ → ℕ
@@ -50,21 +50,21 @@ module _ (next : ℕ → List ℕ) (Halt : ℕ → Type 0) (cost : ℕ → ℕ) 
 abbrev pub address_of : Pair → ℕ
 address_of p = p.address
 
-abbrev pub nextAddresses : List ℕ → ℕ → List ℕ
-nextAddresses mask a = map address_of (within mask (pair a 1))
+abbrev pub next_addresses : List ℕ → ℕ → List ℕ
+next_addresses mask a = map address_of (within mask (pair a 1))
 
 abbrev pub HaltsAt : List ℕ → ℕ → Type 0
-HaltsAt mask a = readAt mask a ≡ Read I.Halt
+HaltsAt mask a = read_at mask a ≡ Read I.Halt
 
 abbrev pub ToldOf : List ℕ → ℕ → ℕ → Type 0
-ToldOf mask = Told (nextAddresses mask) (HaltsAt mask) (cyclesAt mask)
+ToldOf mask = Told (next_addresses mask) (HaltsAt mask) (cycles_at mask)
 
 abbrev pub RemembersOf : List ℕ → (ℕ → Type 0) → List ℕ → Type 0
-RemembersOf mask = Remembers (nextAddresses mask) (HaltsAt mask) (cyclesAt mask)
+RemembersOf mask = Remembers (next_addresses mask) (HaltsAt mask) (cycles_at mask)
 
 -- the addresses that a flow hands on to
-abbrev pub handedTo : Flow → ℕ → List ℕ
-handedTo f moved = map address_of (pick (eqb (faultIn f 1) 0) (onward f moved 1) [])
+abbrev pub handed_to : Flow → ℕ → List ℕ
+handed_to f moved = map address_of (pick (eqb (fault_in f 1) 0) (onward f moved 1) [])
 
 -- a flow's ways do not stop
 abbrev pub Follows : Ways → List ℕ → Type 0
@@ -76,16 +76,16 @@ Follows (Two a b) rest = a ∷ b ∷ [] ≡ rest
 -- the ways of what two bytes read as: HALT's, or those of its flow
 abbrev pub HandedOn : Decoded → ℕ → Ways → Type 0
 HandedOn d moved Stop = d ≡ Read I.Halt
-HandedOn d moved Out = (d ≡ Read I.Halt → ⊥) × Follows Out (handedTo (flowRead d) moved)
-HandedOn d moved (One q) = (d ≡ Read I.Halt → ⊥) × Follows (One q) (handedTo (flowRead d) moved)
-HandedOn d moved (Two q r) = (d ≡ Read I.Halt → ⊥) × Follows (Two q r) (handedTo (flowRead d) moved)
+HandedOn d moved Out = (d ≡ Read I.Halt → ⊥) × Follows Out (handed_to (flow_read d) moved)
+HandedOn d moved (One q) = (d ≡ Read I.Halt → ⊥) × Follows (One q) (handed_to (flow_read d) moved)
+HandedOn d moved (Two q r) = (d ≡ Read I.Halt → ⊥) × Follows (Two q r) (handed_to (flow_read d) moved)
 
 -- what stands at an address: HALT, or what follows
 abbrev pub StandsAt : List ℕ → ℕ → Ways → Type 0
 StandsAt mask a Stop = HaltsAt mask a
-StandsAt mask a Out = (HaltsAt mask a → ⊥) × Follows Out (nextAddresses mask a)
-StandsAt mask a (One q) = (HaltsAt mask a → ⊥) × Follows (One q) (nextAddresses mask a)
-StandsAt mask a (Two q r) = (HaltsAt mask a → ⊥) × Follows (Two q r) (nextAddresses mask a)
+StandsAt mask a Out = (HaltsAt mask a → ⊥) × Follows Out (next_addresses mask a)
+StandsAt mask a (One q) = (HaltsAt mask a → ⊥) × Follows (One q) (next_addresses mask a)
+StandsAt mask a (Two q r) = (HaltsAt mask a → ⊥) × Follows (Two q r) (next_addresses mask a)
 
 -- the target of a CALL; 4,096 where there is none
 abbrev pub TargetOf : Flow → ℕ → Type 0

@@ -2,7 +2,7 @@
 ghost use Rattle.std.specs.Prelude.{◌≡◌};
 ghost use Rattle.checker.specs.Marks.{pair};
 ghost use Rattle.bound.specs.Bounds.{BoundAnswers};
-ghost use Rattle.bound.specs.Lists.{boundOf};
+ghost use Rattle.bound.specs.Lists.{bound_of};
 
 use crate::longest::{ENDLESS, longest};
 use checker::check::{MARKS, Verdict, check, is_marked};
@@ -27,7 +27,7 @@ pub enum Bound {
 
 // The answer for a number of the walk.
 fn told(found: u16) -> Bound
-    ensures { result ≡ boundOf found }
+    ensures { result ≡ bound_of found }
 {
     if found == ENDLESS {
         return Bound::NoBound;

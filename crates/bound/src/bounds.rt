@@ -2,8 +2,8 @@
 ghost use Rattle.std.specs.Prelude.{◌≡◌, true, length};
 ghost use Rattle.isa.specs.Choice.{pick};
 ghost use Rattle.rom.specs.Fetching.{sized};
-ghost use Rattle.checker.specs.Verdicts.{Marked, Safe, isMarked};
-ghost use Rattle.bound.specs.Lists.{BoundsAnswer, Entries, Largest, boundsSize, entry_of};
+ghost use Rattle.checker.specs.Verdicts.{Marked, Safe, is_marked};
+ghost use Rattle.bound.specs.Lists.{BoundsAnswer, Entries, Largest, bounds_size, entry_of};
 
 use crate::longest::longest;
 use checker::check::{MARKS, Verdict, check, is_marked};
@@ -27,7 +27,7 @@ pub enum Bounds {
 
 // A pair's entry for the number of its address: 0 where it is not marked.
 fn entry(marks: &[u8; MARKS], address: u16, level: u8, number: u16) -> u16
-    ensures { result ≡ pick (isMarked marks.now address level) number 0 }
+    ensures { result ≡ pick (is_marked marks.now address level) number 0 }
 {
     if is_marked(marks, address, level) {
         return number;
@@ -37,8 +37,8 @@ fn entry(marks: &[u8; MARKS], address: u16, level: u8, number: u16) -> u16
 
 // The entries of every address, by one walk that goes on from address to address.
 fn fill(mask: &[u8], marks: &[u8; MARKS], list: &mut [u16])
-    requires { (sized mask.now ≡ true) × (length list.old ≡ boundsSize) × Marked mask.now marks.now × Safe mask.now }
-    ensures { (length list.new ≡ boundsSize) × Entries mask.now list.new }
+    requires { (sized mask.now ≡ true) × (length list.old ≡ bounds_size) × Marked mask.now marks.now × Safe mask.now }
+    ensures { (length list.new ≡ bounds_size) × Entries mask.now list.new }
 {
     let mut found = [0u16; PLACES];
     let mut address: u16 = 0;

@@ -2,8 +2,8 @@
 ghost use Rattle.std.specs.Prelude.{◌<◌};
 ghost use Rattle.isa.specs.Choice.{pick};
 ghost use Rattle.isa.specs.Code.{addresses};
-ghost use Rattle.checker.specs.Marks.{flowAt};
-ghost use Rattle.checker.specs.Verdicts.{isMarked};
+ghost use Rattle.checker.specs.Marks.{flow_at};
+ghost use Rattle.checker.specs.Verdicts.{is_marked};
 ghost use Rattle.checker.specs.declared.flow.Flow.TheVariants.{Unread};
 ghost use Rattle.bound.specs.Lists.{CallTargets};
 ghost use Rattle.bound.specs.Walk.{TargetOf};
@@ -15,7 +15,7 @@ use isa::{ADDRESSES, PLACES};
 // The target of a CALL that is marked in main at an address; 4,096 where there is none.
 fn called_at(mask: &[u8], marks: &[u8; MARKS], address: u16) -> u16
     requires { address < addresses }
-    ensures { TargetOf (pick (isMarked marks.now address 0) (flowAt mask.now address) Unread) result }
+    ensures { TargetOf (pick (is_marked marks.now address 0) (flow_at mask.now address) Unread) result }
 {
     if !is_marked(marks, address, 0) {
         return ADDRESSES;

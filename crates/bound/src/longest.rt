@@ -5,7 +5,7 @@ ghost use Rattle.isa.specs.Code.{addresses};
 ghost use Rattle.reach.specs.Walk.{zeros};
 ghost use Rattle.bound.specs.Paths.{Leads};
 ghost use Rattle.bound.specs.Lists.{endless};
-ghost use Rattle.bound.specs.Walk.{RemembersOf, ToldOf, mostCycles, nextAddresses, settled};
+ghost use Rattle.bound.specs.Walk.{RemembersOf, ToldOf, most_cycles, next_addresses, settled};
 
 use crate::ways::{Ways, ways_by};
 use isa::PLACES;
@@ -26,7 +26,7 @@ fn larger(a: u16, b: u16) -> u16
 
 // An address is found: the cycles of its entry in the list of lengths and cycles, and the most that can follow.
 fn settle(found: &mut [u16; PLACES], address: u16, worst: u16, timing: u8) -> u16
-    requires { (address < addresses) × ((worst ≡ endless → ⊥) → worst ≤ mostCycles) }
+    requires { (address < addresses) × ((worst ≡ endless → ⊥) → worst ≤ most_cycles) }
     ensures value { result ≡ settled worst (timing % 16) }
     ensures found_after { found.new ≡ set found.old address result }
 {
@@ -44,7 +44,7 @@ fn settle(found: &mut [u16; PLACES], address: u16, worst: u16, timing: u8) -> u1
 // second way is often known: a look saves the call.
 pub(crate) fn longest(mask: &[u8], found: &mut [u16; PLACES], address: u16, left: u16) -> u16
     requires address_lt_addresses { (address < addresses) × (zeros found.old ≤ left) }
-    requires remembers_of { RemembersOf mask.now (λ (k : ℕ). Leads (nextAddresses mask.now) k address) found.old }
+    requires remembers_of { RemembersOf mask.now (λ (k : ℕ). Leads (next_addresses mask.now) k address) found.old }
     ensures told_of { ToldOf mask.now address result }
     ensures remembers_of_2 { RemembersOf mask.now (λ (k : ℕ). get_or found.old k 0 ≡ endless) found.new }
     ensures found_bound { zeros found.new ≤ zeros found.old }

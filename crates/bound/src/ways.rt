@@ -2,7 +2,7 @@
 // HALT, and of which a second caller in a library makes it a call in the checker's walk.
 ghost use Rattle.std.specs.Prelude.{◌/◌, ◌≡◌};
 ghost use Rattle.isa.specs.Reading.{decoded};
-ghost use Rattle.rom.specs.Fetching.{movedBy};
+ghost use Rattle.rom.specs.Fetching.{moved_by};
 ghost use Rattle.bound.specs.Walk.{HandedOn};
 
 use rom::reader::moved_by;
@@ -19,7 +19,7 @@ pub enum Ways {
 
 // The moved address: the length is the high nibble of an entry of the list.
 fn moved(address: u16, timing: u8) -> u16
-    ensures { result ≡ movedBy (timing / 16) address }
+    ensures { result ≡ moved_by (timing / 16) address }
 {
     moved_by(address, timing / 16)
 }
@@ -27,7 +27,7 @@ fn moved(address: u16, timing: u8) -> u16
 // The addresses that two bytes at an address hand the program on to. The tests go as those of the entry do, so that the compiler can make one chain
 // of both.
 pub(crate) fn ways_by(address: u16, first: u8, second: u8, timing: u8) -> Ways
-    ensures { HandedOn (decoded first second) (movedBy (timing / 16) address) result }
+    ensures { HandedOn (decoded first second) (moved_by (timing / 16) address) result }
 {
     if 0x7f < first {
         if first < 0xe0 {

@@ -14,8 +14,8 @@ use Rattle.isa.specs.Choice.{pick}
 use Rattle.rom.specs.Fetching.{Bytes}
 use Rattle.datapath.specs.Timer.{counted}
 use Rattle.datapath.specs.declared.timer.Count.{Count}
-use Rattle.cpu.specs.State.{State, address, withPc, withHeld, withLevel, withStack, withPins}
-use Rattle.cpu.specs.Step.{timed, entered, vectorOf, step}
+use Rattle.cpu.specs.State.{State, address, with_pc, with_held, with_level, with_stack, with_pins}
+use Rattle.cpu.specs.Step.{timed, entered, vector_of, step}
 use Rattle.cpu.specs.Range.{valid}
 use Rattle.cpu.specs.Run.{ran, yielded}
 use Rattle.cpu.specs.declared.Cpu.{Cpu}
@@ -24,20 +24,20 @@ use Rattle.cpu.proofs.Leaves.{Standing, standing, ticked-same, counting-same}
 use Rattle.cpu.proofs.Steps.{takes-edge}
 use Rattle.machine.specs.Machine.{state_of}
 use Rattle.machine.specs.Power.{answered}
-use Rattle.machine.specs.Events.{woken, wakes, pinned, interrupted, clocked, counting, happened, maskOk, valuesOk, refusalOf, applied}
-use Rattle.machine.specs.Events.{Input, power, named, answerTo, Call, steps_of, after, Every, UnderMask}
+use Rattle.machine.specs.Events.{woken, wakes, pinned, interrupted, clocked, counting, happened, mask_ok, values_ok, refusal_of, applied}
+use Rattle.machine.specs.Events.{Input, power, named, answer_to, Call, steps_of, after, Every, UnderMask}
 use Rattle.machine.specs.declared.Machine.{Machine}
 use Rattle.machine.specs.declared.events.Event.TheVariants.{Run, Pins as PinsEvent, Int, Tmclk, Res}
 use Rattle.machine.specs.declared.events.Named.TheVariants.{Known, Unknown}
 use Rattle.checker.specs.Verdicts.{Safe}
-use Rattle.bound_laws.specs.Delay.{spentIn, spent, NoRestart, run, UpTo, this, later, Taken, DelayBounded}
+use Rattle.bound_laws.specs.Delay.{spent_in, spent, NoRestart, run, UpTo, this, later, Taken, DelayBounded}
 use Rattle.bound_laws.proofs.Ends.{finds}
 use Rattle.bound_laws.proofs.Sides.{Aside, ticked-cycles, ticked-held, ticked-stack, counting-same as counting-aside}
 use Rattle.bound_laws.proofs.Waiting.{Waiting, InMain, To, Ran, joined, ran_on}
 
 -- what an input spends
 abbrev spending : List ℕ → Input → Machine → ℕ
-spending given i m = pick (eqb (answerTo given i m).refusal 0) (spentIn given (steps_of i) (state_of m)) 0
+spending given i m = pick (eqb (answer_to given i m).refusal 0) (spent_in given (steps_of i) (state_of m)) 0
 
 module _ (mask : List ℕ) (safe : Safe mask) (bytes : Bytes mask) (n : ℕ) where
   abbrev Still : ℕ → Cpu → Cpu → Type 0
@@ -55,7 +55,7 @@ module _ (mask : List ℕ) (safe : Safe mask) (bytes : Bytes mask) (n : ℕ) whe
   -- an input keeps the wait, or has that step
   abbrev One : ℕ → List ℕ → Input → Machine → Type 0
   One k given i m =
-      Still (k + spending given i m) m.cpu (answerTo given i m).machine.cpu
+      Still (k + spending given i m) m.cpu (answer_to given i m).machine.cpu
       ⊎ ((ks : List Call) → Found k (record { mask = given; input = i } ∷ ks) m)
 
   -- ---- each input
@@ -64,7 +64,7 @@ module _ (mask : List ℕ) (safe : Safe mask) (bytes : Bytes mask) (n : ℕ) whe
     stays = record { stands = w; awake = awake; held = λ z. z }
 
     -- pins of any kind, with a wake or without
-    pinned-waits : (pins : Cpu → Pins) (t : Bool) → let c : Cpu = pick t (woken m.cpu) m.cpu in Still k m.cpu (withPins (pins c) c)
+    pinned-waits : (pins : Cpu → Pins) (t : Bool) → let c : Cpu = pick t (woken m.cpu) m.cpu in Still k m.cpu (with_pins (pins c) c)
     pinned-waits pins true = record { stands = w; awake = refl; held = λ z. refl }
     pinned-waits pins false = record { stands = w; awake = awake; held = λ z. z }
 
@@ -86,22 +86,22 @@ module _ (mask : List ℕ) (safe : Safe mask) (bytes : Bytes mask) (n : ℕ) whe
         go false = rw add-zero stays
 
     -- a Run that ends with one of its steps: its refusal does not look at how many they are
-    run-ended : (i r : ℕ) → eqb (refusalOf mask (Run r) m) 0 ≡ true → Comes (k + spentIn mask i (state_of m)) m.cpu (ran mask i (state_of m)).cpu
+    run-ended : (i r : ℕ) → eqb (refusal_of mask (Run r) m) 0 ≡ true → Comes (k + spent_in mask i (state_of m)) m.cpu (ran mask i (state_of m)).cpu
         → Comes (k + spent (run mask i ∷ []) m) m.cpu (after (run mask i ∷ []) m).cpu
-    unfolding applied happened steps_of after spent refusalOf maskOk valuesOk
+    unfolding applied happened steps_of after spent refusal_of mask_ok values_ok
     run-ended i r e y = rw (e, add-zero) y
 
     run-one : (r : ℕ) → One k mask (named (Known (Run r))) m
     unfolding applied happened steps_of
-    run-one r = go (eqb (refusalOf mask (Run r) m) 0) refl
+    run-one r = go (eqb (refusal_of mask (Run r) m) 0) refl
       where
-        stepped : eqb (refusalOf mask (Run r) m) 0 ≡ true → Ran mask safe n k r (state_of m)
-            → Still (k + spentIn mask r (state_of m)) m.cpu (ran mask r (state_of m)).cpu ⊎ ((ks : List Call) → Found k (run mask r ∷ ks) m)
+        stepped : eqb (refusal_of mask (Run r) m) 0 ≡ true → Ran mask safe n k r (state_of m)
+            → Still (k + spent_in mask r (state_of m)) m.cpu (ran mask r (state_of m)).cpu ⊎ ((ks : List Call) → Found k (run mask r ∷ ks) m)
         stepped e (inl y) = inl y
         stepped e (inr (i, p, h, y)) = inr (λ ks. record { until = run mask i ∷ []; far = this p h; comes = run-ended i r e y })
 
-        go : (b : Bool) → eqb (refusalOf mask (Run r) m) 0 ≡ b
-            → Still (k + pick b (spentIn mask r (state_of m)) 0) m.cpu (pick b (happened mask (Run r) m) m).cpu
+        go : (b : Bool) → eqb (refusal_of mask (Run r) m) 0 ≡ b
+            → Still (k + pick b (spent_in mask r (state_of m)) 0) m.cpu (pick b (happened mask (Run r) m) m).cpu
             ⊎ ((ks : List Call) → Found k (run mask r ∷ ks) m)
         go true e = stepped e (ran_on mask safe n r k (state_of m) w awake)
         go false e = inl (rw add-zero stays)
@@ -113,14 +113,14 @@ module _ (mask : List ℕ) (safe : Safe mask) (bytes : Bytes mask) (n : ℕ) whe
     input-one given (named Unknown) u q = inl (answered-waits (pick (valid (state_of m)) 7 5) m stays)
     input-one given (named (Known (Run r))) u q = subst (λ (g : List ℕ). One k g (named (Known (Run r))) m) (sym (u r refl)) (run-one r)
     input-one given (named (Known (PinsEvent pm ps pp))) u q =
-        inl (answered-waits (refusalOf given (PinsEvent pm ps pp) m) (happened given (PinsEvent pm ps pp) m)
+        inl (answered-waits (refusal_of given (PinsEvent pm ps pp) m) (happened given (PinsEvent pm ps pp) m)
         (pinned-waits (λ (c : Cpu). record { pm = pm; ps = ps; pp = pp; int = c.pins.int }) (wakes pm ps pp m.cpu)))
     input-one given (named (Known (Int level))) u q =
-        inl (answered-waits (refusalOf given (Int level) m) (happened given (Int level) m)
+        inl (answered-waits (refusal_of given (Int level) m) (happened given (Int level) m)
         (pinned-waits (λ (c : Cpu). record { pm = c.pins.pm; ps = c.pins.ps; pp = c.pins.pp; int = level })
         (eqb m.cpu.pins.int 1 && eqb level 0)))
     input-one given (named (Known (Tmclk r))) u q =
-        inl (answered-waits (refusalOf given (Tmclk r) m) (happened given (Tmclk r) m)
+        inl (answered-waits (refusal_of given (Tmclk r) m) (happened given (Tmclk r) m)
         (counted-waits (clocked m.cpu) (counted m.cpu.timer.count r)))
     input-one given (named (Known Res)) u q = absurd (q.1 refl)
 
@@ -134,7 +134,7 @@ module _ (mask : List ℕ) (safe : Safe mask) (bytes : Bytes mask) (n : ℕ) whe
   found (c ∷ ks) u q k m w a h = go (input-one k m w a c.mask c.input u.0 q.0) (found ks u.1 q.1)
     where
       new : Machine
-      new = (answerTo c.mask c.input m).machine
+      new = (answer_to c.mask c.input m).machine
 
       sum : (j : ℕ) → k + spending c.mask c.input m + j ≡ k + (spending c.mask c.input m + j)
       sum j = omega arith
@@ -154,16 +154,16 @@ module _ (mask : List ℕ) (safe : Safe mask) (bytes : Bytes mask) (n : ℕ) whe
 -- ---- the next step
 edge-taken : (mask : List ℕ) (s : State) → s.cpu.interrupts.level ≡ 0 → s.cpu.status.halted ≡ 0 → s.cpu.status.fault ≡ 0
     → s.cpu.interrupts.enabled ≡ 1 → s.cpu.interrupts.held ≡ 1 → Taken s.cpu (step mask s).cpu
-unfolding vectorOf entered
+unfolding vector_of entered
 edge-taken mask s l h f e d = subst (λ (t : State). Taken s.cpu t.cpu) (takes-edge mask s h f vector) taken
   where
-    vector : vectorOf s.cpu ≡ 8
+    vector : vector_of s.cpu ≡ 8
     vector = rw (eq-eqb s.cpu.interrupts.level 0 l, eq-eqb s.cpu.interrupts.enabled 1 e, eq-eqb s.cpu.interrupts.held 1 d) refl
 
-    taken : Taken s.cpu (entered 8 (withHeld 0 s.cpu))
+    taken : Taken s.cpu (entered 8 (with_held 0 s.cpu))
     taken =
         let c = s.cpu in
-        let new = withStack (record { address = c.control.pc; carry = c.control.cf }) (withLevel 2 (withPc (address 8) (withHeld 0 c))) in
+        let new = with_stack (record { address = c.control.pc; carry = c.control.cf }) (with_level 2 (with_pc (address 8) (with_held 0 c))) in
         record {
           vector = ap (λ (x : Standing). x.pc) (ticked-same 2 new);
           cleared = ticked-held 2 new;

@@ -11,17 +11,17 @@ use lib.ListN.{length}
 use borrow.Author.Tests.{eq-eqb, ne_eqb}
 use Rattle.isa.specs.Choice.{pick}
 use Rattle.isa.specs.Code.{addresses}
-use Rattle.rom.specs.Fetching.{Bytes, movedFrom}
+use Rattle.rom.specs.Fetching.{Bytes, moved_from}
 use Rattle.reach.specs.Chains.{Member, here, there, Chain, one, more}
 use Rattle.reach.proofs.Chains.{map-length}
-use Rattle.checker.specs.Marks.{Pair, pair, flowAt, faultIn, onward, fault, Reached}
+use Rattle.checker.specs.Marks.{Pair, pair, flow_at, fault_in, onward, fault, Reached}
 use Rattle.checker.specs.Verdicts.{Safe}
 use Rattle.checker.specs.declared.flow.Flow.{Flow}
 use Rattle.checker.specs.declared.flow.Flow.TheVariants.{Unread, On, Enable, Jump, To, Sub, Back}
 use Rattle.checker.proofs.Reach.{reached-address}
 use Rattle.bound.specs.Paths.{Endless, total, Spends}
-use Rattle.bound.specs.Bounds.{within, Returns, cyclesOf, Unbounded}
-use Rattle.bound.specs.Walk.{address_of, nextAddresses, HaltsAt}
+use Rattle.bound.specs.Bounds.{within, Returns, cycles_of, Unbounded}
+use Rattle.bound.specs.Walk.{address_of, next_addresses, HaltsAt}
 use Rattle.bound.proofs.Addresses.{next_small, returned-cycles}
 use Rattle.bound.proofs.Levels.{within-reached, keeps, chain-addresses, endless-pairs}
 use Rattle.bound.proofs.Loops.{endless-over, few}
@@ -38,31 +38,31 @@ module _ (mask : List ℕ) where
     pub ends : Unbounded mask q → ⊥
 
   -- the chains to a return: one pair, or one more before a chain
-  pub spends-here : {q : Pair} → Returns mask q → Spends (within mask) (Returns mask) (cyclesOf mask) q (cyclesOf mask q)
+  pub spends-here : {q : Pair} → Returns mask q → Spends (within mask) (Returns mask) (cycles_of mask) q (cycles_of mask q)
   unfolding total
   spends-here {q} r = record { chain = q ∷ []; end = q; links = one; ends = r; spent = omega arith }
 
-  pub spends-over : {p q : Pair} {n : ℕ} → Member p (within mask q) → Spends (within mask) (Returns mask) (cyclesOf mask) p n
-      → Spends (within mask) (Returns mask) (cyclesOf mask) q (cyclesOf mask q + n)
+  pub spends-over : {p q : Pair} {n : ℕ} → Member p (within mask q) → Spends (within mask) (Returns mask) (cycles_of mask) p n
+      → Spends (within mask) (Returns mask) (cycles_of mask) q (cycles_of mask q + n)
   unfolding total
   spends-over {q = q} m s =
-      record { chain = q ∷ s.chain; end = s.end; links = more m s.links; ends = s.ends; spent = ap (λ (n : ℕ). cyclesOf mask q + n) s.spent }
+      record { chain = q ∷ s.chain; end = s.end; links = more m s.links; ends = s.ends; spent = ap (λ (n : ℕ). cycles_of mask q + n) s.spent }
 
   -- a chain to a return
   pub record Finds (q : Pair) : Type 0 where
     pub cycles : ℕ
     pub some : 0 < cycles
-    pub spends : Spends (within mask) (Returns mask) (cyclesOf mask) q cycles
+    pub spends : Spends (within mask) (Returns mask) (cycles_of mask) q cycles
 
   module _ (safe : Safe mask) where
     -- a reached pair has no fault, so it hands on what its flow says
-    pub within_of : (q : Pair) → Reached mask q → within mask q ≡ onward (flowAt mask q.address) (movedFrom mask q.address) q.level
+    pub within_of : (q : Pair) → Reached mask q → within mask q ≡ onward (flow_at mask q.address) (moved_from mask q.address) q.level
     unfolding within
     within_of q r = rw (eq-eqb (fault mask q) 0 (safe q r)) refl
 
-    pub no-fault-of : (q : Pair) (f : Flow) → Reached mask q → flowAt mask q.address ≡ f → faultIn f q.level ≡ 0
+    pub no-fault-of : (q : Pair) (f : Flow) → Reached mask q → flow_at mask q.address ≡ f → fault_in f q.level ≡ 0
     unfolding fault
-    no-fault-of q f r e = subst (λ (x : Flow). faultIn x q.level ≡ 0) e (safe q r)
+    no-fault-of q f r e = subst (λ (x : Flow). fault_in x q.level ≡ 0) e (safe q r)
 
     pub within-waits : (q p : Pair) → Waits q → Member p (within mask q) → Waits p
     within-waits q p w m =
@@ -77,15 +77,15 @@ module _ (mask : List ℕ) where
     Further q = Returns mask q ⊎ ((p : Pair) × Member p (within mask q))
 
     further : (q : Pair) → Waits q → Further q
-    further q w = go (flowAt mask q.address) refl
+    further q w = go (flow_at mask q.address) refl
       where
         moved : ℕ
-        moved = movedFrom mask q.address
+        moved = moved_from mask q.address
 
-        next : (p : Pair) (f : Flow) → flowAt mask q.address ≡ f → Member p (onward f moved q.level) → Further q
+        next : (p : Pair) (f : Flow) → flow_at mask q.address ≡ f → Member p (onward f moved q.level) → Further q
         next p f e m = inr (p, rw (within_of q w.reached, e) m)
 
-        go : (f : Flow) → flowAt mask q.address ≡ f → Further q
+        go : (f : Flow) → flow_at mask q.address ≡ f → Further q
         go Unread e = absurd (omega (arith, no-fault-of q Unread w.reached e))
         go On e = next (pair moved q.level) On e here
         go Enable e = next (pair moved q.level) Enable e here
@@ -96,10 +96,10 @@ module _ (mask : List ℕ) where
 
     module _ (bytes : Bytes mask) where
       found-over : {q p : Pair} → Member p (within mask q) → Finds p → Finds q
-      found-over {q} m f = record { cycles = cyclesOf mask q + f.cycles; some = omega (arith, f.some); spends = spends-over m f.spends }
+      found-over {q} m f = record { cycles = cycles_of mask q + f.cycles; some = omega (arith, f.some); spends = spends-over m f.spends }
 
       found_here : {q : Pair} → Returns mask q → Finds q
-      found_here {q} r = record { cycles = cyclesOf mask q; some = omega (arith, returned-cycles mask bytes q.address r); spends = spends-here r }
+      found_here {q} r = record { cycles = cycles_of mask q; some = omega (arith, returned-cycles mask bytes q.address r); spends = spends-here r }
 
       -- first successors to a return, or f of them
       abbrev Walks : ℕ → Pair → Type 0
@@ -120,12 +120,12 @@ module _ (mask : List ℕ) where
       -- a chain has at most as many pairs as there are addresses
       short : (q r : Pair) (ps : List Pair) → Waits q → Chain (within mask) q ps r → length ps ≡ suc addresses → ⊥
       short q r ps w c e =
-          let ends : Endless (nextAddresses mask) (HaltsAt mask) q.address → ⊥ = λ u. w.ends (endless-pairs mask q.level w.above q.address u) in
+          let ends : Endless (next_addresses mask) (HaltsAt mask) q.address → ⊥ = λ u. w.ends (endless-pairs mask q.level w.above q.address u) in
           omega (
             arith,
             e,
             map-length address_of ps,
-            few addresses (nextAddresses mask) (λ k. next_small mask k bytes) (reached-address mask bytes q w.reached)
+            few addresses (next_addresses mask) (λ k. next_small mask k bytes) (reached-address mask bytes q w.reached)
                 (chain-addresses mask q.level w.above refl c).1 ends,
           )
 

@@ -13,11 +13,11 @@ use Rattle.isa.specs.declared.Condition.{Condition}
 use Rattle.isa.specs.declared.Condition.TheVariants.{Ja, JnzR0, JnzR1, JnzR4, Jz, JnzA, Jc, Jnc, Jtmr}
 use Rattle.isa.specs.declared.Instruction.{Instruction}
 use Rattle.isa.specs.declared.Instruction.TheVariants as I
-use Rattle.rom.specs.Fetching.{branchTo}
+use Rattle.rom.specs.Fetching.{branch_to}
 use Rattle.datapath.specs.Timer.{clocks, counted}
 use Rattle.datapath.specs.declared.timer.Count.{Count}
-use Rattle.cpu.specs.State.{State, address, withPc, withTf, withCount, withCycles}
-use Rattle.cpu.specs.Effect.{withRegister, holds, tested, branched, called, returned, returnedWithCarry, effect}
+use Rattle.cpu.specs.State.{State, address, with_pc, with_tf, with_count, with_cycles}
+use Rattle.cpu.specs.Effect.{with_register, holds, tested, branched, called, returned, returned_with_carry, effect}
 use Rattle.cpu.specs.Step.{timed, ticked}
 use Rattle.cpu.specs.declared.Cpu.{Cpu}
 
@@ -35,8 +35,8 @@ choice true c x y p q = p
 choice false c x y p q = q
 
 -- ---- the effects
-register-same : (n v : ℕ) (c : Cpu) → aside (withRegister n v c) ≡ aside c
-unfolding withRegister
+register-same : (n v : ℕ) (c : Cpu) → aside (with_register n v c) ≡ aside c
+unfolding with_register
 register-same n v c = choice (eqb n 0) c _ _ refl (choice (eqb n 1) c _ _ refl (choice (eqb n 2) c _ _ refl (choice (eqb n 3) c _ _ refl refl)))
 
 tested-same : (k : Condition) (c : Cpu) → aside (tested k c) ≡ aside c
@@ -50,7 +50,7 @@ tested-same Jc c = refl
 tested-same Jnc c = refl
 tested-same Jtmr c = refl
 
-branch_same : (t : Bool) (k : Condition) (a : ProgramAddress) (c : Cpu) → aside (pick t (withPc a (tested k c)) (tested k c)) ≡ aside c
+branch_same : (t : Bool) (k : Condition) (a : ProgramAddress) (c : Cpu) → aside (pick t (with_pc a (tested k c)) (tested k c)) ≡ aside c
 branch_same t k a c = choice t c _ _ (tested-same k c) (tested-same k c)
 
 -- what an instruction leaves of them
@@ -63,7 +63,7 @@ same : {i : Instruction} {c d : Cpu} → aside d ≡ aside c → Sides i c d
 same e = record { held = ap (λ (a : Aside). a.held) e; cycles = ap (λ (a : Aside). a.cycles) e; awake = λ f. ap (λ (a : Aside). a.halted) e }
 
 pub effect-sides : (mask : List ℕ) (i : Instruction) (s : State) → Sides i s.cpu (effect mask i s).cpu
-unfolding effect branched called returned returnedWithCarry
+unfolding effect branched called returned returned_with_carry
 effect-sides mask I.AddAM s = same refl
 effect-sides mask I.AdcAM s = same refl
 effect-sides mask I.SubAM s = same refl
@@ -101,7 +101,7 @@ effect-sides mask I.RrcA s = same refl
 effect-sides mask (I.InA p) s = same refl
 effect-sides mask I.OutPaA s = same refl
 effect-sides mask (I.Jmp t) s = same refl
-effect-sides mask (I.Branch t k) s = same (branch_same (holds k s.cpu) k (address (branchTo s.cpu.control.pc.0 t)) s.cpu)
+effect-sides mask (I.Branch t k) s = same (branch_same (holds k s.cpu) k (address (branch_to s.cpu.control.pc.0 t)) s.cpu)
 effect-sides mask (I.Call t) s = same (choice (eqb s.cpu.interrupts.level 0) s.cpu _ _ refl refl)
 effect-sides mask I.Ret s = same (choice (eqb s.cpu.interrupts.level 0) s.cpu _ _ refl refl)
 effect-sides mask I.Reti s = same (choice (eqb s.cpu.interrupts.level 0) s.cpu _ _ refl refl)
@@ -127,16 +127,16 @@ effect-sides mask I.SoundOff s = same refl
 effect-sides mask I.Halt s = record { held = refl; cycles = refl; awake = λ f. absurd (f refl) }
 
 -- ---- what the timer and the cycles that go by leave
-module _ {A : Type 0} (f : Cpu → A) (tf : (x : ℕ) (c : Cpu) → f (withTf x c) ≡ f c) (count : (x : ℕ) (c : Cpu) → f (withCount x c) ≡ f c) where
+module _ {A : Type 0} (f : Cpu → A) (tf : (x : ℕ) (c : Cpu) → f (with_tf x c) ≡ f c) (count : (x : ℕ) (c : Cpu) → f (with_count x c) ≡ f c) where
   pub counting-keeps : (t : Bool) (k : Count) (c : Cpu) → f (pick t (timed k c) c) ≡ f c
   counting-keeps t k c = go t (eqb k.passed 1)
     where
-      go : (t p : Bool) → f (pick t (withCount k.count (pick p (withTf 1 c) c)) c) ≡ f c
-      go true true = count k.count (withTf 1 c) ∙ tf 1 c
+      go : (t p : Bool) → f (pick t (with_count k.count (pick p (with_tf 1 c) c)) c) ≡ f c
+      go true true = count k.count (with_tf 1 c) ∙ tf 1 c
       go true false = count k.count c
       go false p = refl
 
-  pub ticked-keeps : ((x : ℕ) (c : Cpu) → f (withCycles x c) ≡ f c) → (n : ℕ) (c : Cpu) → f (ticked n c) ≡ f c
+  pub ticked-keeps : ((x : ℕ) (c : Cpu) → f (with_cycles x c) ≡ f c) → (n : ℕ) (c : Cpu) → f (ticked n c) ≡ f c
   unfolding ticked
   ticked-keeps cycles n c =
       cycles _ _ ∙ counting-keeps (eqb c.timer.running 1) (counted c.timer.count (clocks c.options.rate c.cycles n)) c

@@ -13,23 +13,23 @@ use Rattle.isa.specs.declared.decoder.Decoded.{Decoded}
 use Rattle.isa.specs.declared.decoder.Decoded.TheVariants.{Read, Unreadable}
 use Rattle.isa.specs.declared.Instruction.{Instruction}
 use Rattle.isa.specs.declared.Instruction.TheVariants as I
-use Rattle.rom.specs.Fetching.{readAt, length_at, cyclesAt, movedFrom}
-use Rattle.cpu.specs.State.{State, onCpu}
+use Rattle.rom.specs.Fetching.{read_at, length_at, cycles_at, moved_from}
+use Rattle.cpu.specs.State.{State, on_cpu}
 use Rattle.cpu.specs.Effect.{effect}
-use Rattle.cpu.specs.Step.{ticked, moved, settled, instructed, executed, vectorOf, step}
+use Rattle.cpu.specs.Step.{ticked, moved, settled, instructed, executed, vector_of, step}
 use Rattle.cpu.specs.Run.{ran, yielded}
 use Rattle.cpu.specs.declared.Cpu.{Cpu}
 use Rattle.cpu.proofs.Leaves.{Standing, standing, ticked-same, Leaves, leaves}
 use Rattle.cpu.proofs.Steps.{runs}
 use Rattle.reach.specs.Chains.{Member, here, there}
 use Rattle.reach.proofs.Chains.{reached-start}
-use Rattle.checker.specs.Marks.{Pair, pair, flowBy, flow_of, flowRead, flowAt, faultIn, onward}
+use Rattle.checker.specs.Marks.{Pair, pair, flow_by, flow_of, flow_read, flow_at, fault_in, onward}
 use Rattle.checker.specs.Verdicts.{Safe}
 use Rattle.checker.specs.declared.flow.Flow.{Flow}
 use Rattle.checker.specs.declared.flow.Flow.TheVariants.{Unread, Back}
 use Rattle.bound.specs.Paths.{Spends}
-use Rattle.bound.specs.Bounds.{within, Returns, cyclesOf}
-use Rattle.bound_laws.specs.Delay.{spentBy, spentIn}
+use Rattle.bound.specs.Bounds.{within, Returns, cycles_of}
+use Rattle.bound_laws.specs.Delay.{spent_by, spent_in}
 use Rattle.bound_laws.proofs.Ends.{no_call, Waits, spends-here, spends-over, within_of, no-fault-of, within-waits}
 use Rattle.bound_laws.proofs.Sides.{effect-sides, ticked-held, ticked-halted}
 use Rattle.bound_laws.proofs.Spent.{spent-instruction}
@@ -43,7 +43,7 @@ abbrev Went : Flow → ℕ → Standing → Standing → Type 0
 Went f to s t = (Member (pair t.pc t.level) (onward f to s.level) ⊎ ((f ≡ Back) × (t.level ≡ 0))) × (t.fault ≡ s.fault)
 
 module _ (s t : Standing) (to : ℕ) (above : 0 < s.level) where
-  went : {i : Instruction} (v : View i) → Leaves v (moved_to to s) t → faultIn (flowBy v) s.level ≡ 0 → Went (flowBy v) to s t
+  went : {i : Instruction} (v : View i) → Leaves v (moved_to to s) t → fault_in (flow_by v) s.level ≡ 0 → Went (flow_by v) to s t
   went on l n = (inl (rw (l.pc, l.level) here), l.fault)
   went (jmp a) l n = (inl (rw (l.pc, l.level) here), l.fault)
   went (branch a k) (inl l) n = (inl (rw (l.pc, l.level) here), l.fault)
@@ -61,7 +61,7 @@ module _ (mask : List ℕ) (safe : Safe mask) (n : ℕ) where
   -- it waits: a chain to a return fits in what is left
   pub record Waiting (k : ℕ) (s : Standing) : Type 0 where
     pub waits : Waits mask (pair_of s)
-    pub fits : (m : ℕ) → Spends (within mask) (Returns mask) (cyclesOf mask) (pair_of s) m → k + m ≤ n
+    pub fits : (m : ℕ) → Spends (within mask) (Returns mask) (cycles_of mask) (pair_of s) m → k + m ≤ n
     pub no-fault : s.fault ≡ 0
 
   -- it has come to main
@@ -81,21 +81,21 @@ module _ (mask : List ℕ) (safe : Safe mask) (n : ℕ) where
 
   -- ---- one instruction
   module _ (k : ℕ) (s : Standing) (w : Waiting k s) where
-    went-next : (f : Flow) (t : Standing) → flowAt mask s.pc ≡ f → Went f (movedFrom mask s.pc) s t
-        → Waiting (k + cyclesAt mask s.pc) t ⊎ InMain (k + cyclesAt mask s.pc) t
+    went-next : (f : Flow) (t : Standing) → flow_at mask s.pc ≡ f → Went f (moved_from mask s.pc) s t
+        → Waiting (k + cycles_at mask s.pc) t ⊎ InMain (k + cycles_at mask s.pc) t
     went-next f t e (inl m, z) =
         let q = pair_of s in
         let next : Member (pair_of t) (within mask q) = rw (within_of mask safe q w.waits.reached, e) m in
         inl (record {
           waits = within-waits mask safe q (pair_of t) w.waits next;
-          fits = λ j c. omega (arith, w.fits (cyclesOf mask q + j) (spends-over mask next c));
+          fits = λ j c. omega (arith, w.fits (cycles_of mask q + j) (spends-over mask next c));
           no-fault = z ∙ w.no-fault;
         })
     went-next f t e (inr (b, l), z) =
-        inr (record { soon = w.fits (cyclesOf mask (pair_of s)) (spends-here mask (e ∙ b)); main = l; no-fault = z ∙ w.no-fault })
+        inr (record { soon = w.fits (cycles_of mask (pair_of s)) (spends-here mask (e ∙ b)); main = l; no-fault = z ∙ w.no-fault })
 
     -- what waits is no HALT
-    no-halt : (i : Instruction) → readAt mask s.pc ≡ Read i → i ≡ I.Halt → ⊥
+    no-halt : (i : Instruction) → read_at mask s.pc ≡ Read i → i ≡ I.Halt → ⊥
     no-halt i e h = w.waits.ends (record { at = pair_of s; reached = reached-start; shown = inr (e ∙ ap Read h) })
 
   -- ---- one step
@@ -115,45 +115,45 @@ module _ (mask : List ℕ) (safe : Safe mask) (n : ℕ) where
     abbrev pc : ℕ
     pc = s.cpu.control.pc.0
 
-    instructed-next : (d : Decoded) → readAt mask pc ≡ d
-        → Next (k + cyclesAt mask pc) s.cpu (instructed mask d (length_at mask pc) (cyclesAt mask pc) s).cpu
-    unfolding flowAt flow_of
+    instructed-next : (d : Decoded) → read_at mask pc ≡ d
+        → Next (k + cycles_at mask pc) s.cpu (instructed mask d (length_at mask pc) (cycles_at mask pc) s).cpu
+    unfolding flow_at flow_of
     instructed-next Unreadable e =
-        absurd (omega (arith, no-fault-of mask safe (pair_of (standing s.cpu)) Unread w.waits.reached (ap flowRead e)))
+        absurd (omega (arith, no-fault-of mask safe (pair_of (standing s.cpu)) Unread w.waits.reached (ap flow_read e)))
     instructed-next (Read i) e =
         let here = standing s.cpu in
-        let m = onCpu (moved (length_at mask pc)) s in
+        let m = on_cpu (moved (length_at mask pc)) s in
         let t = effect mask i m in
         let sides = effect-sides mask i m in
-        let allowed : faultIn (flow_of i) here.level ≡ 0 = no-fault-of mask safe (pair_of here) (flow_of i) w.waits.reached (ap flowRead e) in
-        let g = went here (standing t.cpu) (movedFrom mask pc) w.waits.above (view i) (leaves mask i m) allowed in
-        settled-next (k + cyclesAt mask pc) (cyclesAt mask pc) t (g.1 ∙ w.no-fault) (sides.awake (no-halt k here w i e) ∙ awake) sides.held
-        (went-next k here w (flow_of i) (standing t.cpu) (ap flowRead e) g)
+        let allowed : fault_in (flow_of i) here.level ≡ 0 = no-fault-of mask safe (pair_of here) (flow_of i) w.waits.reached (ap flow_read e) in
+        let g = went here (standing t.cpu) (moved_from mask pc) w.waits.above (view i) (leaves mask i m) allowed in
+        settled-next (k + cycles_at mask pc) (cycles_at mask pc) t (g.1 ∙ w.no-fault) (sides.awake (no-halt k here w i e) ∙ awake) sides.held
+        (went-next k here w (flow_of i) (standing t.cpu) (ap flow_read e) g)
 
-    executed-next : Next (k + cyclesAt mask pc) s.cpu (executed mask s).cpu
+    executed-next : Next (k + cycles_at mask pc) s.cpu (executed mask s).cpu
     unfolding executed
-    executed-next = instructed-next (readAt mask pc) refl
+    executed-next = instructed-next (read_at mask pc) refl
 
     no-fault-next : {j : ℕ} {c d : Cpu} → Next j c d → d.status.fault ≡ 0
     no-fault-next (inl x) = x.stands.no-fault
     no-fault-next (inr x) = x.stands.no-fault
 
-    no-vector : vectorOf s.cpu ≡ 0
-    unfolding vectorOf
+    no-vector : vector_of s.cpu ≡ 0
+    unfolding vector_of
     no-vector = rw (ne_eqb s.cpu.interrupts.level 0 (λ z. omega (arith, w.waits.above))) refl
 
-    step-next : Next (k + spentBy mask s) s.cpu (step mask s).cpu
+    step-next : Next (k + spent_by mask s) s.cpu (step mask s).cpu
     step-next =
         let v = no-vector in
         let e : executed mask s ≡ step mask s = runs mask s awake w.no-fault (λ z. omega arith) (λ z. omega arith) in
-        let p : spentBy mask s ≡ cyclesAt mask pc = spent-instruction mask s awake w.no-fault v (no-fault-next executed-next) in
-        rw p (subst (λ (t : State). Next (k + cyclesAt mask pc) s.cpu t.cpu) e executed-next)
+        let p : spent_by mask s ≡ cycles_at mask pc = spent-instruction mask s awake w.no-fault v (no-fault-next executed-next) in
+        rw p (subst (λ (t : State). Next (k + cycles_at mask pc) s.cpu t.cpu) e executed-next)
 
   -- ---- a Run
   -- it waits still, or came to main at one of its steps
   abbrev pub Ran : ℕ → ℕ → State → Type 0
-  Ran k r s = To Waiting (k + spentIn mask r s) s.cpu (ran mask r s).cpu
-      ⊎ ((i : ℕ) × (0 < i) × (i ≤ r) × To InMain (k + spentIn mask i s) s.cpu (ran mask i s).cpu)
+  Ran k r s = To Waiting (k + spent_in mask r s) s.cpu (ran mask r s).cpu
+      ⊎ ((i : ℕ) × (0 < i) × (i ≤ r) × To InMain (k + spent_in mask i s) s.cpu (ran mask i s).cpu)
 
   -- a step, then the rest
   pub joined : (P : ℕ → Standing → Type 0) {i j l : ℕ} {b c d : Cpu} → To Waiting i b c → To P j c d → j ≡ l → To P l b d
@@ -162,19 +162,19 @@ module _ (mask : List ℕ) (safe : Safe mask) (n : ℕ) where
   pub ran_on : (r k : ℕ) (s : State) → Waiting k (standing s.cpu) → s.cpu.status.halted ≡ 0 → Ran k r s
   unfolding ran yielded
   ran_on zero k s w a = inl (record { stands = rw add-zero w; awake = a; held = λ z. z })
-  ran_on (suc r) k s w a = go (step-next k s w a) (ran_on r (k + spentBy mask s) (step mask s))
+  ran_on (suc r) k s w a = go (step-next k s w a) (ran_on r (k + spent_by mask s) (step mask s))
     where
       next : State
       next = step mask s
 
-      sum : (j : ℕ) → k + spentBy mask s + j ≡ k + (spentBy mask s + j)
+      sum : (j : ℕ) → k + spent_by mask s + j ≡ k + (spent_by mask s + j)
       sum j = omega arith
 
-      rest : To Waiting (k + spentBy mask s) s.cpu next.cpu → Ran (k + spentBy mask s) r next → Ran k (suc r) s
-      rest x (inl y) = inl (joined Waiting x y (sum (spentIn mask r next)))
-      rest x (inr (i, p, h, y)) = inr (suc i, omega arith, omega arith, joined InMain x y (sum (spentIn mask i next)))
+      rest : To Waiting (k + spent_by mask s) s.cpu next.cpu → Ran (k + spent_by mask s) r next → Ran k (suc r) s
+      rest x (inl y) = inl (joined Waiting x y (sum (spent_in mask r next)))
+      rest x (inr (i, p, h, y)) = inr (suc i, omega arith, omega arith, joined InMain x y (sum (spent_in mask i next)))
 
-      go : Next (k + spentBy mask s) s.cpu next.cpu
-          → (Waiting (k + spentBy mask s) (standing next.cpu) → next.cpu.status.halted ≡ 0 → Ran (k + spentBy mask s) r next) → Ran k (suc r) s
+      go : Next (k + spent_by mask s) s.cpu next.cpu
+          → (Waiting (k + spent_by mask s) (standing next.cpu) → next.cpu.status.halted ≡ 0 → Ran (k + spent_by mask s) r next) → Ran k (suc r) s
       go (inl x) f = rest x (f x.stands x.awake)
       go (inr x) f = inr (1, omega arith, omega arith, rw add-zero x)

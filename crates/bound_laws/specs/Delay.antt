@@ -1,17 +1,17 @@
 -- Document 02, wish 5, of the engine: "For every list of events without RES or power-on, applied under that mask to a machine at a bounded pair, not
 -- halted or faulted: once its steps have spent that many cycles, it has come to level 0". One claim over whole lists. It speaks of what the exported
--- functions promise: `bound_of` promises `BoundAnswers`, `bounds_of` `BoundsAnswer`, and the machine's functions `answerTo` of each input, which `after`
+-- functions promise: `bound_of` promises `BoundAnswers`, `bounds_of` `BoundsAnswer`, and the machine's functions `answer_to` of each input, which `after`
 -- puts together. Assumes nothing.
 use Rattle.std.specs.Prelude.{ℕ, ◌+◌, ◌%◌, ◌^◌, ◌<◌, ◌≤◌, ◌≡◌, List, [], ◌∷◌, eqb, get_or}
 use Rattle.isa.specs.Choice.{pick}
-use Rattle.rom.specs.Fetching.{Bytes, cyclesAt}
+use Rattle.rom.specs.Fetching.{Bytes, cycles_at}
 use Rattle.cpu.specs.State.{State}
-use Rattle.cpu.specs.Step.{executed, vectorOf, stopped, step}
+use Rattle.cpu.specs.Step.{executed, vector_of, stopped, step}
 use Rattle.cpu.specs.Run.{yielded}
 use Rattle.cpu.specs.declared.Cpu.{Cpu}
 use Rattle.cpu.specs.declared.Options.{Options}
 use Rattle.machine.specs.Machine.{state_of}
-use Rattle.machine.specs.Events.{power, named, answerTo, Call, steps_of, after, Every, UnderMask}
+use Rattle.machine.specs.Events.{power, named, answer_to, Call, steps_of, after, Every, UnderMask}
 use Rattle.machine.specs.declared.Machine.{Machine}
 use Rattle.machine.specs.declared.events.Event.TheVariants.{Run, Res}
 use Rattle.machine.specs.declared.events.Named.TheVariants.{Known}
@@ -24,23 +24,23 @@ use Rattle.bound.specs.declared.bounds.Bounds.TheVariants.{Listed}
 -- ---- "its steps have spent that many cycles": a count of their own, not the 32-bit one, which goes on past its largest value to zero
 -- one step: "A step when halted or faulted changes nothing"; where an interrupt is taken, "2 cycles"; else the instruction's, by document 01's list,
 -- but none where it faults, since "A fault leaves the machine as before that instruction"
-unfoldable pub spentBy : List ℕ → State → ℕ
-spentBy mask s =
+unfoldable pub spent_by : List ℕ → State → ℕ
+spent_by mask s =
     pick (stopped s) 0
-    (pick (eqb (vectorOf s.cpu) 0)
-    (pick (eqb (executed mask s).cpu.status.fault 0) (cyclesAt mask s.cpu.control.pc.0) 0)
+    (pick (eqb (vector_of s.cpu) 0)
+    (pick (eqb (executed mask s).cpu.status.fault 0) (cycles_at mask s.cpu.control.pc.0) 0)
     2)
 
 -- n steps
-abbrev pub spentIn : List ℕ → ℕ → State → ℕ
-spentIn mask n s = yielded 0 ◌+◌ (spentBy mask) mask n s
+abbrev pub spent_in : List ℕ → ℕ → State → ℕ
+spent_in mask n s = yielded 0 ◌+◌ (spent_by mask) mask n s
 
 -- a list of inputs, each on the machine that the one before answered; a refused one takes no steps
 unfoldable pub spent : List Call → Machine → ℕ
 spent [] m = 0
 spent (k ∷ ks) m =
-    let answer = answerTo k.mask k.input m in
-    pick (eqb answer.refusal 0) (spentIn k.mask (steps_of k.input) (state_of m)) 0 + spent ks answer.machine
+    let answer = answer_to k.mask k.input m in
+    pick (eqb answer.refusal 0) (spent_in k.mask (steps_of k.input) (state_of m)) 0 + spent ks answer.machine
 
 -- ---- "it has come to level 0"
 -- "events without RES or power-on"
@@ -100,6 +100,6 @@ LongestWait =
 -- ---- the count is the machine's cycle count, without the wrap: "The cycle count has 32 bits and goes on past its largest value to zero"
 pub record SpentCounts : Type 0 where
   pub step_counts : (mask : List ℕ) (s : State) → s.cpu.cycles < 2 ^ 32
-      → (step mask s).cpu.cycles ≡ (s.cpu.cycles + spentBy mask s) % 2 ^ 32
+      → (step mask s).cpu.cycles ≡ (s.cpu.cycles + spent_by mask s) % 2 ^ 32
   pub list_counts : (calls : List Call) (m : Machine) → Every NoRestart calls → m.cpu.cycles < 2 ^ 32
       → (after calls m).cpu.cycles ≡ (m.cpu.cycles + spent calls m) % 2 ^ 32

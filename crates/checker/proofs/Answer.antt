@@ -15,8 +15,8 @@ use Rattle.isa.specs.Code.{addresses}
 use Rattle.rom.specs.Fetching.{sized}
 use Rattle.reach.specs.Walk.{Found, Names}
 use Rattle.checker.specs.Marks.{levels, Pair, pair, fault, Reached}
-use Rattle.checker.specs.Verdicts.{marksSize, isMarked, Marked, rank, Lowest, Safe, Written, Answers, AnswersDetermine, number_of}
-use Rattle.checker.specs.Walk.{pairs, next_codes, faultAt, mark_of, Packed, verdictOf}
+use Rattle.checker.specs.Verdicts.{marks_size, is_marked, Marked, rank, Lowest, Safe, Written, Answers, AnswersDetermine, number_of}
+use Rattle.checker.specs.Walk.{pairs, next_codes, fault_at, mark_of, Packed, verdict_of}
 use Rattle.checker.specs.declared.walk.Named.{Named}
 use Rattle.checker.specs.declared.check.Verdict.{Verdict}
 use Rattle.checker.specs.declared.check.Verdict.TheVariants.{Passed, Failed, BadMask, BadMarks}
@@ -34,7 +34,7 @@ flag seen f a (suc (suc zero)) h = omega (arith, f (a * 3), f (a * 3 + 1), f (a 
 flag seen f a (suc (suc (suc l))) h = absurd (omega arith)
 
 -- the mark of a pair in range is its bit
-pub its-bit : (marks : List ℕ) (a l : ℕ) → a < addresses → l < levels → isMarked marks a l ≡ eqb (get_or marks a 0 / 2 ^ l % 2) 1
+pub its-bit : (marks : List ℕ) (a l : ℕ) → a < addresses → l < levels → is_marked marks a l ≡ eqb (get_or marks a 0 / 2 ^ l % 2) 1
 its-bit marks a l h k = rw (lt-ltb a addresses h, lt-ltb l levels k) refl
 
 module _ (mask seen : List ℕ) (s : Found pairs (next_codes mask) seen) where
@@ -58,7 +58,7 @@ module _ (mask seen : List ℕ) (s : Found pairs (next_codes mask) seen) where
       told : (a l : ℕ) → a < addresses → l < levels → get_or marks a 0 / 2 ^ l % 2 ≡ get_or seen (a * levels + l) 0
       told a l h k = ap (λ (n : ℕ). n / 2 ^ l % 2) (p.byte a h) ∙ flag seen s.flags a l k
 
-  module _ (m : Named) (n : Names pairs (faultAt mask) seen m.code m.fault) where
+  module _ (m : Named) (n : Names pairs (fault_at mask) seen m.code m.fault) where
     -- a reached pair that is forbidden is no lower than the named one
     not_lower : (p : Pair) → Reached mask p → (fault mask p ≡ 0 → ⊥) → m.code ≤ rank p
     not_lower p r z = n.lowest (rank p) (flagged p r).1 (λ y. z (sym (ap (fault mask) (pair-rank p (reached-level mask p r))) ∙ y))
@@ -79,7 +79,7 @@ module _ (mask seen : List ℕ) (s : Found pairs (next_codes mask) seen) where
         go (yes e) = e
         go (no z) = absurd (omega (arith, not_lower p r z, (flagged p r).0))
 
-    pub answered : (old marks : List ℕ) → sized mask ≡ true → length old ≡ marksSize → Packed seen marks → Answers mask old marks (verdictOf m)
+    pub answered : (old marks : List ℕ) → sized mask ≡ true → length old ≡ marks_size → Packed seen marks → Answers mask old marks (verdict_of m)
     answered old marks e f p = go (ltb m.code pairs) refl
       where
         go : (b : Bool) → ltb m.code pairs ≡ b → Answers mask old marks (pick b (Failed m.fault (m.code / levels) (m.code % levels)) Passed)
@@ -87,7 +87,7 @@ module _ (mask seen : List ℕ) (s : Found pairs (next_codes mask) seen) where
         go false t = (record { mask_size = e; marks-size = f; marked = marked marks p }, safe (ltb-false m.code pairs t))
 
 -- a verdict is not refused
-pub not-refused : (m : Named) → number_of (verdictOf m) ≡ 0
+pub not-refused : (m : Named) → number_of (verdict_of m) ≡ 0
 not-refused m = go (ltb m.code pairs)
   where
     go : (b : Bool) → number_of (pick b (Failed m.fault (m.code / levels) (m.code % levels)) Passed) ≡ 0
@@ -142,7 +142,7 @@ same-lowest mask f a l g b m v w =
     rw (e.0, e.1, r) refl
 
 -- what a mask and marks of the right lengths are answered, by what is reached
-module _ (mask old new : List ℕ) (m : sized mask ≡ true) (o : length old ≡ marksSize) where
+module _ (mask old new : List ℕ) (m : sized mask ≡ true) (o : length old ≡ marks_size) where
   pub answer-passed : (v : Verdict) → Safe mask → Answers mask old new v → v ≡ Passed
   answer-passed Passed s w = refl
   answer-passed (Failed f a l) s w = absurd (w.1.not-zero (sym w.1.forbidden ∙ s (pair a l) w.1.reached))

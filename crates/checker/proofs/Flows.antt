@@ -16,21 +16,21 @@ use Rattle.isa.specs.declared.Instruction.{Instruction}
 use Rattle.isa.specs.Views.{view}
 use Rattle.checker.specs.declared.flow.Flow.{Flow}
 use Rattle.checker.specs.declared.flow.Flow.TheVariants.{Unread, On}
-use Rattle.checker.specs.Marks.{flow_of, flowRead}
+use Rattle.checker.specs.Marks.{flow_of, flow_read}
 
 -- an entry's flow with its second byte
-abbrev pub flowIn : Entry → ℕ → Flow
-flowIn undefined b = Unread
-flowIn (whole i) b = flow_of i
-flowIn (fixed k i) b = pick (eqb b k) (flow_of i) Unread
-flowIn (nibble f) b = pick (ltb b 16) (flow_of (f b)) Unread
-flowIn (byte f) b = flow_of (f b)
+abbrev pub flow_in : Entry → ℕ → Flow
+flow_in undefined b = Unread
+flow_in (whole i) b = flow_of i
+flow_in (fixed k i) b = pick (eqb b k) (flow_of i) Unread
+flow_in (nibble f) b = pick (ltb b 16) (flow_of (f b)) Unread
+flow_in (byte f) b = flow_of (f b)
 
-picked : (t : Bool) (i : Instruction) → pick t (flow_of i) Unread ≡ flowRead (pick t (Read i) Unreadable)
+picked : (t : Bool) (i : Instruction) → pick t (flow_of i) Unread ≡ flow_read (pick t (Read i) Unreadable)
 picked true i = refl
 picked false i = refl
 
-entry-flow : (e : Entry) (b : ℕ) → flowIn e b ≡ flowRead (complete e b)
+entry-flow : (e : Entry) (b : ℕ) → flow_in e b ≡ flow_read (complete e b)
 entry-flow undefined b = refl
 entry-flow (whole i) b = refl
 entry-flow (fixed k i) b = picked (eqb b k) i
@@ -48,13 +48,13 @@ agree (suc n) f g e zero h = cc
 agree (suc n) f g e (suc k) h = agree n (λ (k : ℕ). f (suc k)) (λ (k : ℕ). g (suc k)) (cc) k (le_of_suc-le-suc h)
 
 -- a run of n first bytes from x on, and one of them
-pub in-run : (x n : ℕ) (f : ℕ → Flow) (a b : ℕ) → values n f ≡ values n (λ (k : ℕ). flowIn (get_or opcodes (x + k) undefined) b) → x ≤ a → a < x + n
-    → f (a - x) ≡ flowRead (decoded a b)
+pub in-run : (x n : ℕ) (f : ℕ → Flow) (a b : ℕ) → values n f ≡ values n (λ (k : ℕ). flow_in (get_or opcodes (x + k) undefined) b) → x ≤ a → a < x + n
+    → f (a - x) ≡ flow_read (decoded a b)
 unfolding decoded
 in-run x n f a b e l h =
     let p : x + (a - x) ≡ a = omega arith in
-    agree n f (λ (k : ℕ). flowIn (get_or opcodes (x + k) undefined) b) e (a - x) (omega arith)
-    ∙ ap (λ (m : ℕ). flowIn (get_or opcodes m undefined) b) p
+    agree n f (λ (k : ℕ). flow_in (get_or opcodes (x + k) undefined) b) e (a - x) (omega arith)
+    ∙ ap (λ (m : ℕ). flow_in (get_or opcodes m undefined) b) p
     ∙ entry-flow (get_or opcodes a undefined) b
 
 -- ---- a second byte that is right, and one that is not
@@ -64,23 +64,23 @@ taken f e = rw e refl
 left : {t : Bool} (f : Flow) → t ≡ false → Unread ≡ pick t f Unread
 left f e = rw e refl
 
-abbrev pub inNibble : ℕ → ℕ → Flow
-inNibble b k = pick (ltb b 16) On Unread
+abbrev pub in_nibble : ℕ → ℕ → Flow
+in_nibble b k = pick (ltb b 16) On Unread
 
-module _ (x n a b : ℕ) (e : values n (inNibble b) ≡ values n (λ (k : ℕ). flowIn (get_or opcodes (x + k) undefined) b)) (l : x ≤ a) (h : a < x + n) where
-  pub nibble-run : b < 16 → On ≡ flowRead (decoded a b)
-  nibble-run q = taken On (lt-ltb b 16 q) ∙ in-run x n (inNibble b) a b e l h
+module _ (x n a b : ℕ) (e : values n (in_nibble b) ≡ values n (λ (k : ℕ). flow_in (get_or opcodes (x + k) undefined) b)) (l : x ≤ a) (h : a < x + n) where
+  pub nibble-run : b < 16 → On ≡ flow_read (decoded a b)
+  nibble-run q = taken On (lt-ltb b 16 q) ∙ in-run x n (in_nibble b) a b e l h
 
-  pub over-run : 16 ≤ b → Unread ≡ flowRead (decoded a b)
-  over-run q = left On (le-ltb b 16 q) ∙ in-run x n (inNibble b) a b e l h
+  pub over-run : 16 ≤ b → Unread ≡ flow_read (decoded a b)
+  over-run q = left On (le-ltb b 16 q) ∙ in-run x n (in_nibble b) a b e l h
 
 abbrev halting : ℕ → ℕ → Flow
 halting b k = pick (eqb b 0x3e) On Unread
 
-pub halt-run : (a b : ℕ) → a ≡ 0x37 → b ≡ 0x3e → On ≡ flowRead (decoded a b)
+pub halt-run : (a b : ℕ) → a ≡ 0x37 → b ≡ 0x3e → On ≡ flow_read (decoded a b)
 unfolding opcodes flow_of view
 halt-run a b p q = taken On (eq-eqb b 0x3e q) ∙ in-run 0x37 1 (halting b) a b refl (omega arith) (omega arith)
 
-pub other-halt : (a b : ℕ) → a ≡ 0x37 → (b ≡ 0x3e → ⊥) → Unread ≡ flowRead (decoded a b)
+pub other-halt : (a b : ℕ) → a ≡ 0x37 → (b ≡ 0x3e → ⊥) → Unread ≡ flow_read (decoded a b)
 unfolding opcodes flow_of view
 other-halt a b p q = left On (ne_eqb b 0x3e q) ∙ in-run 0x37 1 (halting b) a b refl (omega arith) (omega arith)

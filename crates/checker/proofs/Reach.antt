@@ -13,14 +13,14 @@ use Rattle.isa.specs.Views.{View, on, jmp, branch, call, ret, reti, ei, view}
 use Rattle.isa.specs.declared.decoder.Decoded.{Decoded}
 use Rattle.isa.specs.declared.decoder.Decoded.TheVariants.{Read, Unreadable}
 use Rattle.isa.specs.declared.Instruction.{Instruction}
-use Rattle.rom.specs.Fetching.{Bytes, readAt, movedFrom}
+use Rattle.rom.specs.Fetching.{Bytes, read_at, moved_from}
 use Rattle.rom.proofs.Fetching.{read-fields}
 use Rattle.reach.specs.Chains.{Member, Reaches, Shortest}
 use Rattle.reach.specs.Walk.{All, Small}
 use Rattle.reach.proofs.Chains.{all-member, all_of, all_map, reached-all, of_code, to-code, shortest-at, shortest-code}
 use Rattle.checker.specs.declared.flow.Flow.{Flow}
 use Rattle.checker.specs.declared.flow.Flow.TheVariants.{Unread, On, Enable, Jump, To, Sub, Back}
-use Rattle.checker.specs.Marks.{levels, Pair, pair, flowBy, flow_of, flowRead, flowAt, handed, fault, successors, Reached}
+use Rattle.checker.specs.Marks.{levels, Pair, pair, flow_by, flow_of, flow_read, flow_at, handed, fault, successors, Reached}
 use Rattle.checker.specs.Verdicts.{rank}
 use Rattle.checker.specs.Walk.{pairs, pair_of, next_codes}
 
@@ -39,7 +39,7 @@ targets : (i : Instruction) → in_range i ≡ true → Targets (flow_of i)
 unfolding flow_of in_range
 targets i = go (view i)
   where
-    go : {i : Instruction} (v : View i) → in_range i ≡ true → Targets (flowBy v)
+    go : {i : Instruction} (v : View i) → in_range i ≡ true → Targets (flow_by v)
     go on e = tt
     go (jmp t) e = ltb-true t.0 addresses e
     go (branch t k) e = tt
@@ -88,13 +88,13 @@ picked true ps q m = m
 
 module _ (mask : List ℕ) where
   -- what holds of all that a pair's flow hands on holds of its successors
-  each_next : (P : Pair → Type 0) (p q : Pair) → All P (handed (flowAt mask p.address) (movedFrom mask p.address) p.level) → Member q (successors mask p) → P q
+  each_next : (P : Pair → Type 0) (p q : Pair) → All P (handed (flow_at mask p.address) (moved_from mask p.address) p.level) → Member q (successors mask p) → P q
   unfolding successors
   each_next P p q h m =
-      all-member P (picked (eqb (fault mask p) 0) (handed (flowAt mask p.address) (movedFrom mask p.address) p.level) q m) h
+      all-member P (picked (eqb (fault mask p) 0) (handed (flow_at mask p.address) (moved_from mask p.address) p.level) q m) h
 
   next_level : (p q : Pair) → InLevels p → Member q (successors mask p) → InLevels q
-  next_level p q k = each_next InLevels p q (handed-levels (flowAt mask p.address) (movedFrom mask p.address) p.level k)
+  next_level p q k = each_next InLevels p q (handed-levels (flow_at mask p.address) (moved_from mask p.address) p.level k)
 
   pub reached-level : (p : Pair) → Reached mask p → InLevels p
   reached-level = reached-all InLevels (omega arith) next_level
@@ -114,17 +114,17 @@ module _ (mask : List ℕ) where
 
   -- ---- ranges
   module _ (bytes : Bytes mask) where
-    pub flow-targets : (a : ℕ) → Targets (flowAt mask a)
-    unfolding flowAt
-    flow-targets a = go (readAt mask a) refl
+    pub flow-targets : (a : ℕ) → Targets (flow_at mask a)
+    unfolding flow_at
+    flow-targets a = go (read_at mask a) refl
       where
-        go : (d : Decoded) → readAt mask a ≡ d → Targets (flowRead d)
+        go : (d : Decoded) → read_at mask a ≡ d → Targets (flow_read d)
         go (Read i) e = targets i (read-fields mask a bytes i e)
         go Unreadable e = tt
 
     next_address : (p q : Pair) → Member q (successors mask p) → InAddresses q
     next_address p q =
-        each_next InAddresses p q (handed-addresses (flowAt mask p.address) (movedFrom mask p.address) p.level (flow-targets p.address) (omega arith))
+        each_next InAddresses p q (handed-addresses (flow_at mask p.address) (moved_from mask p.address) p.level (flow-targets p.address) (omega arith))
 
     pub reached-address : (p : Pair) → Reached mask p → InAddresses p
     reached-address = reached-all InAddresses (omega arith) (λ p q h. next_address p q)

@@ -16,9 +16,9 @@ use Rattle.reach.proofs.Distance.{shortest}
 use Rattle.reach.proofs.Once.{few-of-shortest}
 use Rattle.checker.specs.Marks.{levels, Pair, pair, successors}
 use Rattle.checker.specs.Verdicts.{rank, Safe}
-use Rattle.checker.specs.Walk.{pairs, pair_of, next_codes, faultAt}
+use Rattle.checker.specs.Walk.{pairs, pair_of, next_codes, fault_at}
 use Rattle.checker.specs.Ways.{Way, Lists, TooShort, WayAnswers, WayDetermines, WayToVerdict, WayFits, NeverTooShort}
-use Rattle.checker.specs.Trail.{pairsAt, ListedTo}
+use Rattle.checker.specs.Trail.{pairs_at, ListedTo}
 use Rattle.checker.specs.declared.way.Listing.{Listing}
 use Rattle.checker.specs.declared.way.Listing.TheVariants.{Listed, BadMask, MaskPasses, BadList}
 use Rattle.checker.specs.declared.walk.Named.{Named}
@@ -27,7 +27,7 @@ use Rattle.checker.proofs.Answer.{lowest, same-pair}
 
 -- ---- the answer
 module _ (mask seen queue starts : List ℕ) (s : Found pairs (next_codes mask) seen) (t : Traced pairs (next_codes mask) seen queue starts) where
-  module _ (m : Named) (n : Names pairs (faultAt mask) seen m.code m.fault) (h : m.code < pairs) where
+  module _ (m : Named) (n : Names pairs (fault_at mask) seen m.code m.fault) (h : m.code < pairs) where
     pub standing : Stands pairs queue m.code
     standing =
         let p = t.stands m.code (n.found h) in
@@ -36,7 +36,7 @@ module _ (mask seen queue starts : List ℕ) (s : Found pairs (next_codes mask) 
     below : (at : ℕ) → StandsFirst queue m.code at → at < t.tail
     below at f = let p = t.stands m.code (n.found h) in omega (arith, f.first p.at p.holds, p.below)
 
-    way_back : (js : List ℕ) (count end : ℕ) → StandsFirst queue m.code end → Counted starts end count → Up starts 0 js end → count ≡ length js → Way mask (pairsAt queue js)
+    way_back : (js : List ℕ) (count end : ℕ) → StandsFirst queue m.code end → Counted starts end count → Up starts 0 js end → count ≡ length js → Way mask (pairs_at queue js)
     way_back js count end f c u e =
         record {
           f = m.fault;
@@ -49,7 +49,7 @@ module _ (mask seen queue starts : List ℕ) (s : Found pairs (next_codes mask) 
               (shortest (next_codes mask) queue starts t.tail t.trail t.some (below end f) u c e f));
         }
 
-    pairs-length : (js : List ℕ) → length (pairsAt queue js) ≡ length js
+    pairs-length : (js : List ℕ) → length (pairs_at queue js) ≡ length js
     pairs-length js = map-length pair_of (map (λ (j : ℕ). get_or queue j 0) js) ∙ map-length (λ (j : ℕ). get_or queue j 0) js
 
     pub answered : (old new : List ℕ) (r : Listing) → sized mask ≡ true → ListedTo queue starts m.code old new r → WayAnswers mask old new r
@@ -58,7 +58,7 @@ module _ (mask seen queue starts : List ℕ) (s : Found pairs (next_codes mask) 
         let l : Lists mask old new n =
         record {
           mask_size = e;
-          chain = pairsAt queue p.places;
+          chain = pairs_at queue p.places;
           way = way_back p.places n x.ended.end x.ended.first x.ended.counted p.up p.counted;
           counted = p.counted ∙ sym (pairs-length p.places);
           fits = x.fits;
@@ -73,7 +73,7 @@ module _ (mask seen queue starts : List ℕ) (s : Found pairs (next_codes mask) 
         let s : TooShort mask old =
         record {
           mask_size = e;
-          chain = pairsAt queue u.0;
+          chain = pairs_at queue u.0;
           way = way_back u.0 x.count x.ended.end x.ended.first x.ended.counted u.1 n;
           short = omega (arith, x.short, pairs-length u.0);
         } in

@@ -1,8 +1,8 @@
 -- Document 01, "Marks": pairs, which of them are forbidden, and their successors. Assumes nothing.
 use Rattle.std.specs.Prelude.{ℕ, List, [], ◌∷◌, ◌++◌, eqb}
 use Rattle.isa.specs.Choice.{pick}
-use Rattle.isa.specs.Reading.{faultNumber}
-use Rattle.rom.specs.Fetching.{readAt, movedFrom, branchTo}
+use Rattle.isa.specs.Reading.{fault_number}
+use Rattle.rom.specs.Fetching.{read_at, moved_from, branch_to}
 use Rattle.isa.specs.declared.decoder.Decoded.{Decoded}
 use Rattle.isa.specs.declared.decoder.Decoded.TheVariants.{Read, Unreadable}
 use Rattle.isa.specs.declared.Instruction.{Instruction}
@@ -25,39 +25,39 @@ pair a l = record { address = a; level = l }
 
 -- where an instruction hands the program on: to the moved address, only to a target (JMP), also to a target (a branch), to a subroutine
 -- (CALL), back (RET and RETI), or also to the two vectors (EI)
-abbrev pub flowBy : {i : Instruction} → View i → Flow
-flowBy on = On
-flowBy (jmp t) = Jump t
-flowBy (branch t k) = To t
-flowBy (call t) = Sub t
-flowBy ret = Back
-flowBy reti = Back
-flowBy ei = Enable
+abbrev pub flow_by : {i : Instruction} → View i → Flow
+flow_by on = On
+flow_by (jmp t) = Jump t
+flow_by (branch t k) = To t
+flow_by (call t) = Sub t
+flow_by ret = Back
+flow_by reti = Back
+flow_by ei = Enable
 
 unfoldable pub flow_of : Instruction → Flow
-flow_of i = flowBy (view i)
+flow_of i = flow_by (view i)
 
 -- where what stands at an address hands the program on: nowhere, if it cannot be read
-abbrev pub flowRead : Decoded → Flow
-flowRead (Read i) = flow_of i
-flowRead Unreadable = Unread
+abbrev pub flow_read : Decoded → Flow
+flow_read (Read i) = flow_of i
+flow_read Unreadable = Unread
 
-unfoldable pub flowAt : List ℕ → ℕ → Flow
-flowAt mask a = flowRead (readAt mask a)
+unfoldable pub flow_at : List ℕ → ℕ → Flow
+flow_at mask a = flow_read (read_at mask a)
 
 -- "it cannot be read, is CALL in level 1 or 2, or is RET or RETI in level 0": fault 1, 2 or 3, and 0 where there is none
-abbrev pub faultIn : Flow → ℕ → ℕ
-faultIn Unread l = faultNumber Unreadable
-faultIn On l = 0
-faultIn Enable l = 0
-faultIn (Jump t) l = 0
-faultIn (To t) l = 0
-faultIn (Sub t) l = pick (eqb l 0) 0 2
-faultIn Back l = pick (eqb l 0) 3 0
+abbrev pub fault_in : Flow → ℕ → ℕ
+fault_in Unread l = fault_number Unreadable
+fault_in On l = 0
+fault_in Enable l = 0
+fault_in (Jump t) l = 0
+fault_in (To t) l = 0
+fault_in (Sub t) l = pick (eqb l 0) 0 2
+fault_in Back l = pick (eqb l 0) 3 0
 
 -- "It is forbidden when the instruction at that address gives fault 1, 2 or 3 in that level"
 unfoldable pub fault : List ℕ → Pair → ℕ
-fault mask p = faultIn (flowAt mask p.address) p.level
+fault mask p = fault_in (flow_at mask p.address) p.level
 
 -- "Successors of any other pair: the moved address in the same level; a branch also its target; JMP only its target; CALL in level 0 its
 -- target in level 1 and the moved address in level 0; .. RET and RETI none"
@@ -66,7 +66,7 @@ onward Unread moved l = []
 onward On moved l = pair moved l ∷ []
 onward Enable moved l = pair moved l ∷ []
 onward (Jump t) moved l = pair t.0 l ∷ []
-onward (To t) moved l = pair moved l ∷ pair (branchTo moved t) l ∷ []
+onward (To t) moved l = pair moved l ∷ pair (branch_to moved t) l ∷ []
 onward (Sub t) moved l = pair t.0 1 ∷ pair moved 0 ∷ []
 onward Back moved l = []
 
@@ -84,11 +84,11 @@ abbrev pub handed : Flow → ℕ → ℕ → List Pair
 handed f moved l = onward f moved l ++ vectors f
 
 -- "A forbidden pair has no successors"
-abbrev pub unlessForbidden : List ℕ → Pair → List Pair → List Pair
-unlessForbidden mask p qs = pick (eqb (fault mask p) 0) qs []
+abbrev pub unless_forbidden : List ℕ → Pair → List Pair → List Pair
+unless_forbidden mask p qs = pick (eqb (fault mask p) 0) qs []
 
 unfoldable pub successors : List ℕ → Pair → List Pair
-successors mask p = unlessForbidden mask p (handed (flowAt mask p.address) (movedFrom mask p.address) p.level)
+successors mask p = unless_forbidden mask p (handed (flow_at mask p.address) (moved_from mask p.address) p.level)
 
 -- "the pairs that chains from address 0, level 0 reach"
 abbrev pub Reached : List ℕ → Pair → Type 0

@@ -9,15 +9,15 @@ use Rattle.checker.specs.declared.way.Listing.{Listing}
 use Rattle.checker.specs.declared.way.Listing.TheVariants.{Listed, BadMask, MaskPasses, BadList}
 
 -- the pairs at places of the queue
-abbrev pub pairsAt : List ℕ → List ℕ → List Pair
-pairsAt queue js = map pair_of (map (λ (j : ℕ). get_or queue j 0) js)
+abbrev pub pairs_at : List ℕ → List ℕ → List Pair
+pairs_at queue js = map pair_of (map (λ (j : ℕ). get_or queue j 0) js)
 
 -- the pairs at the places from 0 to an end are listed
 pub record Listings (queue starts : List ℕ) (end count : ℕ) (old new : List ℕ) : Type 0 where
   pub places : List ℕ
   pub up : Up starts 0 places end
   pub counted : count ≡ length places
-  pub bytes : new ≡ listed (pairsAt queue places) ++ drop (3 * count) old
+  pub bytes : new ≡ listed (pairs_at queue places) ++ drop (3 * count) old
 
 -- the way to a code is listed, or the list is too short for it
 pub record ListsTo (queue starts : List ℕ) (code count : ℕ) (old new : List ℕ) : Type 0 where

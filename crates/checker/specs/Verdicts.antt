@@ -8,19 +8,19 @@ use Rattle.checker.specs.declared.check.Verdict.{Verdict}
 use Rattle.checker.specs.declared.check.Verdict.TheVariants.{Passed, Failed, BadMask, BadMarks}
 
 -- "2: .. marks .. not .. 4,096": how many mark bytes there are
-abbrev pub marksSize : ℕ
-marksSize = 4096
+abbrev pub marks_size : ℕ
+marks_size = 4096
 
 -- "mark bytes: 1 level 0, 2 level 1, 4 level 2, added": the bit of a level in the byte of an address. No pair out of range has one
-abbrev pub isMarked : List ℕ → ℕ → ℕ → Bool
-isMarked marks a l = ltb a addresses && ltb l levels && eqb (get_or marks a 0 / 2 ^ l % 2) 1
+abbrev pub is_marked : List ℕ → ℕ → ℕ → Bool
+is_marked marks a l = ltb a addresses && ltb l levels && eqb (get_or marks a 0 / 2 ^ l % 2) 1
 
 -- "The checker writes 4,096 mark bytes .. for exactly the pairs that chains from address 0, level 0 reach"
 pub record Marked (mask marks : List ℕ) : Type 0 where
-  pub size : length marks ≡ marksSize
+  pub size : length marks ≡ marks_size
   pub rest : (a : ℕ) → a < addresses → get_or marks a 0 < 8
-  pub sound : (a l : ℕ) → a < addresses → l < levels → isMarked marks a l ≡ true → Reached mask (pair a l)
-  pub full : (a l : ℕ) → a < addresses → l < levels → Reached mask (pair a l) → isMarked marks a l ≡ true
+  pub sound : (a l : ℕ) → a < addresses → l < levels → is_marked marks a l ≡ true → Reached mask (pair a l)
+  pub full : (a l : ℕ) → a < addresses → l < levels → Reached mask (pair a l) → is_marked marks a l ≡ true
 
 -- the order "address first, then level"
 abbrev pub rank : Pair → ℕ
@@ -40,7 +40,7 @@ Safe mask = (p : Pair) → Reached mask p → fault mask p ≡ 0
 -- neither length is refused, and the marks are written
 pub record Written (mask old new : List ℕ) : Type 0 where
   pub mask_size : sized mask ≡ true
-  pub marks-size : length old ≡ marksSize
+  pub marks-size : length old ≡ marks_size
   pub marked : Marked mask new
 
 -- what each answer says of the mask, and of the marks at entry and at exit: document 01's numbers are 1 "mask not 4,096 bytes" and 2
@@ -49,7 +49,7 @@ abbrev pub Answers : List ℕ → List ℕ → List ℕ → Verdict → Type 0
 Answers mask old new Passed = Written mask old new × Safe mask
 Answers mask old new (Failed f a l) = Written mask old new × Lowest mask f a l
 Answers mask old new BadMask = (sized mask ≡ true → ⊥) × (new ≡ old)
-Answers mask old new BadMarks = (sized mask ≡ true) × (length old ≡ marksSize → ⊥) × (new ≡ old)
+Answers mask old new BadMarks = (sized mask ≡ true) × (length old ≡ marks_size → ⊥) × (new ≡ old)
 
 -- the answer and the marks depend on the mask and the marks at entry alone
 abbrev pub AnswersDetermine : Type 0
@@ -64,5 +64,5 @@ number_of BadMask = 1
 number_of BadMarks = 2
 
 -- "1: mask not 4,096 bytes"; "2: .. marks .. not .. 4,096"; the lowest number wins
-abbrev pub checkRefusal : List ℕ → List ℕ → ℕ
-checkRefusal mask marks = pick (sized mask) (pick (eqb (length marks) marksSize) 0 2) 1
+abbrev pub check_refusal : List ℕ → List ℕ → ℕ
+check_refusal mask marks = pick (sized mask) (pick (eqb (length marks) marks_size) 0 2) 1

@@ -4,7 +4,7 @@ use Rattle.std.specs.Prelude.{ℕ, ◌+◌, ◌*◌, ◌/◌, ◌%◌, ◌<◌, 
 use Rattle.isa.specs.Choice.{pick}
 use Rattle.isa.specs.Code.{addresses}
 use Rattle.checker.specs.Marks.{levels, Pair, pair, fault, successors}
-use Rattle.checker.specs.Verdicts.{marksSize, rank}
+use Rattle.checker.specs.Verdicts.{marks_size, rank}
 use Rattle.checker.specs.declared.check.Verdict.{Verdict}
 use Rattle.checker.specs.declared.check.Verdict.TheVariants.{Passed, Failed}
 use Rattle.checker.specs.declared.next.Codes.{Codes}
@@ -30,8 +30,8 @@ codes_of (Two a b) = a ∷ b ∷ []
 codes_of (Three a b c) = a ∷ b ∷ c ∷ []
 
 -- the fault of a code's pair
-abbrev pub faultAt : List ℕ → ℕ → ℕ
-faultAt mask c = fault mask (pair_of c)
+abbrev pub fault_at : List ℕ → ℕ → ℕ
+fault_at mask c = fault mask (pair_of c)
 
 -- what a pair's codes say of its fault
 abbrev pub Faults : Codes → ℕ → Type 0
@@ -54,8 +54,8 @@ abbrev pub mark_of : List ℕ → ℕ → ℕ
 mark_of seen a = get_or seen (a * 3) 0 + get_or seen (a * 3 + 1) 0 * 2 + get_or seen (a * 3 + 2) 0 * 4
 
 pub record Packed (seen marks : List ℕ) : Type 0 where
-  pub size : length marks ≡ marksSize
+  pub size : length marks ≡ marks_size
   pub byte : (a : ℕ) → a < addresses → get_or marks a 0 ≡ mark_of seen a
 
-abbrev pub verdictOf : Named → Verdict
-verdictOf n = pick (ltb n.code pairs) (Failed n.fault (n.code / levels) (n.code % levels)) Passed
+abbrev pub verdict_of : Named → Verdict
+verdict_of n = pick (ltb n.code pairs) (Failed n.fault (n.code / levels) (n.code % levels)) Passed

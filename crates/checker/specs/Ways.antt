@@ -40,18 +40,18 @@ pub record TooShort (mask old : List ℕ) : Type 0 where
   pub short : length old < 3 * length chain
 
 -- the paper's number of each answer, 0 for an answer that is not refused
-abbrev pub wayRefusal : Listing → ℕ
-wayRefusal (Listed n) = 0
-wayRefusal BadMask = 1
-wayRefusal MaskPasses = 10
-wayRefusal BadList = 11
+abbrev pub way_refusal : Listing → ℕ
+way_refusal (Listed n) = 0
+way_refusal BadMask = 1
+way_refusal MaskPasses = 10
+way_refusal BadList = 11
 
 -- and its value, "its count of pairs": 0 beside a refusal
-abbrev pub wayCount : Listing → ℕ
-wayCount (Listed n) = n
-wayCount BadMask = 0
-wayCount MaskPasses = 0
-wayCount BadList = 0
+abbrev pub way_count : Listing → ℕ
+way_count (Listed n) = n
+way_count BadMask = 0
+way_count MaskPasses = 0
+way_count BadList = 0
 
 -- what each refusal says: document 01's "1: mask not 4,096 bytes"; "10 if the mask passes, after 1; 11 if the list is too short, after 10"
 abbrev pub WayRefused : List ℕ → List ℕ → ℕ → Type 0
@@ -62,7 +62,7 @@ WayRefused mask old n =
 -- is as it was. "Which of several is free": the bytes listed are those of some shortest chain
 abbrev pub WayAnswers : List ℕ → List ℕ → List ℕ → Listing → Type 0
 WayAnswers mask old new v =
-    cond (eqb (wayRefusal v) 0) (Lists mask old new (wayCount v)) (WayRefused mask old (wayRefusal v) × (new ≡ old))
+    cond (eqb (way_refusal v) 0) (Lists mask old new (way_count v)) (WayRefused mask old (way_refusal v) × (new ≡ old))
 
 -- the answer, its count with it, depends on the mask and the list at entry alone
 abbrev pub WayDetermines : Type 0

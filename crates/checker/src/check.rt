@@ -1,7 +1,7 @@
 // The marks and the verdict.
 ghost use Rattle.std.specs.Prelude.{◌≡◌, ℕ, ◌≤◌, get_or, length};
-ghost use Rattle.checker.specs.Verdicts.{Answers, checkRefusal, isMarked, marksSize, number_of};
-ghost use Rattle.checker.specs.Walk.{Packed, verdictOf};
+ghost use Rattle.checker.specs.Verdicts.{Answers, check_refusal, is_marked, marks_size, number_of};
+ghost use Rattle.checker.specs.Walk.{Packed, verdict_of};
 
 use crate::walk::{NO_PAIR, Named, PAIRS, walk};
 use isa::ADDRESSES;
@@ -24,7 +24,7 @@ pub enum Verdict {
 
 // The mark byte of each address: the flags of its three codes, as bits.
 fn pack(seen: &[u8; PAIRS], marks: &mut [u8])
-    requires marks_len { length marks.old ≡ marksSize }
+    requires marks_len { length marks.old ≡ marks_size }
     requires by_index { (k : ℕ) → get_or seen.now k 0 ≤ 1 }
     ensures { Packed seen.now marks.new }
 {
@@ -37,7 +37,7 @@ fn pack(seen: &[u8; PAIRS], marks: &mut [u8])
 }
 
 fn judge(named: Named) -> Verdict
-    ensures { result ≡ verdictOf named }
+    ensures { result ≡ verdict_of named }
 {
     if named.code < NO_PAIR {
         Verdict::Failed(named.fault, named.code / 3, (named.code % 3) as u8)
@@ -49,7 +49,7 @@ fn judge(named: Named) -> Verdict
 // Marks the pairs that chains from address 0, level 0 reach, and says whether one of them is forbidden.
 pub fn check(mask: &[u8], marks: &mut [u8]) -> Verdict
     ensures answers { Answers mask.now marks.old marks.new result }
-    ensures result_value { number_of result ≡ checkRefusal mask.now marks.old }
+    ensures result_value { number_of result ≡ check_refusal mask.now marks.old }
 {
     if !mask_ok(mask) {
         return Verdict::BadMask;
@@ -67,7 +67,7 @@ pub fn check(mask: &[u8], marks: &mut [u8]) -> Verdict
 
 // Whether a pair is marked: its level's bit in the mark byte of its address. A pair out of range is not.
 pub fn is_marked(marks: &[u8; MARKS], address: u16, level: u8) -> bool
-    ensures { result ≡ isMarked marks.now address level }
+    ensures { result ≡ is_marked marks.now address level }
 {
     if ADDRESSES <= address {
         return false;

@@ -2,7 +2,7 @@
 // once, stalls the processor.
 ghost use Rattle.std.specs.Prelude.{◌≡◌, ◌/◌};
 ghost use Rattle.isa.specs.Reading.{decoded};
-ghost use Rattle.checker.specs.Marks.{flowAt, flowRead, levels};
+ghost use Rattle.checker.specs.Marks.{flow_at, flow_read, levels};
 
 use isa::ProgramAddress;
 use rom::reader::code_at;
@@ -28,7 +28,7 @@ pub enum Flow {
 // The flow of two bytes. No helper that returns an enum: its copy would go through memory. The tests go as those of the length do, so that the
 // compiler can make one chain of both.
 pub(crate) fn flow_by(first: u8, second: u8) -> Flow
-    ensures { result ≡ flowRead (decoded first second) }
+    ensures { result ≡ flow_read (decoded first second) }
 {
     if 0x7f < first {
         if first < 0xe0 {
@@ -92,7 +92,7 @@ pub(crate) fn flow_by(first: u8, second: u8) -> Flow
 
 // The flow of what stands at the address of a pair's code.
 pub fn flow_at(mask: &[u8], code: u16) -> Flow
-    ensures { result ≡ flowAt mask.now (code / levels) }
+    ensures { result ≡ flow_at mask.now (code / levels) }
 {
     let bytes = code_at(mask, code / 3);
     flow_by(bytes.first, bytes.second)

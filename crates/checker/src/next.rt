@@ -1,6 +1,6 @@
 // What the instruction at a pair says of it. A pair's code is three times its address, and its level added: 0 to 12,287.
 ghost use Rattle.std.specs.Prelude.{◌≡◌};
-ghost use Rattle.checker.specs.Walk.{Faults, codes_of, faultAt, next_codes};
+ghost use Rattle.checker.specs.Walk.{Faults, codes_of, fault_at, next_codes};
 
 use crate::flow::{Flow, flow_by};
 use rom::reader::{code_at, moved_by};
@@ -26,7 +26,7 @@ pub enum Codes {
 // The successors of a pair, or its fault. Nothing stands between the tests of the length and those of the flow, which are the same.
 pub(crate) fn next_codes(mask: &[u8], code: u16) -> Codes
     ensures result_value { codes_of result ≡ next_codes mask.now code }
-    ensures faults { Faults result (faultAt mask.now code) }
+    ensures faults { Faults result (fault_at mask.now code) }
 {
     let address = code / 3;
     let level = code % 3;

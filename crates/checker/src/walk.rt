@@ -1,8 +1,8 @@
 // The walk over the pairs that chains from the start reach, each taken once, in the order in which they were found.
 ghost use Rattle.std.specs.Prelude.{◌≡◌, ◌<◌, replicate};
 ghost use Rattle.reach.specs.Trail.{Traced};
-ghost use Rattle.reach.specs.Walk.{Found, Names, Room, Small, pushed, pushedAll, work};
-ghost use Rattle.checker.specs.Walk.{codes_of, faultAt, lowered, next_codes, pairs};
+ghost use Rattle.reach.specs.Walk.{Found, Names, Room, Small, pushed, pushed_all, work};
+ghost use Rattle.checker.specs.Walk.{codes_of, fault_at, lowered, next_codes, pairs};
 
 use crate::next::{Codes, next_codes};
 use isa::ADDRESSES;
@@ -33,7 +33,7 @@ fn push(seen: &mut [u8; PAIRS], queue: &mut [u16; PAIRS], tail: u16, code: u16) 
 fn push_all(seen: &mut [u8; PAIRS], queue: &mut [u16; PAIRS], tail: u16, codes: Codes) -> u16
     requires small { Small pairs (codes_of codes) }
     requires room { Room pairs seen.old tail }
-    ensures { work seen.new queue.new result ≡ pushedAll (work seen.old queue.old tail) (codes_of codes) }
+    ensures { work seen.new queue.new result ≡ pushed_all (work seen.old queue.old tail) (codes_of codes) }
 {
     match codes {
         Codes::Forbidden(_) => tail,
@@ -91,7 +91,7 @@ pub(crate) fn walk(
     requires { (seen.old ≡ replicate pairs 0) × (queue.old ≡ replicate pairs 0) × (starts.old ≡ replicate pairs 0) }
     ensures found { Found pairs (next_codes mask.now) seen.new }
     ensures traced { Traced pairs (next_codes mask.now) seen.new queue.new starts.new }
-    ensures names { Names pairs (faultAt mask.now) seen.new result.code result.fault }
+    ensures names { Names pairs (fault_at mask.now) seen.new result.code result.fault }
 {
     seen[0] = 1;
     let mut head: u16 = 0;

@@ -2,7 +2,7 @@
 // level L` and then a shortest way there, a line a pair: address, level, bytes and instruction. A mask of another length, or none, gives `refused 1`.
 // What it prints is decided by the proved functions of `checker`, `bound` and `mnemonic`; here a file is read and lines are written.
 ghost use Rattle.std.specs.Prelude.{◌≡◌, ◌*◌, ◌≤◌, length};
-ghost use Rattle.bound.specs.Lists.{boundsSize};
+ghost use Rattle.bound.specs.Lists.{bounds_size};
 
 use bound::bounds::{BOUNDS, bounds_of, entry_of, largest};
 use bound::calls::call_targets;
@@ -146,7 +146,7 @@ fn put_targets(list: &[u16], targets: &[u8; PLACES]) {
 
 // The longest of all, and the first pair that has it.
 fn put_wait(list: &[u16])
-    requires { length list.now ≡ boundsSize }
+    requires { length list.now ≡ bounds_size }
 {
     let place = largest(list);
     let address = (place / 2) as u16;

@@ -6,7 +6,7 @@ use Rattle.std.proofs.Common.{◌≡◌, ℕ, ◌+◌, ◌*◌, ◌/◌, ◌%◌
 use lib.Bits.{and_lt, or_lt, xor_lt}
 use borrow.Author.Tests.{not-false}
 use Rattle.isa.specs.Choice.{pick}
-use Rattle.rom.specs.Fetching.{Bytes, branchTo, readAt}
+use Rattle.rom.specs.Fetching.{Bytes, branch_to, read_at}
 use Rattle.rom.proofs.Fetching.{read-fields}
 use Rattle.isa.specs.Code.{addresses, in_range}
 use Rattle.isa.specs.declared.ProgramAddress.{ProgramAddress}
@@ -21,14 +21,14 @@ use Rattle.isa.specs.declared.Condition.TheVariants.{Ja, JnzR0, JnzR1, JnzR4, Jz
 use Rattle.isa.specs.declared.Instruction.{Instruction}
 use Rattle.isa.specs.declared.Instruction.TheVariants as I
 use Rattle.isa.proofs.Exact.{and_left, and_right}
-use Rattle.datapath.specs.Alu.{flag, nibbleOf, summed, adjusted}
+use Rattle.datapath.specs.Alu.{flag, nibble_of, summed, adjusted}
 use Rattle.datapath.specs.Timer.{clocks, counted}
 use Rattle.datapath.specs.declared.alu.Sum.{Sum}
 use Rattle.datapath.specs.declared.timer.Count.{Count}
-use Rattle.cpu.specs.State.{State, state, onCpu, address, withAcc}
-use Rattle.cpu.specs.Effect.{place_of, nibbleAt, withNibble, taking, registerOf, withRegister, portOf, withPair, holds, tested, branched, called, returned}
-use Rattle.cpu.specs.Effect.{returnedWithCarry, effect}
-use Rattle.cpu.specs.Step.{timed, ticked, entered, moved, settled, instructed, executed, vectorOf, stepped, stopped, step}
+use Rattle.cpu.specs.State.{State, state, on_cpu, address, with_acc}
+use Rattle.cpu.specs.Effect.{place_of, nibble_at, with_nibble, taking, register_of, with_register, port_of, with_pair, holds, tested, branched, called, returned}
+use Rattle.cpu.specs.Effect.{returned_with_carry, effect}
+use Rattle.cpu.specs.Step.{timed, ticked, entered, moved, settled, instructed, executed, vector_of, stepped, stopped, step}
 use Rattle.cpu.specs.Range.{valid}
 use Rattle.cpu.specs.declared.Cpu.{Cpu}
 use Rattle.cpu.proofs.Ranges.{CpuIn, Valid, from, to, stack-in, cycles-in, acc-in, r0-in, r1-in, r2-in, r3-in, r4-in, pc-in, cf-in, tf-in, count-in, running-in, enabled-in, held_in}
@@ -41,7 +41,7 @@ low n = omega arith
 odd : (n : ℕ) → n % 2 < 2
 odd n = omega arith
 
-bits : (a b c d : ℕ) → nibbleOf (a % 2) (b % 2) (c % 2) (d % 2) < 16
+bits : (a b c d : ℕ) → nibble_of (a % 2) (b % 2) (c % 2) (d % 2) < 16
 bits a b c d = omega arith
 
 high : (n : ℕ) → n < 256 → n / 16 < 16
@@ -84,25 +84,25 @@ module _ {c : Cpu} (v : CpuIn c) where
   taking-in : {x : Sum} → SumIn x → CpuIn (taking x c)
   taking-in {x} h = acc-in (cf-in v x.carry h.carry) x.value h.value
 
-  register-in : (n : ℕ) → registerOf n c < 16
-  unfolding registerOf
+  register-in : (n : ℕ) → register_of n c < 16
+  unfolding register_of
   register-in n =
       let r = v.registers in
       let P : ℕ → Type 0 = λ x. x < 16 in
       one_of P (eqb n 0) r.r0 (one_of P (eqb n 1) r.r1 (one_of P (eqb n 2) r.r2 (one_of P (eqb n 3) r.r3 r.r4)))
 
-  with-register-in : (n x : ℕ) → x < 16 → CpuIn (withRegister n x c)
-  unfolding withRegister
+  with-register-in : (n x : ℕ) → x < 16 → CpuIn (with_register n x c)
+  unfolding with_register
   with-register-in n x h =
       one_of CpuIn (eqb n 0) (r0-in v x h)
       (one_of CpuIn (eqb n 1) (r1-in v x h) (one_of CpuIn (eqb n 2) (r2-in v x h) (one_of CpuIn (eqb n 3) (r3-in v x h) (r4-in v x h))))
 
-  port-in : (p : Port) → portOf p c < 16
+  port-in : (p : Port) → port_of p c < 16
   port-in Pm = v.pins.pm
   port-in Ps = v.pins.ps
   port-in Pp = v.pins.pp
 
-  pair-in : (p : Pointer) (x y : ℕ) → ltb x 16 && ltb y 16 ≡ true → CpuIn (withPair p x y c)
+  pair-in : (p : Pointer) (x y : ℕ) → ltb x 16 && ltb y 16 ≡ true → CpuIn (with_pair p x y c)
   pair-in R1R0 x y h = r0-in (r1-in v y (ltb-true y 16 (and_right (ltb x 16) (ltb y 16) h))) x (ltb-true x 16 (and_left (ltb x 16) (ltb y 16) h))
   pair-in R3R2 x y h = r2-in (r3-in v y (ltb-true y 16 (and_right (ltb x 16) (ltb y 16) h))) x (ltb-true x 16 (and_left (ltb x 16) (ltb y 16) h))
 
@@ -119,7 +119,7 @@ module _ {c : Cpu} (v : CpuIn c) where
 
   branched-in : (k : Condition) (t : ProgramAddress) → CpuIn (branched k t c)
   unfolding branched
-  branched-in k t = one_of CpuIn (holds k c) (pc-in (tested-in k) (address (branchTo c.control.pc.0 t)) (within c.control.pc.0 t.0 v.control.pc)) (tested-in k)
+  branched-in k t = one_of CpuIn (holds k c) (pc-in (tested-in k) (address (branch_to c.control.pc.0 t)) (within c.control.pc.0 t.0 v.control.pc)) (tested-in k)
     where
       within : (a b : ℕ) → a < addresses → a / 2048 * 2048 + b % 2048 < addresses
       within a b h = omega arith
@@ -135,8 +135,8 @@ module _ {c : Cpu} (v : CpuIn c) where
   unfolding returned
   returned-in e = one_of CpuIn (eqb c.interrupts.level 0) (fault-in v 3 e (omega arith)) (level_in (pc-in v c.stack.address v.stack.address) 0 (omega arith))
 
-  returned-with-carry-in : c.status.halted ≡ 0 → CpuIn (returnedWithCarry c)
-  unfolding returnedWithCarry
+  returned-with-carry-in : c.status.halted ≡ 0 → CpuIn (returned_with_carry c)
+  unfolding returned_with_carry
   returned-with-carry-in e =
       one_of CpuIn (eqb c.interrupts.level 0) (fault-in v 3 e (omega arith))
       (cf-in (level_in (pc-in v c.stack.address v.stack.address) 0 (omega arith)) c.stack.carry v.stack.carry)
@@ -146,19 +146,19 @@ module _ (mask : List ℕ) (s : State) (b : Bytes mask) (v : Valid s) (e : s.cpu
   acc : s.cpu.registers.acc < 16
   acc = v.cpu.registers.acc
 
-  at : (p : Pointer) → nibbleAt p s < 16
+  at : (p : Pointer) → nibble_at p s < 16
   at p = loaded-in s.memory v.memory (place_of p s.cpu)
 
   on : {c : Cpu} → CpuIn c → Valid (state c s.memory)
   on h = record { cpu = h; memory = v.memory }
 
-  sum : {x : Sum} → SumIn x → Valid (onCpu (taking x) s)
+  sum : {x : Sum} → SumIn x → Valid (on_cpu (taking x) s)
   sum h = on (taking-in v.cpu h)
 
-  to-acc : {x : ℕ} → x < 16 → Valid (onCpu (withAcc x) s)
+  to-acc : {x : ℕ} → x < 16 → Valid (on_cpu (with_acc x) s)
   to-acc {x} h = on (acc-in v.cpu x h)
 
-  put : (p : Pointer) (x : ℕ) → x < 16 → Valid (withNibble p x s)
+  put : (p : Pointer) (x : ℕ) → x < 16 → Valid (with_nibble p x s)
   put p x h = record { cpu = v.cpu; memory = stored-in s.memory v.memory (place_of p s.cpu) x h }
 
   pub effect-valid : (i : Instruction) → in_range i ≡ true → Valid (effect mask i s)
@@ -260,9 +260,9 @@ module _ (mask : List ℕ) (s : State) (b : Bytes mask) (v : Valid s) where
         (record { cpu = ticked-in w.cpu n; memory = w.memory })
         (record { cpu = fault-in v.cpu t.cpu.status.fault e w.cpu.status.fault; memory = v.memory })
 
-    instructed-valid : (d : Decoded) (l n : ℕ) → readAt mask s.cpu.control.pc.0 ≡ d → Valid (instructed mask d l n s)
+    instructed-valid : (d : Decoded) (l n : ℕ) → read_at mask s.cpu.control.pc.0 ≡ d → Valid (instructed mask d l n s)
     instructed-valid (Read i) l n q =
-        settled-valid n _ (effect-valid mask (onCpu (moved l) s) b (record { cpu = moved_in v.cpu l; memory = v.memory }) e f i (read-fields mask s.cpu.control.pc.0 b i q))
+        settled-valid n _ (effect-valid mask (on_cpu (moved l) s) b (record { cpu = moved_in v.cpu l; memory = v.memory }) e f i (read-fields mask s.cpu.control.pc.0 b i q))
     instructed-valid Unreadable l n q = record { cpu = fault-in v.cpu 1 e (omega arith); memory = v.memory }
 
     executed-valid : Valid (executed mask s)
@@ -272,9 +272,9 @@ module _ (mask : List ℕ) (s : State) (b : Bytes mask) (v : Valid s) where
     stepped-valid : Valid (stepped mask s)
     unfolding stepped
     stepped-valid =
-        one_of Valid (eqb (vectorOf s.cpu) 8)
+        one_of Valid (eqb (vector_of s.cpu) 8)
         (record { cpu = entered-in 8 (omega arith) (held_in v.cpu 0 (odd 0)); memory = v.memory })
-        (one_of Valid (eqb (vectorOf s.cpu) 4)
+        (one_of Valid (eqb (vector_of s.cpu) 4)
         (record { cpu = entered-in 4 (omega arith) (tf-in v.cpu 0 (odd 0)); memory = v.memory })
         executed-valid)
 

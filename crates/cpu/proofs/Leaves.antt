@@ -10,11 +10,11 @@ use Rattle.isa.specs.declared.Condition.{Condition}
 use Rattle.isa.specs.declared.Condition.TheVariants.{Ja, JnzR0, JnzR1, JnzR4, Jz, JnzA, Jc, Jnc, Jtmr}
 use Rattle.isa.specs.declared.Instruction.{Instruction}
 use Rattle.isa.specs.declared.Instruction.TheVariants as I
-use Rattle.rom.specs.Fetching.{branchTo}
+use Rattle.rom.specs.Fetching.{branch_to}
 use Rattle.datapath.specs.Timer.{clocks, counted}
 use Rattle.datapath.specs.declared.timer.Count.{Count}
-use Rattle.cpu.specs.State.{State, address, withPc, withTf}
-use Rattle.cpu.specs.Effect.{withRegister, holds, tested, branched, called, returned, returnedWithCarry, effect}
+use Rattle.cpu.specs.State.{State, address, with_pc, with_tf}
+use Rattle.cpu.specs.Effect.{with_register, holds, tested, branched, called, returned, returned_with_carry, effect}
 use Rattle.cpu.specs.Step.{timed, ticked}
 use Rattle.cpu.specs.declared.Cpu.{Cpu}
 
@@ -33,8 +33,8 @@ pub same-pick : (t : Bool) (c x y : Cpu) → standing x ≡ standing c → stand
 same-pick true c x y p q = p
 same-pick false c x y p q = q
 
-register-same : (n v : ℕ) (c : Cpu) → standing (withRegister n v c) ≡ standing c
-unfolding withRegister
+register-same : (n v : ℕ) (c : Cpu) → standing (with_register n v c) ≡ standing c
+unfolding with_register
 register-same n v c =
     same-pick (eqb n 0) c _ _ refl (same-pick (eqb n 1) c _ _ refl (same-pick (eqb n 2) c _ _ refl (same-pick (eqb n 3) c _ _ refl refl)))
 
@@ -50,7 +50,7 @@ tested-same Jnc c = refl
 tested-same Jtmr c = refl
 
 timed-same : (k : Count) (c : Cpu) → standing (timed k c) ≡ standing c
-timed-same k c = same-pick (eqb k.passed 1) c (withTf 1 c) c refl refl
+timed-same k c = same-pick (eqb k.passed 1) c (with_tf 1 c) c refl refl
 
 pub counting-same : (t : Bool) (k : Count) (c : Cpu) → standing (pick t (timed k c) c) ≡ standing c
 counting-same t k c = same-pick t c (timed k c) c (timed-same k c) refl
@@ -74,7 +74,7 @@ Returns s t = (s.level ≡ 0 → ⊥) → t ≡ record { pc = s.stack; level = 0
 abbrev pub Leaves : {i : Instruction} → View i → Standing → Standing → Type 0
 Leaves on s t = GoesTo s.pc s t
 Leaves (jmp a) s t = GoesTo a.0 s t
-Leaves (branch a k) s t = GoesTo s.pc s t ⊎ GoesTo (branchTo s.pc a) s t
+Leaves (branch a k) s t = GoesTo s.pc s t ⊎ GoesTo (branch_to s.pc a) s t
 Leaves (call a) s t = s.level ≡ 0 → t ≡ record { pc = a.0; level = 1; stack = s.pc; enabled = s.enabled; fault = s.fault }
 Leaves ret s t = Returns s t
 Leaves reti s t = Returns s t
@@ -85,12 +85,12 @@ stays {s} e = subst (GoesTo s.pc s) (sym e) (record { pc = refl; level = refl; s
 
 -- a branch, taken or not
 branches : (b : Bool) (c d : Cpu) (a : ProgramAddress) (k : Condition) → standing d ≡ standing c
-    → Leaves (branch a k) (standing c) (standing (pick b (withPc (address (branchTo c.control.pc.0 a)) d) d))
+    → Leaves (branch a k) (standing c) (standing (pick b (with_pc (address (branch_to c.control.pc.0 a)) d) d))
 branches true c d a k e = let g = stays e in inr (record { pc = refl; level = g.level; stack = g.stack; fault = g.fault; quiet = g.quiet })
 branches false c d a k e = inl (stays e)
 
 pub leaves : (mask : List ℕ) (i : Instruction) (s : State) → Leaves (view i) (standing s.cpu) (standing (effect mask i s).cpu)
-unfolding view effect branched called returned returnedWithCarry
+unfolding view effect branched called returned returned_with_carry
 leaves mask I.AddAM s = stays refl
 leaves mask I.AdcAM s = stays refl
 leaves mask I.SubAM s = stays refl

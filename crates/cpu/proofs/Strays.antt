@@ -10,22 +10,22 @@ use Rattle.isa.specs.declared.Pointer.TheVariants.{R1R0, R3R2}
 use Rattle.isa.specs.declared.Instruction.{Instruction}
 use Rattle.isa.specs.declared.decoder.Decoded.{Decoded}
 use Rattle.isa.specs.declared.decoder.Decoded.TheVariants.{Read}
-use Rattle.rom.specs.Fetching.{readAt}
+use Rattle.rom.specs.Fetching.{read_at}
 use Rattle.datapath.specs.Memory.{strays, tallied}
 use Rattle.datapath.proofs.Tally.{tallied-add}
-use Rattle.cpu.specs.State.{State, withPc}
+use Rattle.cpu.specs.State.{State, with_pc}
 use Rattle.cpu.specs.Effect.{place_of, effect}
-use Rattle.cpu.specs.Gap.{pointers, accesses, accessesOf, straysAt, straysBy, straysIn}
-use Rattle.cpu.specs.Step.{executed, vectorOf, step}
+use Rattle.cpu.specs.Gap.{pointers, accesses, accesses_of, strays_at, strays_by, strays_in}
+use Rattle.cpu.specs.Step.{executed, vector_of, step}
 use Rattle.cpu.specs.Run.{yielded}
 use Rattle.cpu.specs.declared.Cpu.{Cpu}
 use Rattle.cpu.proofs.Leaves.{standing, Leaves, leaves}
 
 -- the PC decides no data address
-pub accesses-moved : (i : Instruction) (a : ProgramAddress) (c : Cpu) → accesses i (withPc a c) ≡ accesses i c
+pub accesses-moved : (i : Instruction) (a : ProgramAddress) (c : Cpu) → accesses i (with_pc a c) ≡ accesses i c
 accesses-moved i a c = go (pointers i)
   where
-    go : (l : List Pointer) → map (λ (p : Pointer). place_of p (withPc a c)) l ≡ map (λ (p : Pointer). place_of p c) l
+    go : (l : List Pointer) → map (λ (p : Pointer). place_of p (with_pc a c)) l ≡ map (λ (p : Pointer). place_of p c) l
     go [] = refl
     go (R1R0 ∷ l) = ap (λ (m : List DataAddress). place_of R1R0 c ∷ m) (go l)
     go (R3R2 ∷ l) = ap (λ (m : List DataAddress). place_of R3R2 c ∷ m) (go l)
@@ -47,38 +47,38 @@ faulting mask i s e f count c = go (view i) (leaves mask i s) f
 
 -- ---- one instruction, by the state after it
 module _ (mask : List ℕ) (s : State) (count : ℕ) {t : State} (e : t ≡ executed mask s) where
-  pub uncounted : (t.cpu.status.fault ≡ 0 → ⊥) → count ≡ tallied count (straysAt mask s)
-  unfolding straysAt tallied
+  pub uncounted : (t.cpu.status.fault ≡ 0 → ⊥) → count ≡ tallied count (strays_at mask s)
+  unfolding strays_at tallied
   uncounted f = rw (ne_eqb (executed mask s).cpu.status.fault 0 (λ z. f (ap (λ (x : State). x.cpu.status.fault) e ∙ z))) refl
 
-  pub counted : t.cpu.status.fault ≡ 0 → (i : Instruction) → Read i ≡ readAt mask s.cpu.control.pc.0 → tallied count (strays (accesses i s.cpu)) ≡ tallied count (straysAt mask s)
-  unfolding straysAt
+  pub counted : t.cpu.status.fault ≡ 0 → (i : Instruction) → Read i ≡ read_at mask s.cpu.control.pc.0 → tallied count (strays (accesses i s.cpu)) ≡ tallied count (strays_at mask s)
+  unfolding strays_at
   counted z i r =
-      ap (λ (d : Decoded). tallied count (strays (accessesOf d s.cpu))) r
+      ap (λ (d : Decoded). tallied count (strays (accesses_of d s.cpu))) r
       ∙ rw (eq-eqb (executed mask s).cpu.status.fault 0 (ap (λ (x : State). x.cpu.status.fault) (sym e) ∙ z)) refl
 
 -- ---- one step, by the tests of the code
 module _ (mask : List ℕ) (s : State) (count : ℕ) where
-  pub halted-counts-none : (s.cpu.status.halted ≡ 0 → ⊥) → count ≡ tallied count (straysBy mask s)
-  unfolding straysBy tallied
+  pub halted-counts-none : (s.cpu.status.halted ≡ 0 → ⊥) → count ≡ tallied count (strays_by mask s)
+  unfolding strays_by tallied
   halted-counts-none h = rw (ne_eqb s.cpu.status.halted 0 h) refl
 
-  pub fault-counts-none : s.cpu.status.halted ≡ 0 → (s.cpu.status.fault ≡ 0 → ⊥) → count ≡ tallied count (straysBy mask s)
-  unfolding straysBy tallied
+  pub fault-counts-none : s.cpu.status.halted ≡ 0 → (s.cpu.status.fault ≡ 0 → ⊥) → count ≡ tallied count (strays_by mask s)
+  unfolding strays_by tallied
   fault-counts-none h f = rw (eq-eqb s.cpu.status.halted 0 h, ne_eqb s.cpu.status.fault 0 f) refl
 
   module _ (h : s.cpu.status.halted ≡ 0) (f : s.cpu.status.fault ≡ 0) where
-    pub interrupt-counts-none : (vectorOf s.cpu ≡ 0 → ⊥) → count ≡ tallied count (straysBy mask s)
-    unfolding straysBy tallied
-    interrupt-counts-none v = rw (eq-eqb s.cpu.status.halted 0 h, eq-eqb s.cpu.status.fault 0 f, ne_eqb (vectorOf s.cpu) 0 v) refl
+    pub interrupt-counts-none : (vector_of s.cpu ≡ 0 → ⊥) → count ≡ tallied count (strays_by mask s)
+    unfolding strays_by tallied
+    interrupt-counts-none v = rw (eq-eqb s.cpu.status.halted 0 h, eq-eqb s.cpu.status.fault 0 f, ne_eqb (vector_of s.cpu) 0 v) refl
 
-    pub instruction-counts : vectorOf s.cpu ≡ 0 → tallied count (straysAt mask s) ≡ tallied count (straysBy mask s)
-    unfolding straysBy
-    instruction-counts v = rw (eq-eqb s.cpu.status.halted 0 h, eq-eqb s.cpu.status.fault 0 f, eq-eqb (vectorOf s.cpu) 0 v) refl
+    pub instruction-counts : vector_of s.cpu ≡ 0 → tallied count (strays_at mask s) ≡ tallied count (strays_by mask s)
+    unfolding strays_by
+    instruction-counts v = rw (eq-eqb s.cpu.status.halted 0 h, eq-eqb s.cpu.status.fault 0 f, eq-eqb (vector_of s.cpu) 0 v) refl
 
 -- a step takes one interrupt, the other, or none
-pub no-vector : (c : Cpu) → (vectorOf c ≡ 8 → ⊥) → (vectorOf c ≡ 4 → ⊥) → vectorOf c ≡ 0
-unfolding vectorOf
+pub no-vector : (c : Cpu) → (vector_of c ≡ 8 → ⊥) → (vector_of c ≡ 4 → ⊥) → vector_of c ≡ 0
+unfolding vector_of
 no-vector c = go (eqb c.interrupts.level 0 && eqb c.interrupts.enabled 1) (eqb c.interrupts.held 1) (eqb c.control.tf 1)
   where
     chosen : Bool → Bool → Bool → ℕ
@@ -92,18 +92,18 @@ no-vector c = go (eqb c.interrupts.level 0 && eqb c.interrupts.enabled 1) (eqb c
 
 -- ---- n steps: a state that a step neither changes nor counts, and one step of those left
 module _ (mask : List ℕ) (s : State) (count : ℕ) where
-  pub stopped-counts-none : (n : ℕ) → s ≡ step mask s → count ≡ tallied count (straysBy mask s) → count ≡ tallied count (straysIn mask n s)
+  pub stopped-counts-none : (n : ℕ) → s ≡ step mask s → count ≡ tallied count (strays_by mask s) → count ≡ tallied count (strays_in mask n s)
   unfolding yielded tallied
   stopped-counts-none zero e z = refl
   stopped-counts-none (suc n) e z =
-      stopped-counts-none n e z ∙ ap₂ (λ (k : ℕ) (x : State). tallied k (straysIn mask n x)) z e
-      ∙ tallied-add count (straysBy mask s) (straysIn mask n (step mask s))
+      stopped-counts-none n e z ∙ ap₂ (λ (k : ℕ) (x : State). tallied k (strays_in mask n x)) z e
+      ∙ tallied-add count (strays_by mask s) (strays_in mask n (step mask s))
 
-  pub next-counts : (n : ℕ) → 0 < n → tallied (tallied count (straysBy mask s)) (straysIn mask (n - 1) (step mask s)) ≡ tallied count (straysIn mask n s)
+  pub next-counts : (n : ℕ) → 0 < n → tallied (tallied count (strays_by mask s)) (strays_in mask (n - 1) (step mask s)) ≡ tallied count (strays_in mask n s)
   unfolding yielded
   next-counts n h =
-      tallied-add count (straysBy mask s) (straysIn mask (n - 1) (step mask s))
-      ∙ subst (λ (k : ℕ). tallied count (straysBy mask s + straysIn mask (n - 1) (step mask s)) ≡ tallied count (straysIn mask k s)) (back n h) refl
+      tallied-add count (strays_by mask s) (strays_in mask (n - 1) (step mask s))
+      ∙ subst (λ (k : ℕ). tallied count (strays_by mask s + strays_in mask (n - 1) (step mask s)) ≡ tallied count (strays_in mask k s)) (back n h) refl
     where
       back : (n : ℕ) → 0 < n → suc (n - 1) ≡ n
       back n h = omega arith

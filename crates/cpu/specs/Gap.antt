@@ -9,11 +9,11 @@ use Rattle.isa.specs.declared.Instruction.{Instruction}
 use Rattle.isa.specs.declared.Instruction.TheVariants as I
 use Rattle.isa.specs.declared.decoder.Decoded.{Decoded}
 use Rattle.isa.specs.declared.decoder.Decoded.TheVariants.{Read, Unreadable}
-use Rattle.rom.specs.Fetching.{readAt}
+use Rattle.rom.specs.Fetching.{read_at}
 use Rattle.datapath.specs.Memory.{strays}
 use Rattle.cpu.specs.State.{State}
 use Rattle.cpu.specs.Effect.{place_of}
-use Rattle.cpu.specs.Step.{executed, vectorOf, stopped}
+use Rattle.cpu.specs.Step.{executed, vector_of, stopped}
 use Rattle.cpu.specs.Run.{yielded}
 use Rattle.cpu.specs.declared.Cpu.{Cpu}
 
@@ -87,18 +87,18 @@ abbrev pub accesses : Instruction → Cpu → List DataAddress
 accesses i c = map (λ (p : Pointer). place_of p c) (pointers i)
 
 -- those of what stands at the PC
-abbrev pub accessesOf : Decoded → Cpu → List DataAddress
-accessesOf (Read i) c = accesses i c
-accessesOf Unreadable c = []
+abbrev pub accesses_of : Decoded → Cpu → List DataAddress
+accesses_of (Read i) c = accesses i c
+accesses_of Unreadable c = []
 
 -- an instruction that runs: "a refused or faulting instruction none"
-unfoldable pub straysAt : List ℕ → State → ℕ
-straysAt mask s = pick ((executed mask s).cpu.status.fault == 0) (strays (accessesOf (readAt mask s.cpu.control.pc.0) s.cpu)) 0
+unfoldable pub strays_at : List ℕ → State → ℕ
+strays_at mask s = pick ((executed mask s).cpu.status.fault == 0) (strays (accesses_of (read_at mask s.cpu.control.pc.0) s.cpu)) 0
 
 -- one step: none where the machine is halted or faulted, nor where an interrupt is taken
-unfoldable pub straysBy : List ℕ → State → ℕ
-straysBy mask s = pick (stopped s) 0 (pick (vectorOf s.cpu == 0) (straysAt mask s) 0)
+unfoldable pub strays_by : List ℕ → State → ℕ
+strays_by mask s = pick (stopped s) 0 (pick (vector_of s.cpu == 0) (strays_at mask s) 0)
 
 -- n steps
-abbrev pub straysIn : List ℕ → ℕ → State → ℕ
-straysIn mask n s = yielded 0 ◌+◌ (straysBy mask) mask n s
+abbrev pub strays_in : List ℕ → ℕ → State → ℕ
+strays_in mask n s = yielded 0 ◌+◌ (strays_by mask) mask n s

@@ -12,7 +12,7 @@ use Rattle.cpu.specs.declared.Outputs.{Outputs}
 use Rattle.cpu.specs.declared.Pins.{Pins}
 use Rattle.cpu.specs.declared.Options.{Options}
 use Rattle.cpu.specs.declared.Cpu.{Cpu}
-use Rattle.datapath.specs.Memory.{memorySize}
+use Rattle.datapath.specs.Memory.{memory_size}
 use Rattle.isa.specs.Code.{addresses}
 
 -- "A nibble is 0 to 15"
@@ -27,59 +27,59 @@ abbrev pub bit : ℕ → Bool
 bit x = nat_lt x 2
 
 -- "ACC, R0 to R4"
-unfoldable pub registersOk : Registers → Bool
-registersOk r = nibble r.acc && (nibble r.r0 && (nibble r.r1 && (nibble r.r2 && (nibble r.r3 && nibble r.r4))))
+unfoldable pub registers_ok : Registers → Bool
+registers_ok r = nibble r.acc && (nibble r.r0 && (nibble r.r1 && (nibble r.r2 && (nibble r.r3 && nibble r.r4))))
 
 -- "PC (12 bits); CF and TF"
-unfoldable pub controlOk : Control → Bool
-controlOk k = nat_lt k.pc.0 addresses && (bit k.cf && bit k.tf)
+unfoldable pub control_ok : Control → Bool
+control_ok k = nat_lt k.pc.0 addresses && (bit k.cf && bit k.tf)
 
 -- "timer (8 bits) and its running flag"
-unfoldable pub timerOk : Timer → Bool
-timerOk t = nat_lt t.count 256 && bit t.running
+unfoldable pub timer_ok : Timer → Bool
+timer_ok t = nat_lt t.count 256 && bit t.running
 
 -- "enable flag; held edge; level (0 main, 1 subroutine, 2 interrupt)"
-unfoldable pub interruptsOk : Interrupts → Bool
-interruptsOk i = bit i.enabled && (bit i.held && nat_lt i.level 3)
+unfoldable pub interrupts_ok : Interrupts → Bool
+interrupts_ok i = bit i.enabled && (bit i.held && nat_lt i.level 3)
 
 -- "stack address and stack carry"
-unfoldable pub stackOk : Stack → Bool
-stackOk k = nat_lt k.address.0 addresses && bit k.carry
+unfoldable pub stack_ok : Stack → Bool
+stack_ok k = nat_lt k.address.0 addresses && bit k.carry
 
 -- "halted; fault (0 to 3)", and not halted with a fault
-unfoldable pub statusOk : Status → Bool
-statusOk s = bit s.halted && (nat_lt s.fault 4 && (s.halted == 0 || s.fault == 0))
+unfoldable pub status_ok : Status → Bool
+status_ok s = bit s.halted && (nat_lt s.fault 4 && (s.halted == 0 || s.fault == 0))
 
 -- "PA; sound channel (0-15, 16 = off) and mode (0 once, 1 loop)"
-unfoldable pub outputsOk : Outputs → Bool
-outputsOk o = nibble o.pa && (nat_lt o.channel 17 && bit o.mode)
+unfoldable pub outputs_ok : Outputs → Bool
+outputs_ok o = nibble o.pa && (nat_lt o.channel 17 && bit o.mode)
 
 -- "levels of PM, PS, PP and INT"
-unfoldable pub pinsOk : Pins → Bool
-pinsOk p = nibble p.pm && (nibble p.ps && (nibble p.pp && bit p.int))
+unfoldable pub pins_ok : Pins → Bool
+pins_ok p = nibble p.pm && (nibble p.ps && (nibble p.pp && bit p.int))
 
 -- "timer rate n (0-13 but not 6) or 255 for the external clock; commons 3 or 4; a wake nibble each for PM, PS, PP"
-unfoldable pub optionsOk : Options → Bool
-optionsOk o =
+unfoldable pub options_ok : Options → Bool
+options_ok o =
     (nat_lt o.rate 14 && not (o.rate == 6) || o.rate == 255)
     && ((o.commons == 3 || o.commons == 4) && (nibble o.pm && (nibble o.ps && nibble o.pp)))
 
 -- the processor; "The cycle count has 32 bits"
-unfoldable pub cpuOk : Cpu → Bool
-cpuOk c =
-    registersOk c.registers
-    && (controlOk c.control
-    && (timerOk c.timer
-    && (interruptsOk c.interrupts
-    && (stackOk c.stack
-    && (statusOk c.status
-    && (outputsOk c.outputs
-    && (pinsOk c.pins
-    && (optionsOk c.options && nat_lt c.cycles (2 ^ 32)))))))))
+unfoldable pub cpu_ok : Cpu → Bool
+cpu_ok c =
+    registers_ok c.registers
+    && (control_ok c.control
+    && (timer_ok c.timer
+    && (interrupts_ok c.interrupts
+    && (stack_ok c.stack
+    && (status_ok c.status
+    && (outputs_ok c.outputs
+    && (pins_ok c.pins
+    && (options_ok c.options && nat_lt c.cycles (2 ^ 32)))))))))
 
 -- "data memory 00h-7Fh and E0h-FFh in nibbles"
-unfoldable pub memoryOk : List ℕ → Bool
-memoryOk m = length m == memorySize && nibbles m
+unfoldable pub memory_ok : List ℕ → Bool
+memory_ok m = length m == memory_size && nibbles m
 
 unfoldable pub valid : State → Bool
-valid s = cpuOk s.cpu && memoryOk s.memory
+valid s = cpu_ok s.cpu && memory_ok s.memory

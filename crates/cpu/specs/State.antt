@@ -20,92 +20,92 @@ pub record State : Type 0 where
 abbrev pub state : Cpu → List ℕ → State
 state c m = record { cpu = c; memory = m }
 
-abbrev pub onCpu : (Cpu → Cpu) → State → State
-onCpu f s = state (f s.cpu) s.memory
+abbrev pub on_cpu : (Cpu → Cpu) → State → State
+on_cpu f s = state (f s.cpu) s.memory
 
 abbrev pub address : ℕ → ProgramAddress
 address a = record { 0 = a }
 
-abbrev pub withRegisters : Registers → Cpu → Cpu
-withRegisters x c = record { registers = x; control = c.control; timer = c.timer; interrupts = c.interrupts; stack = c.stack; status = c.status; outputs = c.outputs; pins = c.pins; options = c.options; cycles = c.cycles }
+abbrev pub with_registers : Registers → Cpu → Cpu
+with_registers x c = record { registers = x; control = c.control; timer = c.timer; interrupts = c.interrupts; stack = c.stack; status = c.status; outputs = c.outputs; pins = c.pins; options = c.options; cycles = c.cycles }
 
-abbrev pub withControl : Control → Cpu → Cpu
-withControl x c = record { registers = c.registers; control = x; timer = c.timer; interrupts = c.interrupts; stack = c.stack; status = c.status; outputs = c.outputs; pins = c.pins; options = c.options; cycles = c.cycles }
+abbrev pub with_control : Control → Cpu → Cpu
+with_control x c = record { registers = c.registers; control = x; timer = c.timer; interrupts = c.interrupts; stack = c.stack; status = c.status; outputs = c.outputs; pins = c.pins; options = c.options; cycles = c.cycles }
 
-abbrev pub withTimer : Timer → Cpu → Cpu
-withTimer x c = record { registers = c.registers; control = c.control; timer = x; interrupts = c.interrupts; stack = c.stack; status = c.status; outputs = c.outputs; pins = c.pins; options = c.options; cycles = c.cycles }
+abbrev pub with_timer : Timer → Cpu → Cpu
+with_timer x c = record { registers = c.registers; control = c.control; timer = x; interrupts = c.interrupts; stack = c.stack; status = c.status; outputs = c.outputs; pins = c.pins; options = c.options; cycles = c.cycles }
 
-abbrev pub withInterrupts : Interrupts → Cpu → Cpu
-withInterrupts x c = record { registers = c.registers; control = c.control; timer = c.timer; interrupts = x; stack = c.stack; status = c.status; outputs = c.outputs; pins = c.pins; options = c.options; cycles = c.cycles }
+abbrev pub with_interrupts : Interrupts → Cpu → Cpu
+with_interrupts x c = record { registers = c.registers; control = c.control; timer = c.timer; interrupts = x; stack = c.stack; status = c.status; outputs = c.outputs; pins = c.pins; options = c.options; cycles = c.cycles }
 
-abbrev pub withStack : Stack → Cpu → Cpu
-withStack x c = record { registers = c.registers; control = c.control; timer = c.timer; interrupts = c.interrupts; stack = x; status = c.status; outputs = c.outputs; pins = c.pins; options = c.options; cycles = c.cycles }
+abbrev pub with_stack : Stack → Cpu → Cpu
+with_stack x c = record { registers = c.registers; control = c.control; timer = c.timer; interrupts = c.interrupts; stack = x; status = c.status; outputs = c.outputs; pins = c.pins; options = c.options; cycles = c.cycles }
 
-abbrev pub withStatus : Status → Cpu → Cpu
-withStatus x c = record { registers = c.registers; control = c.control; timer = c.timer; interrupts = c.interrupts; stack = c.stack; status = x; outputs = c.outputs; pins = c.pins; options = c.options; cycles = c.cycles }
+abbrev pub with_status : Status → Cpu → Cpu
+with_status x c = record { registers = c.registers; control = c.control; timer = c.timer; interrupts = c.interrupts; stack = c.stack; status = x; outputs = c.outputs; pins = c.pins; options = c.options; cycles = c.cycles }
 
-abbrev pub withOutputs : Outputs → Cpu → Cpu
-withOutputs x c = record { registers = c.registers; control = c.control; timer = c.timer; interrupts = c.interrupts; stack = c.stack; status = c.status; outputs = x; pins = c.pins; options = c.options; cycles = c.cycles }
+abbrev pub with_outputs : Outputs → Cpu → Cpu
+with_outputs x c = record { registers = c.registers; control = c.control; timer = c.timer; interrupts = c.interrupts; stack = c.stack; status = c.status; outputs = x; pins = c.pins; options = c.options; cycles = c.cycles }
 
-abbrev pub withPins : Pins → Cpu → Cpu
-withPins x c = record { registers = c.registers; control = c.control; timer = c.timer; interrupts = c.interrupts; stack = c.stack; status = c.status; outputs = c.outputs; pins = x; options = c.options; cycles = c.cycles }
+abbrev pub with_pins : Pins → Cpu → Cpu
+with_pins x c = record { registers = c.registers; control = c.control; timer = c.timer; interrupts = c.interrupts; stack = c.stack; status = c.status; outputs = c.outputs; pins = x; options = c.options; cycles = c.cycles }
 
-abbrev pub withCycles : ℕ → Cpu → Cpu
-withCycles x c = record { registers = c.registers; control = c.control; timer = c.timer; interrupts = c.interrupts; stack = c.stack; status = c.status; outputs = c.outputs; pins = c.pins; options = c.options; cycles = x }
+abbrev pub with_cycles : ℕ → Cpu → Cpu
+with_cycles x c = record { registers = c.registers; control = c.control; timer = c.timer; interrupts = c.interrupts; stack = c.stack; status = c.status; outputs = c.outputs; pins = c.pins; options = c.options; cycles = x }
 
-abbrev pub withAcc : ℕ → Cpu → Cpu
-withAcc x c = withRegisters (record { acc = x; r0 = c.registers.r0; r1 = c.registers.r1; r2 = c.registers.r2; r3 = c.registers.r3; r4 = c.registers.r4 }) c
+abbrev pub with_acc : ℕ → Cpu → Cpu
+with_acc x c = with_registers (record { acc = x; r0 = c.registers.r0; r1 = c.registers.r1; r2 = c.registers.r2; r3 = c.registers.r3; r4 = c.registers.r4 }) c
 
-abbrev pub withR0 : ℕ → Cpu → Cpu
-withR0 x c = withRegisters (record { acc = c.registers.acc; r0 = x; r1 = c.registers.r1; r2 = c.registers.r2; r3 = c.registers.r3; r4 = c.registers.r4 }) c
+abbrev pub with_r0 : ℕ → Cpu → Cpu
+with_r0 x c = with_registers (record { acc = c.registers.acc; r0 = x; r1 = c.registers.r1; r2 = c.registers.r2; r3 = c.registers.r3; r4 = c.registers.r4 }) c
 
-abbrev pub withR1 : ℕ → Cpu → Cpu
-withR1 x c = withRegisters (record { acc = c.registers.acc; r0 = c.registers.r0; r1 = x; r2 = c.registers.r2; r3 = c.registers.r3; r4 = c.registers.r4 }) c
+abbrev pub with_r1 : ℕ → Cpu → Cpu
+with_r1 x c = with_registers (record { acc = c.registers.acc; r0 = c.registers.r0; r1 = x; r2 = c.registers.r2; r3 = c.registers.r3; r4 = c.registers.r4 }) c
 
-abbrev pub withR2 : ℕ → Cpu → Cpu
-withR2 x c = withRegisters (record { acc = c.registers.acc; r0 = c.registers.r0; r1 = c.registers.r1; r2 = x; r3 = c.registers.r3; r4 = c.registers.r4 }) c
+abbrev pub with_r2 : ℕ → Cpu → Cpu
+with_r2 x c = with_registers (record { acc = c.registers.acc; r0 = c.registers.r0; r1 = c.registers.r1; r2 = x; r3 = c.registers.r3; r4 = c.registers.r4 }) c
 
-abbrev pub withR3 : ℕ → Cpu → Cpu
-withR3 x c = withRegisters (record { acc = c.registers.acc; r0 = c.registers.r0; r1 = c.registers.r1; r2 = c.registers.r2; r3 = x; r4 = c.registers.r4 }) c
+abbrev pub with_r3 : ℕ → Cpu → Cpu
+with_r3 x c = with_registers (record { acc = c.registers.acc; r0 = c.registers.r0; r1 = c.registers.r1; r2 = c.registers.r2; r3 = x; r4 = c.registers.r4 }) c
 
-abbrev pub withR4 : ℕ → Cpu → Cpu
-withR4 x c = withRegisters (record { acc = c.registers.acc; r0 = c.registers.r0; r1 = c.registers.r1; r2 = c.registers.r2; r3 = c.registers.r3; r4 = x }) c
+abbrev pub with_r4 : ℕ → Cpu → Cpu
+with_r4 x c = with_registers (record { acc = c.registers.acc; r0 = c.registers.r0; r1 = c.registers.r1; r2 = c.registers.r2; r3 = c.registers.r3; r4 = x }) c
 
-abbrev pub withPc : ProgramAddress → Cpu → Cpu
-withPc x c = withControl (record { pc = x; cf = c.control.cf; tf = c.control.tf }) c
+abbrev pub with_pc : ProgramAddress → Cpu → Cpu
+with_pc x c = with_control (record { pc = x; cf = c.control.cf; tf = c.control.tf }) c
 
-abbrev pub withCf : ℕ → Cpu → Cpu
-withCf x c = withControl (record { pc = c.control.pc; cf = x; tf = c.control.tf }) c
+abbrev pub with_cf : ℕ → Cpu → Cpu
+with_cf x c = with_control (record { pc = c.control.pc; cf = x; tf = c.control.tf }) c
 
-abbrev pub withTf : ℕ → Cpu → Cpu
-withTf x c = withControl (record { pc = c.control.pc; cf = c.control.cf; tf = x }) c
+abbrev pub with_tf : ℕ → Cpu → Cpu
+with_tf x c = with_control (record { pc = c.control.pc; cf = c.control.cf; tf = x }) c
 
-abbrev pub withCount : ℕ → Cpu → Cpu
-withCount x c = withTimer (record { count = x; running = c.timer.running }) c
+abbrev pub with_count : ℕ → Cpu → Cpu
+with_count x c = with_timer (record { count = x; running = c.timer.running }) c
 
-abbrev pub withRunning : ℕ → Cpu → Cpu
-withRunning x c = withTimer (record { count = c.timer.count; running = x }) c
+abbrev pub with_running : ℕ → Cpu → Cpu
+with_running x c = with_timer (record { count = c.timer.count; running = x }) c
 
-abbrev pub withEnabled : ℕ → Cpu → Cpu
-withEnabled x c = withInterrupts (record { enabled = x; held = c.interrupts.held; level = c.interrupts.level }) c
+abbrev pub with_enabled : ℕ → Cpu → Cpu
+with_enabled x c = with_interrupts (record { enabled = x; held = c.interrupts.held; level = c.interrupts.level }) c
 
-abbrev pub withHeld : ℕ → Cpu → Cpu
-withHeld x c = withInterrupts (record { enabled = c.interrupts.enabled; held = x; level = c.interrupts.level }) c
+abbrev pub with_held : ℕ → Cpu → Cpu
+with_held x c = with_interrupts (record { enabled = c.interrupts.enabled; held = x; level = c.interrupts.level }) c
 
-abbrev pub withLevel : ℕ → Cpu → Cpu
-withLevel x c = withInterrupts (record { enabled = c.interrupts.enabled; held = c.interrupts.held; level = x }) c
+abbrev pub with_level : ℕ → Cpu → Cpu
+with_level x c = with_interrupts (record { enabled = c.interrupts.enabled; held = c.interrupts.held; level = x }) c
 
-abbrev pub withHalted : ℕ → Cpu → Cpu
-withHalted x c = withStatus (record { halted = x; fault = c.status.fault }) c
+abbrev pub with_halted : ℕ → Cpu → Cpu
+with_halted x c = with_status (record { halted = x; fault = c.status.fault }) c
 
-abbrev pub withFault : ℕ → Cpu → Cpu
-withFault x c = withStatus (record { halted = c.status.halted; fault = x }) c
+abbrev pub with_fault : ℕ → Cpu → Cpu
+with_fault x c = with_status (record { halted = c.status.halted; fault = x }) c
 
-abbrev pub withPa : ℕ → Cpu → Cpu
-withPa x c = withOutputs (record { pa = x; channel = c.outputs.channel; mode = c.outputs.mode }) c
+abbrev pub with_pa : ℕ → Cpu → Cpu
+with_pa x c = with_outputs (record { pa = x; channel = c.outputs.channel; mode = c.outputs.mode }) c
 
-abbrev pub withChannel : ℕ → Cpu → Cpu
-withChannel x c = withOutputs (record { pa = c.outputs.pa; channel = x; mode = c.outputs.mode }) c
+abbrev pub with_channel : ℕ → Cpu → Cpu
+with_channel x c = with_outputs (record { pa = c.outputs.pa; channel = x; mode = c.outputs.mode }) c
 
-abbrev pub withMode : ℕ → Cpu → Cpu
-withMode x c = withOutputs (record { pa = c.outputs.pa; channel = c.outputs.channel; mode = x }) c
+abbrev pub with_mode : ℕ → Cpu → Cpu
+with_mode x c = with_outputs (record { pa = c.outputs.pa; channel = c.outputs.channel; mode = x }) c

@@ -1,64 +1,64 @@
 -- Document 01, "One step, and events": one step. Assumes nothing.
 use Rattle.std.specs.Prelude.{ℕ, ◌+◌, ◌%◌, ◌^◌, Bool, not, ◌&&◌, List, ◌==◌}
 use Rattle.isa.specs.Choice.{pick}
-use Rattle.isa.specs.Reading.{faultNumber}
-use Rattle.rom.specs.Fetching.{readAt, length_at, cyclesAt, movedBy}
+use Rattle.isa.specs.Reading.{fault_number}
+use Rattle.rom.specs.Fetching.{read_at, length_at, cycles_at, moved_by}
 use Rattle.isa.specs.declared.Instruction.{Instruction}
 use Rattle.isa.specs.declared.decoder.Decoded.{Decoded}
 use Rattle.isa.specs.declared.decoder.Decoded.TheVariants.{Read, Unreadable}
 use Rattle.datapath.specs.Timer.{clocks, counted}
 use Rattle.datapath.specs.declared.timer.Count.{Count}
-use Rattle.cpu.specs.State.{State, state, onCpu, address, withPc, withTf, withCount, withHeld, withLevel, withStack, withFault, withCycles}
+use Rattle.cpu.specs.State.{State, state, on_cpu, address, with_pc, with_tf, with_count, with_held, with_level, with_stack, with_fault, with_cycles}
 use Rattle.cpu.specs.Effect.{effect}
 use Rattle.cpu.specs.declared.Cpu.{Cpu}
 
 -- the timer's new count in the processor: "passing 255 to 0 sets TF"
 abbrev pub timed : Count → Cpu → Cpu
-timed k c = withCount k.count (pick (k.passed == 1) (withTf 1 c) c)
+timed k c = with_count k.count (pick (k.passed == 1) (with_tf 1 c) c)
 
 -- n cycles spent: a running timer moves on by the clocks since the old cycle count, which then goes on, past its largest value to zero
 unfoldable pub ticked : ℕ → Cpu → Cpu
 ticked n c =
-    withCycles ((c.cycles + n) % 2 ^ 32)
+    with_cycles ((c.cycles + n) % 2 ^ 32)
     (pick (c.timer.running == 1) (timed (counted c.timer.count (clocks c.options.rate c.cycles n)) c) c)
 
 -- "the old PC and CF go to the stack, level 2, 2 cycles"
 unfoldable pub entered : ℕ → Cpu → Cpu
 entered vector c =
-    ticked 2 (withStack (record { address = c.control.pc; carry = c.control.cf }) (withLevel 2 (withPc (address vector) c)))
+    ticked 2 (with_stack (record { address = c.control.pc; carry = c.control.cf }) (with_level 2 (with_pc (address vector) c)))
 
 -- "PC moves on by the length, modulo 4,096, before the effect"
 abbrev pub moved : ℕ → Cpu → Cpu
-moved size c = withPc (address (movedBy size c.control.pc.0)) c
+moved size c = with_pc (address (moved_by size c.control.pc.0)) c
 
 -- "A fault leaves the machine as before that instruction, with the fault set", and no cycles are spent
 abbrev pub settled : ℕ → State → State → State
 settled n before after =
-    pick (after.cpu.status.fault == 0) (onCpu (ticked n) after) (onCpu (withFault after.cpu.status.fault) before)
+    pick (after.cpu.status.fault == 0) (on_cpu (ticked n) after) (on_cpu (with_fault after.cpu.status.fault) before)
 
 -- "An instruction that cannot be read gives fault 1"
 abbrev pub instructed : List ℕ → Decoded → ℕ → ℕ → State → State
-instructed mask (Read i) size cycles s = settled cycles s (effect mask i (onCpu (moved size) s))
-instructed mask Unreadable size cycles s = onCpu (withFault (faultNumber Unreadable)) s
+instructed mask (Read i) size cycles s = settled cycles s (effect mask i (on_cpu (moved size) s))
+instructed mask Unreadable size cycles s = on_cpu (with_fault (fault_number Unreadable)) s
 
 -- "Otherwise one instruction runs"
 unfoldable pub executed : List ℕ → State → State
 executed mask s =
     let pc : ℕ = s.cpu.control.pc.0 in
-    instructed mask (readAt mask pc) (length_at mask pc) (cyclesAt mask pc) s
+    instructed mask (read_at mask pc) (length_at mask pc) (cycles_at mask pc) s
 
 -- the vector of the interrupt that a step takes, 0 for none: "in level 0 with the enable flag on, a held edge is taken (PC 8, held
 -- edge cleared), or else TF (PC 4, TF cleared)"
-unfoldable pub vectorOf : Cpu → ℕ
-vectorOf c =
+unfoldable pub vector_of : Cpu → ℕ
+vector_of c =
     pick (c.interrupts.level == 0 && c.interrupts.enabled == 1)
     (pick (c.interrupts.held == 1) 8 (pick (c.control.tf == 1) 4 0))
     0
 
 unfoldable pub stepped : List ℕ → State → State
 stepped mask s =
-    pick (vectorOf s.cpu == 8) (onCpu (λ (c : Cpu). entered 8 (withHeld 0 c)) s)
-    (pick (vectorOf s.cpu == 4) (onCpu (λ (c : Cpu). entered 4 (withTf 0 c)) s)
+    pick (vector_of s.cpu == 8) (on_cpu (λ (c : Cpu). entered 8 (with_held 0 c)) s)
+    (pick (vector_of s.cpu == 4) (on_cpu (λ (c : Cpu). entered 4 (with_tf 0 c)) s)
     (executed mask s))
 
 -- "A step on a machine neither halted nor faulted"; "A step when halted or faulted changes nothing"

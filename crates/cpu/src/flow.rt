@@ -1,8 +1,8 @@
 // Branches, subroutines and table reads.
 ghost use Rattle.std.specs.Prelude.{◌≡◌, ◌+◌, ◌*◌, ◌<◌};
 ghost use Rattle.isa.specs.Choice.{pick};
-ghost use Rattle.rom.specs.Fetching.{branchTo, byteAt};
-ghost use Rattle.cpu.specs.Effect.{called, page_of, returned, returnedWithCarry};
+ghost use Rattle.rom.specs.Fetching.{branch_to, byte_at};
+ghost use Rattle.cpu.specs.Effect.{called, page_of, returned, returned_with_carry};
 ghost use Rattle.cpu.specs.State.{address};
 ghost use Rattle.cpu.specs.declared.Cpu.{Cpu};
 
@@ -13,7 +13,7 @@ use rom::reader::byte_at;
 // Where a conditional branch goes: bit 11 of the moved PC stays. On numbers alone, as what an instruction does on many ways should be: the
 // processor then stays in registers.
 pub(crate) fn branch_to(taken: bool, pc: u16, target: u16) -> u16
-    ensures { result ≡ pick taken (branchTo pc (address target)) pc }
+    ensures { result ≡ pick taken (branch_to pc (address target)) pc }
 {
     if taken {
         return pc / 2048 * 2048 + target % 2048;
@@ -35,7 +35,7 @@ pub(crate) fn page(p: Page, pc: u16) -> u16
 // The ROM byte that a table read takes: its page, then two nibbles.
 pub(crate) fn table(mask: &[u8], page: u16, high: u8, low: u8) -> u8
     requires { page < 16 }
-    ensures { result ≡ byteAt mask.now (page * 256 + 16 * high + low) }
+    ensures { result ≡ byte_at mask.now (page * 256 + 16 * high + low) }
 {
     byte_at(mask, page * 256 + 16 * high as u16 + low as u16)
 }
@@ -73,7 +73,7 @@ impl Cpu {
 
     // RETI: CF comes back too.
     pub(crate) fn reti(mut self) -> Cpu
-        ensures { result ≡ returnedWithCarry self }
+        ensures { result ≡ returned_with_carry self }
     {
         if self.interrupts.level == 0 {
             self.status.fault = 3;

@@ -1,8 +1,8 @@
 // What an instruction reads and writes: data memory and registers.
 ghost use Rattle.std.specs.Prelude.{◌≡◌, [], ◌∷◌};
 ghost use Rattle.datapath.specs.Memory.{strays, tallied};
-ghost use Rattle.cpu.specs.Effect.{nibbleAt, place_of, registerOf, taking, withNibble, withPair, withRegister};
-ghost use Rattle.cpu.specs.State.{state, withAcc};
+ghost use Rattle.cpu.specs.Effect.{nibble_at, place_of, register_of, taking, with_nibble, with_pair, with_register};
+ghost use Rattle.cpu.specs.State.{state, with_acc};
 
 use crate::Cpu;
 use datapath::alu::Sum;
@@ -22,7 +22,7 @@ impl Cpu {
 
     // The nibble there. `gap` counts the read where it strays.
     pub(crate) fn operand(self, p: Pointer, memory: &[u8; MEMORY], gap: &mut u16) -> u8
-        ensures value { result ≡ nibbleAt p (state self memory.now) }
+        ensures value { result ≡ nibble_at p (state self memory.now) }
         ensures gap_after { gap.new ≡ tallied gap.old (strays (place_of p self ∷ [])) }
     {
         let a = self.place(p);
@@ -33,7 +33,7 @@ impl Cpu {
 
     // Writes the nibble there. `gap` counts the write where it strays.
     pub(crate) fn put(self, p: Pointer, memory: &mut [u8; MEMORY], value: u8, gap: &mut u16)
-        ensures memory_after { state self memory.new ≡ withNibble p value (state self memory.old) }
+        ensures memory_after { state self memory.new ≡ with_nibble p value (state self memory.old) }
         ensures gap_after { gap.new ≡ tallied gap.old (strays (place_of p self ∷ [])) }
     {
         let a = self.place(p);
@@ -53,7 +53,7 @@ impl Cpu {
     }
 
     pub(crate) fn set_acc(mut self, value: u8) -> Cpu
-        ensures { result ≡ withAcc value self }
+        ensures { result ≡ with_acc value self }
     {
         self.registers.acc = value;
         self
@@ -61,7 +61,7 @@ impl Cpu {
 
     // Rn.
     pub(crate) fn register(self, n: u8) -> u8
-        ensures { result ≡ registerOf n self }
+        ensures { result ≡ register_of n self }
     {
         if n == 0 {
             return self.registers.r0;
@@ -79,7 +79,7 @@ impl Cpu {
     }
 
     pub(crate) fn set_register(mut self, n: u8, value: u8) -> Cpu
-        ensures { result ≡ withRegister n value self }
+        ensures { result ≡ with_register n value self }
     {
         if n == 0 {
             self.registers.r0 = value;
@@ -103,7 +103,7 @@ impl Cpu {
 
     // MOV R1R0,XXH and MOV R3R2,XXH.
     pub(crate) fn set_pair(mut self, p: Pointer, low: u8, high: u8) -> Cpu
-        ensures { result ≡ withPair p low high self }
+        ensures { result ≡ with_pair p low high self }
     {
         match p {
             Pointer::R1R0 => {

@@ -1,7 +1,7 @@
 // Run.
 ghost use Rattle.std.specs.Prelude.{◌≡◌};
 ghost use Rattle.datapath.specs.Memory.{tallied};
-ghost use Rattle.cpu.specs.Gap.{straysIn};
+ghost use Rattle.cpu.specs.Gap.{strays_in};
 ghost use Rattle.cpu.specs.Run.{ran};
 ghost use Rattle.cpu.specs.State.{state};
 
@@ -12,7 +12,7 @@ impl Cpu {
     // At most `steps` steps; none once halted or faulted. Memory and count are lent, so that the loop moves numbers alone.
     pub fn run(self, mask: &[u8], memory: &mut [u8; MEMORY], steps: u16, gap: &mut u16) -> Cpu
         ensures memory_after { state result memory.new ≡ ran mask.now steps (state self memory.old) }
-        ensures gap_after { gap.new ≡ tallied gap.old (straysIn mask.now steps (state self memory.old)) }
+        ensures gap_after { gap.new ≡ tallied gap.old (strays_in mask.now steps (state self memory.old)) }
     {
         if self.status.halted != 0 {
             return self;

@@ -2,9 +2,9 @@
 ghost use Rattle.std.specs.Prelude.{◌≡◌, ◌==◌};
 ghost use Rattle.isa.specs.Choice.{pick};
 ghost use Rattle.datapath.specs.Memory.{tallied};
-ghost use Rattle.cpu.specs.Gap.{straysAt, straysBy};
-ghost use Rattle.cpu.specs.State.{state, withHeld, withTf};
-ghost use Rattle.cpu.specs.Step.{entered, executed, step, ticked, timed, vectorOf};
+ghost use Rattle.cpu.specs.Gap.{strays_at, strays_by};
+ghost use Rattle.cpu.specs.State.{state, with_held, with_tf};
+ghost use Rattle.cpu.specs.Step.{entered, executed, step, ticked, timed, vector_of};
 
 use crate::Cpu;
 use datapath::memory::MEMORY;
@@ -56,7 +56,7 @@ impl Cpu {
 
     // An interrupt is taken: PC and CF go to the stack, and what called for it is cleared, the held edge for 8 and TF for 4.
     pub(crate) fn enter(mut self, vector: u16) -> Cpu
-        ensures { result ≡ entered vector (pick (vector == 8) (withHeld 0 self) (withTf 0 self)) }
+        ensures { result ≡ entered vector (pick (vector == 8) (with_held 0 self) (with_tf 0 self)) }
     {
         let pc = self.control.pc.0;
         let cf = self.control.cf;
@@ -74,7 +74,7 @@ impl Cpu {
 
     // The vector of the interrupt to take, 0 for none: a held edge goes before TF.
     pub(crate) fn pending(self) -> u16
-        ensures { result ≡ vectorOf self }
+        ensures { result ≡ vector_of self }
     {
         if self.interrupts.enabled != 1 {
             return 0;
@@ -96,7 +96,7 @@ impl Cpu {
     fn execute(mut self, mask: &[u8], memory: &mut [u8; MEMORY], gap: &mut u16) -> Cpu
         requires { self.status.fault ≡ 0 }
         ensures memory_after { state result memory.new ≡ executed mask.now (state self memory.old) }
-        ensures gap_after { gap.new ≡ tallied gap.old (straysAt mask.now (state self memory.old)) }
+        ensures gap_after { gap.new ≡ tallied gap.old (strays_at mask.now (state self memory.old)) }
     {
         let before = self.control.pc.0;
         let code = code_at(mask, before);
@@ -120,7 +120,7 @@ impl Cpu {
     pub(crate) fn go_on(self, mask: &[u8], memory: &mut [u8; MEMORY], gap: &mut u16) -> Cpu
         requires { (self.status.halted ≡ 0) × (self.status.fault ≡ 0) }
         ensures memory_after { state result memory.new ≡ step mask.now (state self memory.old) }
-        ensures gap_after { gap.new ≡ tallied gap.old (straysBy mask.now (state self memory.old)) }
+        ensures gap_after { gap.new ≡ tallied gap.old (strays_by mask.now (state self memory.old)) }
     {
         let vector = self.pending();
         if vector != 0 {
@@ -132,7 +132,7 @@ impl Cpu {
     // One step, on the data memory that is lent.
     pub fn step(self, mask: &[u8], memory: &mut [u8; MEMORY], gap: &mut u16) -> Cpu
         ensures memory_after { state result memory.new ≡ step mask.now (state self memory.old) }
-        ensures gap_after { gap.new ≡ tallied gap.old (straysBy mask.now (state self memory.old)) }
+        ensures gap_after { gap.new ≡ tallied gap.old (strays_by mask.now (state self memory.old)) }
     {
         if self.status.halted != 0 {
             return self;

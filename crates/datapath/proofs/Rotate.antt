@@ -3,7 +3,7 @@
 use Prim.Native.Nat.{ℕ, ◌+◌, ◌*◌, ◌/◌, ◌%◌}
 use mathlib.Core.Path.{◌≡◌}
 use native.Mathlib.Omega.{arith}
-use Rattle.datapath.specs.Alu.{bit, nibbleOf}
+use Rattle.datapath.specs.Alu.{bit, nibble_of}
 use Rattle.datapath.specs.declared.alu.Sum.{Sum}
 
 -- the bit that leaves: of a flag, on the right, on the left
@@ -35,13 +35,13 @@ upper a =
 
 -- left, with x in bit 0
 pub left : {x y c d : ℕ} (a : ℕ) → x ≡ y → c ≡ d
-    → ◌≡◌ {A = Sum} (record { value = a % 16 * 2 % 16 + x; carry = c }) (record { value = nibbleOf (bit 2 a) (bit 1 a) (bit 0 a) y; carry = d })
+    → ◌≡◌ {A = Sum} (record { value = a % 16 * 2 % 16 + x; carry = c }) (record { value = nibble_of (bit 2 a) (bit 1 a) (bit 0 a) y; carry = d })
 left a p q = λ k. record { value = lower a k + p k; carry = q k }
 
 -- right, with x in bit 3
 pub right : {x y c d : ℕ} (a : ℕ) → x ≡ y → c ≡ d
-    → ◌≡◌ {A = Sum} (record { value = a % 16 / 2 + x * 8; carry = c }) (record { value = nibbleOf y (bit 3 a) (bit 2 a) (bit 1 a); carry = d })
+    → ◌≡◌ {A = Sum} (record { value = a % 16 / 2 + x * 8; carry = c }) (record { value = nibble_of y (bit 3 a) (bit 2 a) (bit 1 a); carry = d })
 right {x} {y} a p q = λ k. record { value = moved k; carry = q k }
   where
-    moved : a % 16 / 2 + x * 8 ≡ nibbleOf y (bit 3 a) (bit 2 a) (bit 1 a)
+    moved : a % 16 / 2 + x * 8 ≡ nibble_of y (bit 3 a) (bit 2 a) (bit 1 a)
     moved = omega (arith, upper a)

@@ -5,7 +5,7 @@ use mathlib.Core.List.{List, [], ◌∷◌, ◌++◌}
 use native.Mathlib.Nat.{add_assoc, add-zero, zero-add, suc-add}
 use Rattle.isa.specs.declared.DataAddress.{DataAddress}
 use Rattle.datapath.specs.Alu.{flag}
-use Rattle.datapath.specs.Memory.{inGap, strays, tallied}
+use Rattle.datapath.specs.Memory.{in_gap, strays, tallied}
 
 -- a, and then b more
 pub tallied-add : (count a b : ℕ) → tallied (tallied count a) b ≡ tallied count (a + b)
@@ -16,12 +16,12 @@ tallied-add count (suc a) b = tallied-add _ a b ∙ ap (tallied count) (sym (suc
 strays-append : (l m : List DataAddress) → strays l + strays m ≡ strays (l ++ m)
 unfolding strays
 strays-append [] m = zero-add (strays m)
-strays-append (a ∷ l) m = add_assoc (flag (inGap a)) (strays l) (strays m) ∙ ap (λ (n : ℕ). flag (inGap a) + n) (strays-append l m)
+strays-append (a ∷ l) m = add_assoc (flag (in_gap a)) (strays l) (strays m) ∙ ap (λ (n : ℕ). flag (in_gap a) + n) (strays-append l m)
 
 -- one access, and one list after the other
-pub tallied-one : (count : ℕ) (a : DataAddress) → tallied count (flag (inGap a)) ≡ tallied count (strays (a ∷ []))
+pub tallied-one : (count : ℕ) (a : DataAddress) → tallied count (flag (in_gap a)) ≡ tallied count (strays (a ∷ []))
 unfolding strays
-tallied-one count a = ap (tallied count) (sym (add-zero (flag (inGap a))))
+tallied-one count a = ap (tallied count) (sym (add-zero (flag (in_gap a))))
 
 pub tallied-append : (count : ℕ) (l m : List DataAddress) → tallied (tallied count (strays l)) (strays m) ≡ tallied count (strays (l ++ m))
 tallied-append count l m = tallied-add count (strays l) (strays m) ∙ ap (tallied count) (strays-append l m)

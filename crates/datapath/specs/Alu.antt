@@ -25,25 +25,25 @@ abbrev pub bit : ℕ → ℕ → ℕ
 bit n a = a / 2 ^ n % 2
 
 -- a nibble by its bits, bit 3 first
-abbrev pub nibbleOf : ℕ → ℕ → ℕ → ℕ → ℕ
-nibbleOf a₃ a₂ a₁ a₀ = 8 * a₃ + 4 * a₂ + 2 * a₁ + a₀
+abbrev pub nibble_of : ℕ → ℕ → ℕ → ℕ → ℕ
+nibble_of a₃ a₂ a₁ a₀ = 8 * a₃ + 4 * a₂ + 2 * a₁ + a₀
 
 -- The rotates by document 001's lines "Operation", n being 0, 1, 2; CF is bit 0 of its byte
 -- RL: "An+1 <- An, A0 <- A3, CF <- A3"
-abbrev pub rotatedLeft : ℕ → Sum
-rotatedLeft a = record { value = nibbleOf (bit 2 a) (bit 1 a) (bit 0 a) (bit 3 a); carry = bit 3 a }
+abbrev pub rotated_left : ℕ → Sum
+rotated_left a = record { value = nibble_of (bit 2 a) (bit 1 a) (bit 0 a) (bit 3 a); carry = bit 3 a }
 
 -- RLC: "An+1 <- An, A0 <- CF, CF <- A3"
-abbrev pub rotatedLeftThrough : ℕ → ℕ → Sum
-rotatedLeftThrough a c = record { value = nibbleOf (bit 2 a) (bit 1 a) (bit 0 a) (bit 0 c); carry = bit 3 a }
+abbrev pub rotated_left_through : ℕ → ℕ → Sum
+rotated_left_through a c = record { value = nibble_of (bit 2 a) (bit 1 a) (bit 0 a) (bit 0 c); carry = bit 3 a }
 
 -- RR: "An <- An+1, A3 <- A0, CF <- A0"
-abbrev pub rotatedRight : ℕ → Sum
-rotatedRight a = record { value = nibbleOf (bit 0 a) (bit 3 a) (bit 2 a) (bit 1 a); carry = bit 0 a }
+abbrev pub rotated_right : ℕ → Sum
+rotated_right a = record { value = nibble_of (bit 0 a) (bit 3 a) (bit 2 a) (bit 1 a); carry = bit 0 a }
 
 -- RRC: "An <- An+1, A3 <- CF, CF <- A0"
-abbrev pub rotatedRightThrough : ℕ → ℕ → Sum
-rotatedRightThrough a c = record { value = nibbleOf (bit 0 c) (bit 3 a) (bit 2 a) (bit 1 a); carry = bit 0 a }
+abbrev pub rotated_right_through : ℕ → ℕ → Sum
+rotated_right_through a c = record { value = nibble_of (bit 0 c) (bit 3 a) (bit 2 a) (bit 1 a); carry = bit 0 a }
 
 -- INC and DEC, modulo 16
 abbrev pub incremented : ℕ → ℕ
@@ -53,9 +53,9 @@ abbrev pub decremented : ℕ → ℕ
 decremented a = (a + 15) % 16
 
 -- JAn: bit n of ACC is 1, n being 0 to 3
-abbrev pub bitSet : ℕ → ℕ → Bool
-bitSet a n = eqb (bit (n % 4) a) 1
+abbrev pub bit_set : ℕ → ℕ → Bool
+bit_set a n = eqb (bit (n % 4) a) 1
 
 -- JNZ
-abbrev pub notZero : ℕ → Bool
-notZero a = not (eqb a 0)
+abbrev pub not_zero : ℕ → Bool
+not_zero a = not (eqb a 0)

@@ -7,8 +7,8 @@ use Rattle.datapath.specs.Alu.{flag}
 use Rattle.datapath.specs.declared.memory.Access.{Access}
 
 -- how many nibbles there are
-abbrev pub memorySize : ℕ
-memorySize = 160
+abbrev pub memory_size : ℕ
+memory_size = 160
 
 -- the address that a register pair names: 255 is the last
 abbrev pub pointed : ℕ → ℕ → DataAddress
@@ -24,17 +24,17 @@ stored m a v = pick (ltb a.0 0x80) (set m a.0 v) (pick (ltb a.0 0xe0) m (set m (
 
 -- ---- the gap
 -- "Masks that touch 80h-DFh work by luck. Every data read and write shall also tell whether it fell in the gap"
-abbrev pub inGap : DataAddress → Bool
-inGap a = not (ltb a.0 0x80) && ltb a.0 0xe0
+abbrev pub in_gap : DataAddress → Bool
+in_gap a = not (ltb a.0 0x80) && ltb a.0 0xe0
 
 -- what a read gives
 abbrev pub accessed : List ℕ → DataAddress → Access
-accessed m a = record { nibble = loaded m a; stray = inGap a }
+accessed m a = record { nibble = loaded m a; stray = in_gap a }
 
 -- how many of a list of accesses fell there
 unfoldable pub strays : List DataAddress → ℕ
 strays [] = 0
-strays (a ∷ rest) = flag (inGap a) + strays rest
+strays (a ∷ rest) = flag (in_gap a) + strays rest
 
 -- "the machine counts such accesses, stopping at 65,535": a count after n more, one by one
 unfoldable pub tallied : ℕ → ℕ → ℕ

@@ -1,7 +1,7 @@
 // The arithmetic and logic unit.
 ghost use Rattle.std.specs.Prelude.{◌≡◌, ◌-◌, ◌%◌, ◌+◌};
 ghost use Rattle.std.specs.Int.Bits.{bit_and, bit_or, bit_xor};
-ghost use Rattle.datapath.specs.Alu.{adjusted, bitSet, decremented, incremented, notZero, rotatedLeft, rotatedLeftThrough, rotatedRight, rotatedRightThrough, subtracted, summed};
+ghost use Rattle.datapath.specs.Alu.{adjusted, bit_set, decremented, incremented, not_zero, rotated_left, rotated_left_through, rotated_right, rotated_right_through, subtracted, summed};
 
 // A nibble and the carry that goes with it.
 #[derive(Drop)]
@@ -58,7 +58,7 @@ pub fn decimal_adjust(a: u8, carry: u8) -> Sum
 
 // RL: bit 3 goes round to bit 0 and into the carry.
 pub fn rotate_left(a: u8) -> Sum
-    ensures { result ≡ rotatedLeft a }
+    ensures { result ≡ rotated_left a }
 {
     let n = a % 16;
     Sum {
@@ -69,7 +69,7 @@ pub fn rotate_left(a: u8) -> Sum
 
 // RLC: the carry goes into bit 0, and bit 3 into the carry.
 pub fn rotate_left_through(a: u8, carry: u8) -> Sum
-    ensures { result ≡ rotatedLeftThrough a carry }
+    ensures { result ≡ rotated_left_through a carry }
 {
     let n = a % 16;
     Sum {
@@ -80,7 +80,7 @@ pub fn rotate_left_through(a: u8, carry: u8) -> Sum
 
 // RR: bit 0 goes round to bit 3 and into the carry.
 pub fn rotate_right(a: u8) -> Sum
-    ensures { result ≡ rotatedRight a }
+    ensures { result ≡ rotated_right a }
 {
     let n = a % 16;
     Sum {
@@ -91,7 +91,7 @@ pub fn rotate_right(a: u8) -> Sum
 
 // RRC: the carry goes into bit 3, and bit 0 into the carry.
 pub fn rotate_right_through(a: u8, carry: u8) -> Sum
-    ensures { result ≡ rotatedRightThrough a carry }
+    ensures { result ≡ rotated_right_through a carry }
 {
     let n = a % 16;
     Sum {
@@ -134,7 +134,7 @@ pub fn xor(a: u8, b: u8) -> u8
 
 // JAn: whether bit n is 1. n is below 4.
 pub fn bit_set(a: u8, n: u8) -> bool
-    ensures { result ≡ bitSet a n }
+    ensures { result ≡ bit_set a n }
 {
     let k = n % 4;
     (a >> k) % 2 == 1
@@ -142,7 +142,7 @@ pub fn bit_set(a: u8, n: u8) -> bool
 
 // JNZ.
 pub fn not_zero(a: u8) -> bool
-    ensures { result ≡ notZero a }
+    ensures { result ≡ not_zero a }
 {
     a != 0
 }

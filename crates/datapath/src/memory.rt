@@ -1,7 +1,7 @@
 // The data memory. Every data read goes by `load` and every data write by `store`, and each tells whether it fell in the gap, 80h-DFh.
 ghost use Rattle.std.specs.Prelude.{◌≡◌};
 ghost use Rattle.datapath.specs.Alu.{flag};
-ghost use Rattle.datapath.specs.Memory.{accessed, inGap, pointed, stored, tallied};
+ghost use Rattle.datapath.specs.Memory.{accessed, in_gap, pointed, stored, tallied};
 
 use isa::DataAddress;
 
@@ -48,7 +48,7 @@ pub fn load(memory: &[u8; MEMORY], address: DataAddress) -> Access
 // Writes the nibble at an address; 80h-DFh ignore it. The answer tells whether the address is one of those.
 pub fn store(memory: &mut [u8; MEMORY], address: DataAddress, value: u8) -> bool
     ensures memory_after { memory.new ≡ stored memory.old address value }
-    ensures value { result ≡ inGap address }
+    ensures value { result ≡ in_gap address }
 {
     let a = address.0 as usize;
     if a < 0x80 {

@@ -6,7 +6,7 @@ use native.Mathlib.Omega.{arith}
 use lib.Dec.{eqb, ltb, lit<}
 use Rattle.glass.specs.Shapes.{Cell, blank, hyphen, shape}
 use Rattle.glass.specs.Pictures.{Digit, digit, lit}
-use Rattle.glass.specs.Drawing.{pointAt}
+use Rattle.glass.specs.Drawing.{point_at}
 use Rattle.glass.specs.Walk.{code_of, byte_of, placed}
 
 -- what holds of all ten shapes and of a blank holds of the shape of any number
@@ -46,7 +46,7 @@ chosen-small false false c d = lit< tt
 
 pub placed-small : (minus : Bool) (size count n after : ℕ) → (placed minus size count n after).abcd < 16
 placed-small minus size count n after =
-    chosen-small (ltb after n) (eqb after n) minus (digit (size / 10 ^ after % 10) (pointAt after count))
+    chosen-small (ltb after n) (eqb after n) minus (digit (size / 10 ^ after % 10) (point_at after count))
 
 -- the halves of a digit as one number
 pub low : (c : Cell) → c.abcd < 16 → byte_of c % 16 ≡ c.abcd

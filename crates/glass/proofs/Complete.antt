@@ -8,7 +8,7 @@ use lib.ListN.{length, replicate}
 use lib.Seq.{append_snoc}
 use Rattle.glass.specs.Shapes.{Cell, blank, hyphen}
 use Rattle.glass.specs.Pictures.{Digit, lit, Numerals, points, Reads}
-use Rattle.glass.specs.Walk.{front, start, numeralTaken, reading_of}
+use Rattle.glass.specs.Walk.{front, start, numeral_taken, reading_of}
 use Rattle.glass.specs.declared.Reading.{Reading}
 use Rattle.glass.specs.declared.Reading.TheVariants.{Dark, Number}
 use Rattle.glass.specs.declared.read.Front.{Front}
@@ -41,7 +41,7 @@ digits-taken m (d ∷ ds) es ns one =
     (digits-taken m ds (es ++ (d ∷ [])) ns.1 o ∙ ap {B = Walked} (λ (s : List Digit). ended (after m s)) e)
 
 -- the first digit is taken as one behind no digits
-first_taken : (m : Bool) (f : Front) (ds : List Digit) → ((k : ℕ) (p : Bool) → numeralTaken f k p ≡ numeralTaken (after m []) k p) → 0 < length ds → Numerals ds → points ds ≤ 1 → walked (map lit ds) f ≡ ended (after m ds)
+first_taken : (m : Bool) (f : Front) (ds : List Digit) → ((k : ℕ) (p : Bool) → numeral_taken f k p ≡ numeral_taken (after m []) k p) → 0 < length ds → Numerals ds → points ds ≤ 1 → walked (map lit ds) f ≡ ended (after m ds)
 first_taken m f [] h some ns one = absurd (omega (arith, some))
 first_taken m f (d ∷ ds) h some ns one =
     ap (λ (r : Next). onward r (walked (map lit ds)))

@@ -7,7 +7,7 @@ use mathlib.Core.Bool.{Bool, true, false, cond}
 use mathlib.Core.List.{List, [], ◌∷◌, ◌++◌, map, append_assoc, map-append}
 use lib.ListN.{length, replicate, length-append}
 use Rattle.glass.specs.Shapes.{Cell, blank, hyphen}
-use Rattle.glass.specs.Pictures.{Digit, lit, laid, Numerals, points, whole, afterPoint}
+use Rattle.glass.specs.Pictures.{Digit, lit, laid, Numerals, points, whole, after_point}
 
 pub length-snoc : (ds : List Digit) (d : Digit) → length (ds ++ (d ∷ [])) ≡ suc (length ds)
 length-snoc ds d = length-append ds (d ∷ []) ∙ omega arith
@@ -29,15 +29,15 @@ pub points-snoc : (ds : List Digit) (d : Digit) → points (ds ++ (d ∷ [])) �
 points-snoc [] d = omega arith
 points-snoc (e ∷ ds) d = let h = points-snoc ds d in omega (arith, h)
 
-pub no-places : (ds : List Digit) → points ds ≡ 0 → afterPoint ds ≡ 0
+pub no-places : (ds : List Digit) → points ds ≡ 0 → after_point ds ≡ 0
 no-places [] h = refl
 no-places (e ∷ ds) h = go e.pointed refl h (no-places ds)
   where
-    go : (b : Bool) → e.pointed ≡ b → cond b 1 0 + points ds ≡ 0 → (points ds ≡ 0 → afterPoint ds ≡ 0) → cond b (length ds) (afterPoint ds) ≡ 0
+    go : (b : Bool) → e.pointed ≡ b → cond b 1 0 + points ds ≡ 0 → (points ds ≡ 0 → after_point ds ≡ 0) → cond b (length ds) (after_point ds) ≡ 0
     go true k p r = absurd (omega (arith, p))
     go false k p r = r (omega (arith, p))
 
-pub places-snoc-none : (ds : List Digit) (d : Digit) → points ds ≡ 0 → afterPoint (ds ++ (d ∷ [])) ≡ 0
+pub places-snoc-none : (ds : List Digit) (d : Digit) → points ds ≡ 0 → after_point (ds ++ (d ∷ [])) ≡ 0
 places-snoc-none [] d h = go d.pointed
   where
     go : (b : Bool) → ◌≡◌ {A = ℕ} (cond b 0 0) 0
@@ -45,16 +45,16 @@ places-snoc-none [] d h = go d.pointed
     go false = refl
 places-snoc-none (e ∷ ds) d h = go e.pointed h (places-snoc-none ds d)
   where
-    go : (b : Bool) → cond b 1 0 + points ds ≡ 0 → (points ds ≡ 0 → afterPoint (ds ++ (d ∷ [])) ≡ 0) → cond b (length (ds ++ (d ∷ []))) (afterPoint (ds ++ (d ∷ []))) ≡ 0
+    go : (b : Bool) → cond b 1 0 + points ds ≡ 0 → (points ds ≡ 0 → after_point (ds ++ (d ∷ [])) ≡ 0) → cond b (length (ds ++ (d ∷ []))) (after_point (ds ++ (d ∷ []))) ≡ 0
     go true p r = absurd (omega (arith, p))
     go false p r = r (omega (arith, p))
 
-pub places-snoc-one : (ds : List Digit) (d : Digit) → points ds ≡ 1 → afterPoint (ds ++ (d ∷ [])) ≡ afterPoint ds + 1
+pub places-snoc-one : (ds : List Digit) (d : Digit) → points ds ≡ 1 → after_point (ds ++ (d ∷ [])) ≡ after_point ds + 1
 places-snoc-one [] d h = absurd (omega (arith, h))
 places-snoc-one (e ∷ ds) d h = go e.pointed h (places-snoc-one ds d)
   where
-    go : (b : Bool) → cond b 1 0 + points ds ≡ 1 → (points ds ≡ 1 → afterPoint (ds ++ (d ∷ [])) ≡ afterPoint ds + 1)
-        → cond b (length (ds ++ (d ∷ []))) (afterPoint (ds ++ (d ∷ []))) ≡ cond b (length ds) (afterPoint ds) + 1
+    go : (b : Bool) → cond b 1 0 + points ds ≡ 1 → (points ds ≡ 1 → after_point (ds ++ (d ∷ [])) ≡ after_point ds + 1)
+        → cond b (length (ds ++ (d ∷ []))) (after_point (ds ++ (d ∷ []))) ≡ cond b (length ds) (after_point ds) + 1
     go true p r = let k = length-snoc ds d in omega (arith, k)
     go false p r = r (omega (arith, p))
 
@@ -78,18 +78,18 @@ whole-under (d ∷ ds) h =
     under : (n x w : ℕ) → n < 10 → w < x → n * x + w < x * 10
     under n x w hn hw = let k : n * x ≤ 9 * x = mul-le-mul_right x (omega (arith, hn)) in omega (arith, k, hw)
 
-pub places-under : (ds : List Digit) → 0 < length ds → afterPoint ds < length ds
+pub places-under : (ds : List Digit) → 0 < length ds → after_point ds < length ds
 places-under [] h = h
 places-under (d ∷ ds) h = go d.pointed (at_most ds)
   where
-    at_most : (es : List Digit) → afterPoint es ≤ length es
+    at_most : (es : List Digit) → after_point es ≤ length es
     at_most [] = omega arith
     at_most (e ∷ es) = one e.pointed (at_most es)
       where
-        one : (b : Bool) → afterPoint es ≤ length es → cond b (length es) (afterPoint es) ≤ suc (length es)
+        one : (b : Bool) → after_point es ≤ length es → cond b (length es) (after_point es) ≤ suc (length es)
         one true k = omega arith
         one false k = omega (arith, k)
 
-    go : (b : Bool) → afterPoint ds ≤ length ds → cond b (length ds) (afterPoint ds) < suc (length ds)
+    go : (b : Bool) → after_point ds ≤ length ds → cond b (length ds) (after_point ds) < suc (length ds)
     go true k = omega arith
     go false k = omega (arith, k)

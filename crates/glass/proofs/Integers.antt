@@ -10,7 +10,7 @@ use lib.Signed.{lt_z, mag, non_neg}
 use mir.Syntax.{w32, w64}
 use mir.Val.{Fits, SFits, of_z, to_z}
 use mir.ValLaws.{to_z-of_z}
-use Rattle.glass.specs.Drawing.{isNegative}
+use Rattle.glass.specs.Drawing.{is_negative}
 
 pub wider : (z : ℤ) → SFits w32 z → SFits w64 z
 wider z f = let h : mag z < 2147483648 = f.sfits in record { sfits = omega (arith, h) }
@@ -18,7 +18,7 @@ wider z f = let h : mag z < 2147483648 = f.sfits in record { sfits = omega (arit
 pub widened : (z : ℤ) → SFits w32 z → to_z w64 (of_z w64 (to_z w32 (of_z w32 z))) ≡ z
 widened z f = ap (λ (y : ℤ). to_z w64 (of_z w64 y)) (to_z-of_z w32 z f) ∙ to_z-of_z w64 z (wider z f)
 
-pub below-zero : (z : ℤ) → lt_z z (pos 0) ≡ isNegative z
+pub below-zero : (z : ℤ) → lt_z z (pos 0) ≡ is_negative z
 below-zero (pos n) = le-ltb n 0 (omega arith)
 below-zero (negsuc n) = refl
 
@@ -39,11 +39,11 @@ pub size_fits : (z : ℤ) → SFits w32 z → Fits w32 (nat_abs z)
 size_fits (pos n) f = let h : n < 2147483648 = f.sfits in record { fits = omega (arith, h) }
 size_fits (negsuc n) f = let h : n < 2147483648 = f.sfits in record { fits = omega (arith, h) }
 
-pub less-positive : (z : ℤ) → isNegative z ≡ true → T (non_neg (neg_ℤ z))
+pub less-positive : (z : ℤ) → is_negative z ≡ true → T (non_neg (neg_ℤ z))
 less-positive (pos zero) e = tt
 less-positive (pos (suc n)) e = absurd (let y : ◌≡◌ {A = ℕ} 0 1 = cc in omega arith)
 less-positive (negsuc n) e = tt
 
-pub positive : (z : ℤ) → isNegative z ≡ false → T (non_neg z)
+pub positive : (z : ℤ) → is_negative z ≡ false → T (non_neg z)
 positive (pos n) e = tt
 positive (negsuc n) e = absurd (let y : ◌≡◌ {A = ℕ} 0 1 = cc in omega arith)

@@ -11,10 +11,10 @@ use lib.ListN.{length, replicate, length-append, length-map, length-replicate}
 use lib.IntN.{ℤ, pos, negsuc, neg_ℤ, nat_abs}
 use borrow.Author.Tests.{ltb-true, ltb-false, eqb-true, eqb-false, eq-eqb, ne_eqb, lt-ltb, le-leb}
 use Rattle.glass.specs.Shapes.{Cell, glass, blank, hyphen, shape, cells, nibbles}
-use Rattle.glass.specs.Pictures.{Digit, lit, laid, Numerals, points, whole, afterPoint, signed, Numbered, Reads}
-use Rattle.glass.specs.Reading.{Leftmost, allNibbles, SeenAnswers, SeenDetermined}
-use Rattle.glass.specs.Drawing.{enough, firstEnough, fewest, digitsOf, isNegative, width, fits, drawnNumber, fitting, drawn, drawing, drawnOver}
-use Rattle.glass.specs.Walk.{code_of, shownAs, reading_of}
+use Rattle.glass.specs.Pictures.{Digit, lit, laid, Numerals, points, whole, after_point, signed, Numbered, Reads}
+use Rattle.glass.specs.Reading.{Leftmost, all_nibbles, SeenAnswers, SeenDetermined}
+use Rattle.glass.specs.Drawing.{enough, first_enough, fewest, digits_of, is_negative, width, fits, drawn_number, fitting, drawn, drawing, drawn_over}
+use Rattle.glass.specs.Walk.{code_of, shown_as, reading_of}
 use Rattle.glass.specs.Laws.{UsualShapes, ReadsBack, DrawsAgain, OnNoPicture, FewestDigits, MinusZero}
 use Rattle.glass.specs.declared.Reading.{Reading}
 use Rattle.glass.specs.declared.Reading.TheVariants.{Dark, Number}
@@ -55,28 +55,28 @@ true-false false e f = let y : ◌≡◌ {A = ℕ} 0 1 = cc in omega arith
 pub seen-determined : SeenDetermined
 seen-determined s (Shown r) (Shown t) a b = ap Shown (one-reading (cells s) r t a.1 b.1)
 seen-determined s (Shown r) BadLength a b = absurd (b a.0.0)
-seen-determined s (Shown r) BadNibble a b = absurd (true-false (allNibbles s) a.0.1 b.1)
+seen-determined s (Shown r) BadNibble a b = absurd (true-false (all_nibbles s) a.0.1 b.1)
 seen-determined s (Shown r) (Unreadable k) a b = absurd (none-wrong (cells s) r k a.1 b.1)
 seen-determined s BadLength (Shown t) a b = absurd (a b.0.0)
 seen-determined s BadLength BadLength a b = refl
 seen-determined s BadLength BadNibble a b = absurd (a b.0)
 seen-determined s BadLength (Unreadable k) a b = absurd (a b.0.0)
-seen-determined s BadNibble (Shown t) a b = absurd (true-false (allNibbles s) b.0.1 a.1)
+seen-determined s BadNibble (Shown t) a b = absurd (true-false (all_nibbles s) b.0.1 a.1)
 seen-determined s BadNibble BadLength a b = absurd (b a.0)
 seen-determined s BadNibble BadNibble a b = refl
-seen-determined s BadNibble (Unreadable k) a b = absurd (true-false (allNibbles s) b.0.1 a.1)
+seen-determined s BadNibble (Unreadable k) a b = absurd (true-false (all_nibbles s) b.0.1 a.1)
 seen-determined s (Unreadable j) (Shown t) a b = absurd (none-wrong (cells s) t j b.1 a.1)
 seen-determined s (Unreadable j) BadLength a b = absurd (b a.0.0)
-seen-determined s (Unreadable j) BadNibble a b = absurd (true-false (allNibbles s) a.0.1 b.1)
+seen-determined s (Unreadable j) BadNibble a b = absurd (true-false (all_nibbles s) a.0.1 b.1)
 seen-determined s (Unreadable j) (Unreadable k) a b = ap Unreadable (one-leftmost (cells s) j k a.1 b.1)
 
 -- ---- the digits of a number
 
-length-of : (n size count : ℕ) → length (digitsOf n size count) ≡ n
+length-of : (n size count : ℕ) → length (digits_of n size count) ≡ n
 length-of zero size count = refl
 length-of (suc n) size count = ap suc (length-of n size count)
 
-pub numerals-of : (n size count : ℕ) → Numerals (digitsOf n size count)
+pub numerals-of : (n size count : ℕ) → Numerals (digits_of n size count)
 numerals-of zero size count = tt
 numerals-of (suc n) size count = (mod-lt (size / 10 ^ n) (lit< tt), numerals-of n size count)
 
@@ -95,7 +95,7 @@ ten-more s x h =
     let g : s ≡ low + x * 10 * (q / 10) = sym (div-add-mod s x) ∙ omega (arith, c, d, e, f) in
     sym (ap (λ (k : ℕ). k % (x * 10)) g ∙ add-mul-mod_self_left low (x * 10) (q / 10) ∙ mod-eq_of_lt under)
 
-whole_of : (n size count : ℕ) → whole (digitsOf n size count) ≡ size % 10 ^ n
+whole_of : (n size count : ℕ) → whole (digits_of n size count) ≡ size % 10 ^ n
 whole_of zero size count = omega arith
 whole_of (suc n) size count =
     ap₂ (λ (k w : ℕ). size / 10 ^ n % 10 * 10 ^ k + w) (length-of n size count) (whole_of n size count)
@@ -104,11 +104,11 @@ whole_of (suc n) size count =
 not-below : (n count : ℕ) → n < count → eqb n count && not (eqb count 0) ≡ false
 not-below n count h = ap (λ (b : Bool). b && not (eqb count 0)) (ne_eqb n count (λ e. absurd (omega (arith, e, h))))
 
-no-points : (n size count : ℕ) → n ≤ count → points (digitsOf n size count) ≡ 0
+no-points : (n size count : ℕ) → n ≤ count → points (digits_of n size count) ≡ 0
 no-points zero size count h = refl
 no-points (suc n) size count h = ap₂ (λ (b : Bool) (k : ℕ). cond b 1 0 + k) (not-below n count h) (no-points n size count (omega (arith, h)))
 
-points-of : (n size count : ℕ) → points (digitsOf n size count) ≤ 1
+points-of : (n size count : ℕ) → points (digits_of n size count) ≤ 1
 points-of zero size count = omega arith
 points-of (suc n) size count = go (eqb n count) refl (points-of n size count) (no-points n size count)
   where
@@ -116,43 +116,43 @@ points-of (suc n) size count = go (eqb n count) refl (points-of n size count) (n
     one true k e = omega (arith, e)
     one false k e = omega (arith, e)
 
-    go : (b : Bool) → eqb n count ≡ b → points (digitsOf n size count) ≤ 1 → (n ≤ count → points (digitsOf n size count) ≡ 0) → cond (b && not (eqb count 0)) 1 0 + points (digitsOf n size count) ≤ 1
-    go true e h z = let k = eqb-true n count e in one (not (eqb count 0)) (points (digitsOf n size count)) (z (omega (arith, k)))
+    go : (b : Bool) → eqb n count ≡ b → points (digits_of n size count) ≤ 1 → (n ≤ count → points (digits_of n size count) ≡ 0) → cond (b && not (eqb count 0)) 1 0 + points (digits_of n size count) ≤ 1
+    go true e h z = let k = eqb-true n count e in one (not (eqb count 0)) (points (digits_of n size count)) (z (omega (arith, k)))
     go false e h z = omega (arith, h)
 
-places_of : (n size count : ℕ) → count < n → afterPoint (digitsOf n size count) ≡ count
+places_of : (n size count : ℕ) → count < n → after_point (digits_of n size count) ≡ count
 places_of zero size count h = absurd (omega (arith, h))
 places_of (suc n) size count h = go (eqb n count) (eqb count 0) refl refl (length-of n size count) (places_of n size count)
   where
-    go : (b z : Bool) → eqb n count ≡ b → eqb count 0 ≡ z → length (digitsOf n size count) ≡ n → (count < n → afterPoint (digitsOf n size count) ≡ count)
-        → cond (b && not z) (length (digitsOf n size count)) (afterPoint (digitsOf n size count)) ≡ count
+    go : (b z : Bool) → eqb n count ≡ b → eqb count 0 ≡ z → length (digits_of n size count) ≡ n → (count < n → after_point (digits_of n size count) ≡ count)
+        → cond (b && not z) (length (digits_of n size count)) (after_point (digits_of n size count)) ≡ count
     go true true e f l r =
         let k = eqb-true n count e in
         let o = eqb-true count 0 f in
-        no-places (digitsOf n size count) (no-points n size count (omega (arith, k))) ∙ sym o
+        no-places (digits_of n size count) (no-points n size count (omega (arith, k))) ∙ sym o
     go true false e f l r = let k = eqb-true n count e in l ∙ k
     go false z e f l r = let k = eqb-false n count e in r (omega (arith, k, h))
 
 -- ---- the fewest digits
 
 -- what is answered before the end is enough
-first_holds : (size count more n : ℕ) → firstEnough size count more n < n + more → enough size count (firstEnough size count more n) ≡ true
+first_holds : (size count more n : ℕ) → first_enough size count more n < n + more → enough size count (first_enough size count more n) ≡ true
 first_holds size count zero n h = absurd (omega (arith, h))
 first_holds size count (suc more) n h = go (enough size count n) refl h (first_holds size count more (suc n))
   where
-    go : (b : Bool) → enough size count n ≡ b → cond b n (firstEnough size count more (suc n)) < n + suc more
-        → (firstEnough size count more (suc n) < suc n + more → enough size count (firstEnough size count more (suc n)) ≡ true)
-        → enough size count (cond b n (firstEnough size count more (suc n))) ≡ true
+    go : (b : Bool) → enough size count n ≡ b → cond b n (first_enough size count more (suc n)) < n + suc more
+        → (first_enough size count more (suc n) < suc n + more → enough size count (first_enough size count more (suc n)) ≡ true)
+        → enough size count (cond b n (first_enough size count more (suc n))) ≡ true
     go true e h r = e
     go false e h r = r (omega (arith, h))
 
 -- and nothing less is
-first-least : (size count more n m : ℕ) → n ≤ m → m < n + more → enough size count m ≡ true → firstEnough size count more n ≤ m
+first-least : (size count more n m : ℕ) → n ≤ m → m < n + more → enough size count m ≡ true → first_enough size count more n ≤ m
 first-least size count zero n m l h e = absurd (omega (arith, l, h))
 first-least size count (suc more) n m l h e = go (enough size count n) refl (first-least size count more (suc n) m)
   where
-    go : (b : Bool) → enough size count n ≡ b → (suc n ≤ m → m < suc n + more → enough size count m ≡ true → firstEnough size count more (suc n) ≤ m)
-        → cond b n (firstEnough size count more (suc n)) ≤ m
+    go : (b : Bool) → enough size count n ≡ b → (suc n ≤ m → m < suc n + more → enough size count m ≡ true → first_enough size count more (suc n) ≤ m)
+        → cond b n (first_enough size count more (suc n)) ≤ m
     go true k r = l
     go false k r =
         let d : n ≡ m → ⊥ = λ q. true-false (enough size count m) e (ap (enough size count) (sym q) ∙ k) in
@@ -199,35 +199,35 @@ fewest-digits p value count n l =
 
 -- ---- drawn and read back
 
-pub signed-size : (v : ℤ) → v ≡ signed (isNegative v) (nat_abs v)
+pub signed-size : (v : ℤ) → v ≡ signed (is_negative v) (nat_abs v)
 signed-size (pos n) = refl
 signed-size (negsuc n) = refl
 
 -- what the drawn digits show
-drawn-enough : (v : ℤ) (c : ℕ) → fits (isNegative v) (fewest (nat_abs v) c) ≡ true → (nat_abs v < 10 ^ fewest (nat_abs v) c) × (c < fewest (nat_abs v) c)
+drawn-enough : (v : ℤ) (c : ℕ) → fits (is_negative v) (fewest (nat_abs v) c) ≡ true → (nat_abs v < 10 ^ fewest (nat_abs v) c) × (c < fewest (nat_abs v) c)
 drawn-enough v c f =
-    let u = fits_under (isNegative v) (fewest (nat_abs v) c) f in
+    let u = fits_under (is_negative v) (fewest (nat_abs v) c) f in
     enough-means (nat_abs v) c (fewest (nat_abs v) c) (first_holds (nat_abs v) c 4 1 (omega (arith, u)))
 
-pub drawn-size : (v : ℤ) (c : ℕ) → fits (isNegative v) (fewest (nat_abs v) c) ≡ true → whole (digitsOf (fewest (nat_abs v) c) (nat_abs v) c) ≡ nat_abs v
+pub drawn-size : (v : ℤ) (c : ℕ) → fits (is_negative v) (fewest (nat_abs v) c) ≡ true → whole (digits_of (fewest (nat_abs v) c) (nat_abs v) c) ≡ nat_abs v
 drawn-size v c f = whole_of (fewest (nat_abs v) c) (nat_abs v) c ∙ mod-eq_of_lt (drawn-enough v c f).0
 
-pub drawn-count : (v : ℤ) (c : ℕ) → fits (isNegative v) (fewest (nat_abs v) c) ≡ true → afterPoint (digitsOf (fewest (nat_abs v) c) (nat_abs v) c) ≡ c
+pub drawn-count : (v : ℤ) (c : ℕ) → fits (is_negative v) (fewest (nat_abs v) c) ≡ true → after_point (digits_of (fewest (nat_abs v) c) (nat_abs v) c) ≡ c
 drawn-count v c f = places_of (fewest (nat_abs v) c) (nat_abs v) c (drawn-enough v c f).1
 
-read_number : (v : ℤ) (c : ℕ) → fits (isNegative v) (fewest (nat_abs v) c) ≡ true → Numbered (drawnNumber v c) v c
+read_number : (v : ℤ) (c : ℕ) → fits (is_negative v) (fewest (nat_abs v) c) ≡ true → Numbered (drawn_number v c) v c
 read_number v c f =
     let n : ℕ = fewest (nat_abs v) c in
-    let ds : List Digit = digitsOf n (nat_abs v) c in
+    let ds : List Digit = digits_of n (nat_abs v) c in
     record {
-      blanks = glass - width (isNegative v) (length ds);
-      minus = isNegative v;
+      blanks = glass - width (is_negative v) (length ds);
+      minus = is_negative v;
       digits = ds;
       some = let l = length-of n (nat_abs v) c in let s = some-digit (nat_abs v) c in omega (arith, l, s);
       numerals = numerals-of n (nat_abs v) c;
       one-point = points-of n (nat_abs v) c;
       parts = refl;
-      valued = signed-size v ∙ ap (signed (isNegative v)) (sym (drawn-size v c f));
+      valued = signed-size v ∙ ap (signed (is_negative v)) (sym (drawn-size v c f));
       counted = sym (drawn-count v c f);
     }
 
@@ -262,32 +262,32 @@ small_signed false rest h = h
 small-laid : (b : ℕ) (m : Bool) (ds : List Digit) → Small (laid b m ds)
 small-laid b m ds = small-blanks b (cond m (hyphen ∷ []) [] ++ map lit ds) (small_signed m (map lit ds) (small-digits ds))
 
-in-range : (cs : List Cell) → Small cs → allNibbles (nibbles cs) ≡ true
-unfolding allNibbles
+in-range : (cs : List Cell) → Small cs → all_nibbles (nibbles cs) ≡ true
+unfolding all_nibbles
 in-range [] h = refl
 in-range (c ∷ cs) h = rw (lt-ltb c.abcd 16 h.0.first, lt-ltb c.efgp 16 h.0.second) (in-range cs h.1)
 
-length-drawn : (v : ℤ) (c : ℕ) → fits (isNegative v) (fewest (nat_abs v) c) ≡ true → length (drawnNumber v c) ≡ 4
+length-drawn : (v : ℤ) (c : ℕ) → fits (is_negative v) (fewest (nat_abs v) c) ≡ true → length (drawn_number v c) ≡ 4
 length-drawn v c f =
     let n : ℕ = fewest (nat_abs v) c in
-    let u = fits_under (isNegative v) n f in
+    let u = fits_under (is_negative v) n f in
     let l = length-of n (nat_abs v) c in
-    length-laid (glass - width (isNegative v) (length (digitsOf n (nat_abs v) c))) (isNegative v) (digitsOf n (nat_abs v) c) ∙ omega (arith, u, l)
+    length-laid (glass - width (is_negative v) (length (digits_of n (nat_abs v) c))) (is_negative v) (digits_of n (nat_abs v) c) ∙ omega (arith, u, l)
 
 back-again : (r : Reading) → fitting r ≡ true → SeenAnswers (nibbles (drawn r)) (Shown r)
-unfolding allNibbles
+unfolding all_nibbles
 back-again Dark f = ((refl, refl), refl)
 back-again (Number v c) f =
-    let p : List Cell = drawnNumber v c in
+    let p : List Cell = drawn_number v c in
     let l = length-nibbles p in
     let k = length-drawn v c f in (
-      (omega (arith, l, k), in-range p (small-laid (glass - width (isNegative v) (length (digitsOf (fewest (nat_abs v) c) (nat_abs v) c))) (isNegative v) (digitsOf (fewest (nat_abs v) c) (nat_abs v) c))),
+      (omega (arith, l, k), in-range p (small-laid (glass - width (is_negative v) (length (digits_of (fewest (nat_abs v) c) (nat_abs v) c))) (is_negative v) (digits_of (fewest (nat_abs v) c) (nat_abs v) c))),
       subst (λ (q : List Cell). Numbered q v c) (sym (back p)) (read_number v c f),
     )
 
 -- what is drawn, by the two tests
 pub reads-back : ReadsBack
-unfolding drawnOver
+unfolding drawn_over
 reads-back r old e = go (eqb (length old) 8) (fitting r) refl e
   where
     go : (a b : Bool) → fitting r ≡ b → (cond a (cond b (drawing 0 0 (nibbles (drawn r))) (drawing 16 0 old)) (drawing 2 0 old)).refusal ≡ 0
@@ -297,15 +297,15 @@ reads-back r old e = go (eqb (length old) 8) (fitting r) refl e
     go false b f e = absurd (omega (arith, e))
 
 -- a negative number was read behind a minus
-minus-taken : (v : ℤ) (m : Bool) (w : ℕ) → v ≡ signed m w → cond (isNegative v) 1 0 ≤ cond m 1 0
+minus-taken : (v : ℤ) (m : Bool) (w : ℕ) → v ≡ signed m w → cond (is_negative v) 1 0 ≤ cond m 1 0
 minus-taken v m w e = rw e (go m w)
   where
     at_most : (b : Bool) → cond b 1 0 ≤ 1
     at_most true = omega arith
     at_most false = omega arith
 
-    go : (m : Bool) (w : ℕ) → cond (isNegative (signed m w)) 1 0 ≤ cond m 1 0
-    go true w = at_most (isNegative (neg_ℤ (pos w)))
+    go : (m : Bool) (w : ℕ) → cond (is_negative (signed m w)) 1 0 ≤ cond m 1 0
+    go true w = at_most (is_negative (neg_ℤ (pos w)))
     go false w = omega arith
 
 fits-again : (s : List ℕ) (r : Reading) → SeenAnswers s (Shown r) → fitting r ≡ true
@@ -316,16 +316,16 @@ fits-again s (Number v c) a =
     let h = fewest-digits (cells s) v c n l in
     let m = minus-taken v n.minus (whole n.digits) n.valued in
     let t = sym (length-laid n.blanks n.minus n.digits) ∙ sym (ap length n.parts) ∙ l in
-    le-leb (width (isNegative v) (fewest (nat_abs v) c)) 4 (omega (arith, h, m, t))
+    le-leb (width (is_negative v) (fewest (nat_abs v) c)) 4 (omega (arith, h, m, t))
 
 pub draws-again : DrawsAgain
-unfolding drawnOver
+unfolding drawn_over
 draws-again s old r a l =
     let f = fits-again s r a in
     rw (eq-eqb (length old) 8 l, f) (back-again r f)
 
 pub on-no-picture : OnNoPicture
-unfolding drawnOver
+unfolding drawn_over
 on-no-picture s old r e a = go (eqb (length old) 8) (fitting r) (fits-again s r a) e
   where
     go : (x y : Bool) → y ≡ true → (cond x (cond y (drawing 0 0 (nibbles (drawn r))) (drawing 16 0 old)) (drawing 2 0 old)).refusal ≡ 16 → ⊥
@@ -356,7 +356,7 @@ usual-shapes =
       six = refl;
       seven = refl;
       nine = refl;
-      apart = λ i j h k e. sym (mark-at i h) ∙ ap (λ (c : Cell). shownAs (code_of c)) e ∙ mark-at j k;
+      apart = λ i j h k e. sym (mark-at i h) ∙ ap (λ (c : Cell). shown_as (code_of c)) e ∙ mark-at j k;
     }
 
 -- what a picture shows is small

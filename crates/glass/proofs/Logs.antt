@@ -6,9 +6,9 @@ use mathlib.Core.Path.{◌≡◌, refl, sym, ap, ap₂, ◌∙◌}
 use mathlib.Core.Bool.{Bool, true, false, cond}
 use mathlib.Core.List.{List, [], ◌∷◌, ◌++◌}
 use lib.IntN.{nat_abs}
-use Rattle.glass.specs.Pictures.{Digit, digit, Numerals, whole, afterPoint, signed}
-use Rattle.glass.specs.Drawing.{fewest, digitsOf, isNegative, fitting}
-use Rattle.glass.specs.Text.{spelt, written, textOf, packed}
+use Rattle.glass.specs.Pictures.{Digit, digit, Numerals, whole, after_point, signed}
+use Rattle.glass.specs.Drawing.{fewest, digits_of, is_negative, fitting}
+use Rattle.glass.specs.Text.{spelt, written, text_of, packed}
 use Rattle.glass.specs.Laws.{TextTells}
 use Rattle.glass.specs.declared.Reading.{Reading}
 use Rattle.glass.specs.declared.Reading.TheVariants.{Dark, Number}
@@ -36,9 +36,9 @@ abbrev head_or : List ℕ → ℕ
 head_or [] = 0
 head_or (x ∷ xs) = x
 
-abbrev tailOf : List ℕ → List ℕ
-tailOf [] = []
-tailOf (x ∷ xs) = xs
+abbrev tail_of : List ℕ → List ℕ
+tail_of [] = []
+tail_of (x ∷ xs) = xs
 
 -- a text of digits starts with a digit, or is empty
 no-point-first : (ds : List Digit) → head_or (spelt ds) ≡ 46 → ⊥
@@ -55,11 +55,11 @@ spelt-tells [] (f ∷ es) e = absurd (let h = ap head_or e in omega (arith, h))
 spelt-tells (d ∷ ds) [] e = absurd (let h = ap head_or e in omega (arith, h))
 spelt-tells (d ∷ ds) (f ∷ es) e =
     let n : d.numeral ≡ f.numeral = (let h = ap head_or e in omega (arith, h)) in
-    go d.pointed f.pointed n (ap tailOf e) (spelt-tells ds es)
+    go d.pointed f.pointed n (ap tail_of e) (spelt-tells ds es)
   where
     go : (p q : Bool) → d.numeral ≡ f.numeral → cond p (46 ∷ []) [] ++ spelt ds ≡ cond q (46 ∷ []) [] ++ spelt es → (spelt ds ≡ spelt es → ds ≡ es)
         → ◌≡◌ {A = List Digit} (digit d.numeral p ∷ ds) (digit f.numeral q ∷ es)
-    go true true n k r = ap₂ {C = List Digit} (λ (a : ℕ) (s : List Digit). digit a true ∷ s) n (r (ap tailOf k))
+    go true true n k r = ap₂ {C = List Digit} (λ (a : ℕ) (s : List Digit). digit a true ∷ s) n (r (ap tail_of k))
     go true false n k r = absurd (no-point-first es (sym (ap head_or k)))
     go false true n k r = absurd (no-point-first ds (ap head_or k))
     go false false n k r = ap₂ {C = List Digit} (λ (a : ℕ) (s : List Digit). digit a false ∷ s) n (r k)
@@ -70,7 +70,7 @@ pub record Apart (a b : Bool) (ds es : List Digit) : Type 0 where
   pub digits : ds ≡ es
 
 signed-tells : (a b : Bool) (ds es : List Digit) → cond a (45 ∷ []) [] ++ spelt ds ≡ cond b (45 ∷ []) [] ++ spelt es → Apart a b ds es
-signed-tells true true ds es e = record { sign = refl; digits = spelt-tells ds es (ap tailOf e) }
+signed-tells true true ds es e = record { sign = refl; digits = spelt-tells ds es (ap tail_of e) }
 signed-tells true false ds es e = absurd (no-minus-first es (sym (ap head_or e)))
 signed-tells false true ds es e = absurd (no-minus-first ds (ap head_or e))
 signed-tells false false ds es e = record { sign = refl; digits = spelt-tells ds es e }
@@ -92,26 +92,26 @@ digits-characters (d ∷ ds) ns = let h = ns.0 in ((omega arith, omega (arith, h
 
 written-characters : (r : Reading) → Characters (written r)
 written-characters Dark = ((omega arith, omega arith), ((omega arith, omega arith), ((omega arith, omega arith), ((omega arith, omega arith), tt))))
-written-characters (Number v c) = go (isNegative v) (digits-characters (digitsOf (fewest (nat_abs v) c) (nat_abs v) c) (numerals-of (fewest (nat_abs v) c) (nat_abs v) c))
+written-characters (Number v c) = go (is_negative v) (digits-characters (digits_of (fewest (nat_abs v) c) (nat_abs v) c) (numerals-of (fewest (nat_abs v) c) (nat_abs v) c))
   where
-    go : (b : Bool) → Characters (spelt (digitsOf (fewest (nat_abs v) c) (nat_abs v) c)) → Characters (cond b (45 ∷ []) [] ++ spelt (digitsOf (fewest (nat_abs v) c) (nat_abs v) c))
+    go : (b : Bool) → Characters (spelt (digits_of (fewest (nat_abs v) c) (nat_abs v) c)) → Characters (cond b (45 ∷ []) [] ++ spelt (digits_of (fewest (nat_abs v) c) (nat_abs v) c))
     go true k = ((omega arith, omega arith), k)
     go false k = k
 
 written-tells : (r t : Reading) → fitting r ≡ true → fitting t ≡ true → written r ≡ written t → r ≡ t
 written-tells Dark Dark f g e = refl
 written-tells Dark (Number w d) f g e =
-    absurd (not-dark (isNegative w) (digitsOf (fewest (nat_abs w) d) (nat_abs w) d) (numerals-of (fewest (nat_abs w) d) (nat_abs w) d) (sym (ap head_or e)))
+    absurd (not-dark (is_negative w) (digits_of (fewest (nat_abs w) d) (nat_abs w) d) (numerals-of (fewest (nat_abs w) d) (nat_abs w) d) (sym (ap head_or e)))
 written-tells (Number v c) Dark f g e =
-    absurd (not-dark (isNegative v) (digitsOf (fewest (nat_abs v) c) (nat_abs v) c) (numerals-of (fewest (nat_abs v) c) (nat_abs v) c) (ap head_or e))
+    absurd (not-dark (is_negative v) (digits_of (fewest (nat_abs v) c) (nat_abs v) c) (numerals-of (fewest (nat_abs v) c) (nat_abs v) c) (ap head_or e))
 written-tells (Number v c) (Number w d) f g e =
-    let k = signed-tells (isNegative v) (isNegative w) (digitsOf (fewest (nat_abs v) c) (nat_abs v) c) (digitsOf (fewest (nat_abs w) d) (nat_abs w) d) e in
+    let k = signed-tells (is_negative v) (is_negative w) (digits_of (fewest (nat_abs v) c) (nat_abs v) c) (digits_of (fewest (nat_abs w) d) (nat_abs w) d) e in
     let size : nat_abs v ≡ nat_abs w = sym (drawn-size v c f) ∙ ap whole k.digits ∙ drawn-size w d g in
-    let count : c ≡ d = sym (drawn-count v c f) ∙ ap afterPoint k.digits ∙ drawn-count w d g in
+    let count : c ≡ d = sym (drawn-count v c f) ∙ ap after_point k.digits ∙ drawn-count w d g in
     ap₂ {C = Reading} Number (signed-size v ∙ ap₂ signed k.sign size ∙ sym (signed-size w)) count
 
 pub text-tells : TextTells
-unfolding textOf
+unfolding text_of
 text-tells r t f g e =
     written-tells r t f g
     (packed-tells (written r) (written t) (written-characters r) (written-characters t)

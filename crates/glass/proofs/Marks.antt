@@ -11,7 +11,7 @@ use lib.ListN.{length, get_or, get_or-append, get_or-map}
 use borrow.Author.Tests.{ltb-true, eqb-true, eqb-false, eq-eqb, ne_eqb, lt-ltb}
 use Rattle.glass.specs.Shapes.{Cell, cell, shapes, blank, hyphen, shape}
 use Rattle.glass.specs.Pictures.{digit, lit}
-use Rattle.glass.specs.Walk.{code_of, place_in, codes, shownAs, front, numeralTaken, stepped}
+use Rattle.glass.specs.Walk.{code_of, place_in, codes, shown_as, front, numeral_taken, stepped}
 use Rattle.glass.specs.declared.read.Front.{Front}
 use Rattle.glass.specs.declared.read.Next.{Next}
 use Rattle.glass.specs.declared.read.Next.TheVariants.{On, Off}
@@ -24,7 +24,7 @@ pub record Nibbles (c : Cell) : Type 0 where
 
 -- one digit, as the reader takes it
 abbrev pub next : Front → Cell → Bool → Next
-next f c last = stepped f (shownAs (code_of c)) (eqb (c.efgp / 8) 1) last
+next f c last = stepped f (shown_as (code_of c)) (eqb (c.efgp / 8) 1) last
 
 -- what a list has at the place of a number
 found : (l : List ℕ) (x : ℕ) → place_in l x < length l → get_or l (place_in l x) 0 ≡ x
@@ -40,8 +40,8 @@ found (y ∷ ys) x h = go (eqb x y) refl h (found ys x)
 code-at : (m : ℕ) → m < 10 → get_or codes m 0 ≡ code_of (shape m)
 code-at m h = get_or-map code_of (shapes ++ (blank ∷ hyphen ∷ [])) m blank ∙ ap code_of (get_or-append shapes (blank ∷ hyphen ∷ []) blank m h)
 
-coded : (c : Cell) (m : ℕ) → shownAs (code_of c) ≡ m → m < 12 → get_or codes m 0 ≡ code_of c
-unfolding shownAs
+coded : (c : Cell) (m : ℕ) → shown_as (code_of c) ≡ m → m < 12 → get_or codes m 0 ≡ code_of c
+unfolding shown_as
 coded c m e h = ap (λ (k : ℕ). get_or codes k 0) (sym e) ∙ found codes (code_of c) (rw e h)
 
 -- a cell is told by its code and its point
@@ -54,24 +54,24 @@ same c x y false n hx hy e k =
     let z : c.efgp / 8 ≡ 0 = omega (arith, n.second, h) in
     ap₂ cell (omega (arith, n.first, n.second, hx, hy, e)) (omega (arith, n.first, n.second, hx, hy, e, z))
 
-lit-of : (c : Cell) (m : ℕ) (p : Bool) → Nibbles c → shownAs (code_of c) ≡ m → m < 10 → eqb (c.efgp / 8) 1 ≡ p → c ≡ lit (digit m p)
+lit-of : (c : Cell) (m : ℕ) (p : Bool) → Nibbles c → shown_as (code_of c) ≡ m → m < 10 → eqb (c.efgp / 8) 1 ≡ p → c ≡ lit (digit m p)
 lit-of c m p n e h k =
     let q : code_of (shape m) ≡ (shape m).abcd + (shape m).efgp * 16 = omega (arith, no-point m) in
     same c (shape m).abcd (shape m).efgp p n (small m) (no-point m) (sym (coded c m e (omega (arith, h))) ∙ code-at m h ∙ q) k
 
 -- what the reader made of a digit
 pub data Stepping (f : Front) (c : Cell) (last : Bool) (r : Next) : Type 0 where
-  digit-more : (n : ℕ) (p : Bool) → n < 10 → c ≡ lit (digit n p) → r ≡ numeralTaken f n p → Stepping f c last r
+  digit-more : (n : ℕ) (p : Bool) → n < 10 → c ≡ lit (digit n p) → r ≡ numeral_taken f n p → Stepping f c last r
   blank-more : c ≡ blank → f.stage ≡ 0 → r ≡ On f → Stepping f c last r
   minus-more : c ≡ hyphen → f.stage ≡ 0 → last ≡ false → r ≡ On (front 0 1 true 0) → Stepping f c last r
   none : r ≡ Off → Stepping f c last r
 
 pub view : (f : Front) (c : Cell) (last : Bool) → Nibbles c → Stepping f c last (next f c last)
 unfolding stepped
-view f c last n = by-mark (ltb (shownAs (code_of c)) 10) (eqb (c.efgp / 8) 1) refl refl
+view f c last n = by-mark (ltb (shown_as (code_of c)) 10) (eqb (c.efgp / 8) 1) refl refl
   where
     m : ℕ
-    m = shownAs (code_of c)
+    m = shown_as (code_of c)
 
     by-rest : (z t l u : Bool) → eqb f.stage 0 ≡ z → eqb m 10 ≡ t → last ≡ l → eqb m 11 ≡ u → eqb (c.efgp / 8) 1 ≡ false
         → Stepping f c last (cond z (cond t (On f) (cond l Off (cond u (On (front 0 1 true 0)) Off))) Off)
@@ -84,14 +84,14 @@ view f c last n = by-mark (ltb (shownAs (code_of c)) 10) (eqb (c.efgp / 8) 1) re
     by-rest true false false false ez et el eu ep = none refl
 
     by-mark : (b p : Bool) → ltb m 10 ≡ b → eqb (c.efgp / 8) 1 ≡ p
-        → Stepping f c last (cond b (numeralTaken f m p) (cond p Off (cond (eqb f.stage 0) (cond (eqb m 10) (On f) (cond last Off (cond (eqb m 11) (On (front 0 1 true 0)) Off))) Off)))
+        → Stepping f c last (cond b (numeral_taken f m p) (cond p Off (cond (eqb f.stage 0) (cond (eqb m 10) (On f) (cond last Off (cond (eqb m 11) (On (front 0 1 true 0)) Off))) Off)))
     by-mark true p eb ep = digit-more m p (ltb-true m 10 eb) (lit-of c m p n refl (ltb-true m 10 eb) ep) refl
     by-mark false true eb ep = none refl
     by-mark false false eb ep = by-rest (eqb f.stage 0) (eqb m 10) last (eqb m 11) refl refl refl refl ep
 
 -- and back: what the reader makes of each cell that a picture may have
-pub mark-at : (n : ℕ) → n < 12 → shownAs (code_of (get_or (shapes ++ (blank ∷ hyphen ∷ [])) n blank)) ≡ n
-unfolding shownAs
+pub mark-at : (n : ℕ) → n < 12 → shown_as (code_of (get_or (shapes ++ (blank ∷ hyphen ∷ [])) n blank)) ≡ n
+unfolding shown_as
 mark-at zero h = refl
 mark-at (suc zero) h = refl
 mark-at (suc (suc zero)) h = refl
@@ -106,10 +106,10 @@ mark-at (suc (suc (suc (suc (suc (suc (suc (suc (suc (suc zero)))))))))) h = ref
 mark-at (suc (suc (suc (suc (suc (suc (suc (suc (suc (suc (suc zero))))))))))) h = refl
 mark-at (suc (suc (suc (suc (suc (suc (suc (suc (suc (suc (suc (suc n)))))))))))) h = absurd (omega (arith, h))
 
-shape-mark : (n : ℕ) → n < 10 → shownAs (code_of (shape n)) ≡ n
+shape-mark : (n : ℕ) → n < 10 → shown_as (code_of (shape n)) ≡ n
 shape-mark n h =
     let l : n < 12 = omega (arith, h) in
-    ap (λ (c : Cell). shownAs (code_of c)) (sym (get_or-append shapes (blank ∷ hyphen ∷ []) blank n h)) ∙ mark-at n l
+    ap (λ (c : Cell). shown_as (code_of c)) (sym (get_or-append shapes (blank ∷ hyphen ∷ []) blank n h)) ∙ mark-at n l
 
 lit-code : (n : ℕ) (p : Bool) → code_of (lit (digit n p)) ≡ code_of (shape n)
 lit-code n true = omega (arith, no-point n)
@@ -119,14 +119,14 @@ lit-point : (n : ℕ) (p : Bool) → eqb ((lit (digit n p)).efgp / 8) 1 ≡ p
 lit-point n true = eq-eqb ((lit (digit n true)).efgp / 8) 1 (omega (arith, no-point n))
 lit-point n false = ne_eqb ((lit (digit n false)).efgp / 8) 1 (λ e. absurd (omega (arith, no-point n, e)))
 
-pub next-digit : (f : Front) (n : ℕ) (p last : Bool) → n < 10 → next f (lit (digit n p)) last ≡ numeralTaken f n p
+pub next-digit : (f : Front) (n : ℕ) (p last : Bool) → n < 10 → next f (lit (digit n p)) last ≡ numeral_taken f n p
 unfolding stepped
 next-digit f n p last h = rw (lit-code n p, shape-mark n h, lit-point n p, lt-ltb n 10 h) refl
 
 pub next-blank : (f : Front) (last : Bool) → f.stage ≡ 0 → next f blank last ≡ On f
-unfolding stepped shownAs
+unfolding stepped shown_as
 next-blank f last e = rw (eq-eqb f.stage 0 e) refl
 
 pub next-minus : (f : Front) → f.stage ≡ 0 → next f hyphen false ≡ On (front 0 1 true 0)
-unfolding stepped shownAs
+unfolding stepped shown_as
 next-minus f e = rw (eq-eqb f.stage 0 e) refl

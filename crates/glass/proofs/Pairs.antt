@@ -8,7 +8,7 @@ use lib.Dec.{eqb, ltb}
 use lib.ListN.{length, get_or, drop, length-drop}
 use borrow.Author.Tests.{ltb-true, eqb-true, eqb-false, eq-eqb, ne_eqb}
 use Rattle.glass.specs.Shapes.{Cell, cell, cells}
-use Rattle.glass.specs.Reading.{allNibbles}
+use Rattle.glass.specs.Reading.{all_nibbles}
 use Rattle.glass.proofs.Walks.{empty, Small}
 
 pub cells_at : (s : List ℕ) (k : ℕ) → k * 2 + 1 < length s → drop k (cells s) ≡ cell (get_or s (k * 2) 0) (get_or s (k * 2 + 1) 0) ∷ drop (suc k) (cells s)
@@ -51,16 +51,16 @@ and_right true b e = e
 and_right false b e = absurd (let y : ◌≡◌ {A = ℕ} 0 1 = cc in omega arith)
 
 -- each nibble is one
-pub in-range-at : (s : List ℕ) (i : ℕ) → allNibbles s ≡ true → get_or s i 0 < 16
-unfolding allNibbles
+pub in-range-at : (s : List ℕ) (i : ℕ) → all_nibbles s ≡ true → get_or s i 0 < 16
+unfolding all_nibbles
 in-range-at [] i e = omega arith
-in-range-at (x ∷ s) zero e = ltb-true x 16 (and_left (ltb x 16) (allNibbles s) e)
-in-range-at (x ∷ s) (suc i) e = in-range-at s i (and_right (ltb x 16) (allNibbles s) e)
+in-range-at (x ∷ s) zero e = ltb-true x 16 (and_left (ltb x 16) (all_nibbles s) e)
+in-range-at (x ∷ s) (suc i) e = in-range-at s i (and_right (ltb x 16) (all_nibbles s) e)
 
-pub cells-small : (s : List ℕ) → allNibbles s ≡ true → Small (cells s)
-unfolding allNibbles
+pub cells-small : (s : List ℕ) → all_nibbles s ≡ true → Small (cells s)
+unfolding all_nibbles
 cells-small [] e = tt
 cells-small (x ∷ []) e = tt
 cells-small (x ∷ y ∷ s) e =
-    let r = and_right (ltb x 16) (ltb y 16 && allNibbles s) e in
-    (record { first = ltb-true x 16 (and_left (ltb x 16) (ltb y 16 && allNibbles s) e); second = ltb-true y 16 (and_left (ltb y 16) (allNibbles s) r) }, cells-small s (and_right (ltb y 16) (allNibbles s) r))
+    let r = and_right (ltb x 16) (ltb y 16 && all_nibbles s) e in
+    (record { first = ltb-true x 16 (and_left (ltb x 16) (ltb y 16 && all_nibbles s) e); second = ltb-true y 16 (and_left (ltb y 16) (all_nibbles s) r) }, cells-small s (and_right (ltb y 16) (all_nibbles s) r))

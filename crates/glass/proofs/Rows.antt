@@ -5,10 +5,10 @@ use mathlib.Core.Bool.{Bool, true, false, cond}
 use native.Mathlib.Omega.{arith}
 use lib.IntN.{ℤ, nat_abs}
 use borrow.Author.Tests.{leb-true}
-use Rattle.glass.specs.Drawing.{enough, firstEnough, fewest, digitsOf, isNegative, fits, atRight}
+use Rattle.glass.specs.Drawing.{enough, first_enough, fewest, digits_of, is_negative, fits, at_right}
 use Rattle.glass.specs.Walk.{row}
 
-pub rows : (minus : Bool) (size count n : ℕ) → 0 < n → fits minus n ≡ true → row minus size count n ≡ atRight minus (digitsOf n size count)
+pub rows : (minus : Bool) (size count n : ℕ) → 0 < n → fits minus n ≡ true → row minus size count n ≡ at_right minus (digits_of n size count)
 rows minus size count zero p f = absurd (omega arith)
 rows true size count (suc zero) p f = refl
 rows true size count (suc (suc zero)) p f = refl
@@ -21,11 +21,11 @@ rows false size count (suc (suc (suc (suc zero)))) p f = refl
 rows false size count (suc (suc (suc (suc (suc n))))) p f = absurd (let h = leb-true (suc (suc (suc (suc (suc n)))) + 0) 4 f in omega (arith, h))
 
 -- there is at least one digit
-from : (size count more n : ℕ) → n ≤ firstEnough size count more n
+from : (size count more n : ℕ) → n ≤ first_enough size count more n
 from size count zero n = omega arith
 from size count (suc more) n = go (enough size count n) (from size count more (suc n))
   where
-    go : (b : Bool) → suc n ≤ firstEnough size count more (suc n) → n ≤ cond b n (firstEnough size count more (suc n))
+    go : (b : Bool) → suc n ≤ first_enough size count more (suc n) → n ≤ cond b n (first_enough size count more (suc n))
     go true h = omega arith
     go false h = omega (arith, h)
 
@@ -36,8 +36,8 @@ some-digit size count = let h = from size count 4 1 in omega (arith, h)
 pub same-fewest : (v : ℤ) (p size n : ℕ) → size ≡ nat_abs v → n ≡ fewest size p → n ≡ fewest (nat_abs v) p
 same-fewest v p size n s k = k ∙ ap (λ (x : ℕ). fewest x p) s
 
-pub same-fits : (v : ℤ) (p : ℕ) (minus : Bool) (size n : ℕ) (b : Bool) → minus ≡ isNegative v → size ≡ nat_abs v → n ≡ fewest size p → fits minus n ≡ b → fits (isNegative v) (fewest (nat_abs v) p) ≡ b
-same-fits v p minus size n b m s k f = ap (fits (isNegative v)) (sym (same-fewest v p size n s k)) ∙ ap (λ (x : Bool). fits x n) (sym m) ∙ f
+pub same-fits : (v : ℤ) (p : ℕ) (minus : Bool) (size n : ℕ) (b : Bool) → minus ≡ is_negative v → size ≡ nat_abs v → n ≡ fewest size p → fits minus n ≡ b → fits (is_negative v) (fewest (nat_abs v) p) ≡ b
+same-fits v p minus size n b m s k f = ap (fits (is_negative v)) (sym (same-fewest v p size n s k)) ∙ ap (λ (x : Bool). fits x n) (sym m) ∙ f
 
 -- how many digits fit
 pub fits_under : (minus : Bool) (n : ℕ) → fits minus n ≡ true → n + cond minus 1 0 ≤ 4

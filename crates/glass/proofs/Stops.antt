@@ -11,7 +11,7 @@ use lib.ListN.{length, replicate, take, length-replicate}
 use Rattle.glass.specs.Shapes.{Cell}
 use Rattle.glass.specs.Pictures.{digit, lit}
 use Rattle.glass.specs.Reading.{Leftmost}
-use Rattle.glass.specs.Walk.{front, start, numeralTaken, reading_of}
+use Rattle.glass.specs.Walk.{front, start, numeral_taken, reading_of}
 use Rattle.glass.specs.declared.read.Front.{Front}
 use Rattle.glass.specs.declared.read.Next.{Next}
 use Rattle.glass.specs.declared.read.Next.TheVariants.{On, Off}
@@ -20,9 +20,9 @@ use Rattle.glass.proofs.Walks.{ended, stopped, later, empty, onward, walked, lat
 use Rattle.glass.proofs.Complete.{complete}
 
 -- equal lists have equal heads and tails
-abbrev tailOf : List Cell → List Cell
-tailOf [] = []
-tailOf (c ∷ cs) = cs
+abbrev tail_of : List Cell → List Cell
+tail_of [] = []
+tail_of (c ∷ cs) = cs
 
 abbrev first_of : Cell → List Cell → Cell
 first_of d [] = d
@@ -46,7 +46,7 @@ stops-too (c ∷ cs) (d ∷ ds) f k l t e =
     go Off k e t rec = e
     go (On g) k e t rec =
         let w = later-stopped (walked cs g) e in
-        let u : take (suc w.before) ds ≡ take (suc w.before) cs = subst (λ (n : ℕ). take n ds ≡ take n cs) w.next-to (ap tailOf t) in
+        let u : take (suc w.before) ds ≡ take (suc w.before) cs = subst (λ (n : ℕ). take n ds ≡ take n cs) w.next-to (ap tail_of t) in
         ap later (rec g w.before u w.stops) ∙ ap stopped (sym w.next-to)
 
 -- the reader stops inside the picture
@@ -70,8 +70,8 @@ pub record Ends (p : List Cell) (f : Front) : Type 0 where
   pub final : Front
   pub ends : walked p f ≡ ended final
 
-on-naught : (f : Front) → (g : Front) × (numeralTaken f 0 false ≡ On g)
-unfolding numeralTaken
+on-naught : (f : Front) → (g : Front) × (numeral_taken f 0 false ≡ On g)
+unfolding numeral_taken
 on-naught f = go (eqb f.stage 3)
   where
     go : (b : Bool) → (g : Front) × (cond b (On (front (f.value * 10 + 0) 3 f.minus (f.places + 1))) (On (front (f.value * 10 + 0) 2 f.minus 0)) ≡ On g)

@@ -6,7 +6,7 @@ use mathlib.Core.Path.{◌≡◌, refl, sym, ap, ◌∙◌}
 use mathlib.Core.Bool.{Bool, true, false, cond}
 use mathlib.Core.List.{List, [], ◌∷◌, ◌++◌}
 use lib.Dec.{lit<}
-use Rattle.glass.specs.Drawing.{digitsOf, pointAt}
+use Rattle.glass.specs.Drawing.{digits_of, point_at}
 use Rattle.glass.specs.Text.{packed, spelt}
 
 -- a point before the text
@@ -14,15 +14,15 @@ dotted : (b : Bool) (s : List ℕ) → packed (cond b (46 ∷ []) [] ++ s) ≡ c
 dotted true s = refl
 dotted false s = refl
 
-pub more : (size count after t p q : ℕ) → p ≡ 10 ^ after → t ≡ packed (spelt (digitsOf after size count)) → q ≡ cond (pointAt after count) (46 + 256 * t) t
-    → q * 256 + 48 + size / p % 10 ≡ packed (spelt (digitsOf (suc after) size count))
+pub more : (size count after t p q : ℕ) → p ≡ 10 ^ after → t ≡ packed (spelt (digits_of after size count)) → q ≡ cond (point_at after count) (46 + 256 * t) t
+    → q * 256 + 48 + size / p % 10 ≡ packed (spelt (digits_of (suc after) size count))
 more size count after t p q e h k =
-    let b : Bool = pointAt after count in
-    let r : q ≡ packed (cond b (46 ∷ []) [] ++ spelt (digitsOf after size count)) =
-    k ∙ ap (λ (x : ℕ). cond b (46 + 256 * x) x) h ∙ sym (dotted b (spelt (digitsOf after size count))) in
+    let b : Bool = point_at after count in
+    let r : q ≡ packed (cond b (46 ∷ []) [] ++ spelt (digits_of after size count)) =
+    k ∙ ap (λ (x : ℕ). cond b (46 + 256 * x) x) h ∙ sym (dotted b (spelt (digits_of after size count))) in
     ap (λ (x : ℕ). q * 256 + 48 + size / x % 10) e
     ∙ ap (λ (x : ℕ). x * 256 + 48 + size / 10 ^ after % 10) r
-    ∙ turned (packed (cond b (46 ∷ []) [] ++ spelt (digitsOf after size count))) (size / 10 ^ after % 10)
+    ∙ turned (packed (cond b (46 ∷ []) [] ++ spelt (digits_of after size count))) (size / 10 ^ after % 10)
   where
     turned : (x d : ℕ) → x * 256 + 48 + d ≡ 48 + d + 256 * x
     turned x d = omega arith

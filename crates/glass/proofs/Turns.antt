@@ -9,7 +9,7 @@ use mathlib.Core.List.{List, []}
 use lib.Dec.{eqb, lit<}
 use lib.ListN.{length, get_or, drop, drop_of_length-le}
 use Rattle.glass.specs.Shapes.{Cell, cell, cells}
-use Rattle.glass.specs.Reading.{SeenAnswers, EightNibbles, allNibbles}
+use Rattle.glass.specs.Reading.{SeenAnswers, EightNibbles, all_nibbles}
 use Rattle.glass.specs.Walk.{start, reading_of}
 use Rattle.glass.specs.declared.Seen.TheVariants.{Shown, Unreadable}
 use Rattle.glass.specs.declared.read.Front.{Front}
@@ -48,10 +48,10 @@ turn_on s k f g r l h e o i =
     i ∙ ap (laters k) (turn s k f r l h e ∙ ap (λ (x : Next). onward x (walked (drop (suc k) (cells s)))) o)
     ∙ ap (λ (n : ℕ). laters n (walked (drop n (cells s)) g)) (sym (add-one k))
 
-nibbles-of : (s : List ℕ) (k : ℕ) → allNibbles s ≡ true → Nibbles (digit-of s k)
+nibbles-of : (s : List ℕ) (k : ℕ) → all_nibbles s ≡ true → Nibbles (digit-of s k)
 nibbles-of s k e = record { first = in-range-at s (k * 2) e; second = in-range-at s (k * 2 + 1) e }
 
-pub held_on : (s : List ℕ) (k : ℕ) (f g : Front) (r : Next) → allNibbles s ≡ true → r ≡ next f (digit-of s k) (eqb k 3) → r ≡ On g → Held k f → Held (k + 1) g
+pub held_on : (s : List ℕ) (k : ℕ) (f g : Front) (r : Next) → all_nibbles s ≡ true → r ≡ next f (digit-of s k) (eqb k 3) → r ≡ On g → Held k f → Held (k + 1) g
 held_on s k f g r n e o h =
     subst (λ (m : ℕ). Held m g) (sym (add-one k)) (held_next k f (digit-of s k) (eqb k 3) g (nibbles-of s k n) h (sym e ∙ o))
 

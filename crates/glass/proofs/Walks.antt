@@ -11,8 +11,8 @@ use lib.ListN.{length, replicate, length-replicate, replicate-append-replicate}
 use lib.Seq.{append_snoc}
 use borrow.Author.Tests.{eq-eqb, ne_eqb, eqb-true, eqb-false}
 use Rattle.glass.specs.Shapes.{Cell, blank}
-use Rattle.glass.specs.Pictures.{Digit, digit, lit, laid, Numerals, points, whole, afterPoint, signed, Reads}
-use Rattle.glass.specs.Walk.{front, start, numeralTaken, reading_of}
+use Rattle.glass.specs.Pictures.{Digit, digit, lit, laid, Numerals, points, whole, after_point, signed, Reads}
+use Rattle.glass.specs.Walk.{front, start, numeral_taken, reading_of}
 use Rattle.glass.specs.declared.Reading.{Reading}
 use Rattle.glass.specs.declared.Reading.TheVariants.{Dark, Number}
 use Rattle.glass.specs.declared.read.Front.{Front}
@@ -43,40 +43,40 @@ walked [] f = ended f
 walked (c ∷ cs) f = onward (next f c (empty cs)) (walked cs)
 
 -- constructors are apart, and hold what they hold
-abbrev frontOf : Next → Front
-frontOf (On f) = f
-frontOf Off = start
+abbrev front_of : Next → Front
+front_of (On f) = f
+front_of Off = start
 
-abbrev isOn : Next → ℕ
-isOn (On f) = 1
-isOn Off = 0
+abbrev is_on : Next → ℕ
+is_on (On f) = 1
+is_on Off = 0
 
 abbrev end_of : Walked → Front
 end_of (ended f) = f
 end_of (stopped k) = start
 
-abbrev stopOf : Walked → ℕ
-stopOf (ended f) = 0
-stopOf (stopped k) = k
+abbrev stop_of : Walked → ℕ
+stop_of (ended f) = 0
+stop_of (stopped k) = k
 
-abbrev isEnded : Walked → ℕ
-isEnded (ended f) = 1
-isEnded (stopped k) = 0
+abbrev is_ended : Walked → ℕ
+is_ended (ended f) = 1
+is_ended (stopped k) = 0
 
 pub on-on : {f g : Front} → On f ≡ On g → f ≡ g
-on-on e = ap frontOf e
+on-on e = ap front_of e
 
 pub off-on : {g : Front} → Off ≡ On g → ⊥
-off-on e = let h = ap isOn e in omega (arith, h)
+off-on e = let h = ap is_on e in omega (arith, h)
 
 pub ended-ended : {f g : Front} → ended f ≡ ended g → f ≡ g
 ended-ended e = ap end_of e
 
 pub stopped-stopped : {j k : ℕ} → stopped j ≡ stopped k → j ≡ k
-stopped-stopped e = ap stopOf e
+stopped-stopped e = ap stop_of e
 
 pub stopped-ended : {k : ℕ} {g : Front} → stopped k ≡ ended g → ⊥
-stopped-ended e = let h = ap isEnded e in omega (arith, h)
+stopped-ended e = let h = ap is_ended e in omega (arith, h)
 
 later-ended : (w : Walked) {g : Front} → later w ≡ ended g → w ≡ ended g
 later-ended (ended f) e = e
@@ -98,11 +98,11 @@ pub record Grown (f : Front) (n : ℕ) (p : Bool) (g : Front) : Type 0 where
   pub past : 2 ≤ g.stage
   pub places : g.places ≤ f.places + 1
 
-pub grown : (f : Front) (n : ℕ) (p : Bool) (g : Front) → On g ≡ numeralTaken f n p → Grown f n p g
-unfolding numeralTaken
+pub grown : (f : Front) (n : ℕ) (p : Bool) (g : Front) → On g ≡ numeral_taken f n p → Grown f n p g
+unfolding numeral_taken
 grown f n p g e = go (eqb f.stage 3) p (on_of e)
   where
-    on_of : On g ≡ numeralTaken f n p → On g ≡ cond (eqb f.stage 3) (cond p Off (On (front (f.value * 10 + n) 3 f.minus (f.places + 1)))) (On (front (f.value * 10 + n) (cond p 3 2) f.minus 0))
+    on_of : On g ≡ numeral_taken f n p → On g ≡ cond (eqb f.stage 3) (cond p Off (On (front (f.value * 10 + n) 3 f.minus (f.places + 1)))) (On (front (f.value * 10 + n) (cond p 3 2) f.minus 0))
     on_of k = k
 
     by : (h : Front) (x s c : ℕ) → On g ≡ On h → h.value ≡ x → h.stage ≡ s → h.places ≡ c → (g.value ≡ x) × (g.stage ≡ s) × (g.places ≡ c)
@@ -147,18 +147,18 @@ held_next k f c last g n h e = go (view f c last n)
 
 -- what the reader holds after digits
 abbrev pub after : Bool → List Digit → Front
-after m ds = front (whole ds) (2 + points ds) m (afterPoint ds)
+after m ds = front (whole ds) (2 + points ds) m (after_point ds)
 
 alike : (m : Bool) (v s c w t u : ℕ) → v ≡ w → s ≡ t → c ≡ u → On (front v s m c) ≡ On (front w t m u)
 alike m v s c w t u x y z = ap₂ {C = Next} (λ (a b : ℕ). On (front a b m c)) x y ∙ ap {B = Next} (λ (b : ℕ). On (front w t m b)) z
 
 -- a digit more is taken where no second point is lit
-pub digit-on : (m : Bool) (ds : List Digit) (k : ℕ) (p : Bool) → points (ds ++ (digit k p ∷ [])) ≤ 1 → numeralTaken (after m ds) k p ≡ On (after m (ds ++ (digit k p ∷ [])))
-unfolding numeralTaken
+pub digit-on : (m : Bool) (ds : List Digit) (k : ℕ) (p : Bool) → points (ds ++ (digit k p ∷ [])) ≤ 1 → numeral_taken (after m ds) k p ≡ On (after m (ds ++ (digit k p ∷ [])))
+unfolding numeral_taken
 digit-on m ds k p h = go (eqb (2 + points ds) 3) p refl refl
   where
     go : (b q : Bool) → eqb (2 + points ds) 3 ≡ b → p ≡ q
-        → cond b (cond q Off (On (front (whole ds * 10 + k) 3 m (afterPoint ds + 1)))) (On (front (whole ds * 10 + k) (cond q 3 2) m 0)) ≡ On (after m (ds ++ (digit k p ∷ [])))
+        → cond b (cond q Off (On (front (whole ds * 10 + k) 3 m (after_point ds + 1)))) (On (front (whole ds * 10 + k) (cond q 3 2) m 0)) ≡ On (after m (ds ++ (digit k p ∷ [])))
     go true true i j =
         let a = eqb-true (2 + points ds) 3 i in
         let c : points (ds ++ (digit k p ∷ [])) ≡ points ds + 1 = points-snoc ds (digit k p) ∙ ap (λ (x : Bool). points ds + cond x 1 0) j in
@@ -166,13 +166,13 @@ digit-on m ds k p h = go (eqb (2 + points ds) 3) p refl refl
     go true false i j =
         let a = eqb-true (2 + points ds) 3 i in
         let c : points (ds ++ (digit k p ∷ [])) ≡ points ds + 0 = points-snoc ds (digit k p) ∙ ap (λ (x : Bool). points ds + cond x 1 0) j in
-        alike m (whole ds * 10 + k) 3 (afterPoint ds + 1) (whole (ds ++ (digit k p ∷ []))) (2 + points (ds ++ (digit k p ∷ []))) (afterPoint (ds ++ (digit k p ∷ [])))
+        alike m (whole ds * 10 + k) 3 (after_point ds + 1) (whole (ds ++ (digit k p ∷ []))) (2 + points (ds ++ (digit k p ∷ []))) (after_point (ds ++ (digit k p ∷ [])))
         (sym (whole-snoc ds (digit k p))) (omega (arith, a, c)) (sym (places-snoc-one ds (digit k p) (omega (arith, a))))
     go false q i j =
         let a = eqb-false (2 + points ds) 3 i in
         let c : points (ds ++ (digit k p ∷ [])) ≡ points ds + cond q 1 0 = points-snoc ds (digit k p) ∙ ap (λ (x : Bool). points ds + cond x 1 0) j in
         let z : points ds ≡ 0 = omega (arith, a, c, h) in
-        alike m (whole ds * 10 + k) (cond q 3 2) 0 (whole (ds ++ (digit k p ∷ []))) (2 + points (ds ++ (digit k p ∷ []))) (afterPoint (ds ++ (digit k p ∷ [])))
+        alike m (whole ds * 10 + k) (cond q 3 2) 0 (whole (ds ++ (digit k p ∷ []))) (2 + points (ds ++ (digit k p ∷ []))) (after_point (ds ++ (digit k p ∷ [])))
         (sym (whole-snoc ds (digit k p))) (stage q (points ds) (points (ds ++ (digit k p ∷ []))) z c) (sym (places-snoc-none ds (digit k p) z))
       where
         stage : (q : Bool) (x y : ℕ) → x ≡ 0 → y ≡ x + cond q 1 0 → cond q 3 2 ≡ 2 + y
@@ -180,8 +180,8 @@ digit-on m ds k p h = go (eqb (2 + points ds) 3) p refl refl
         stage false x y z c = omega (arith, z, c)
 
 -- a second point is not
-digit-off : (m : Bool) (ds : List Digit) (k : ℕ) → points ds ≡ 1 → numeralTaken (after m ds) k true ≡ Off
-unfolding numeralTaken
+digit-off : (m : Bool) (ds : List Digit) (k : ℕ) → points ds ≡ 1 → numeral_taken (after m ds) k true ≡ Off
+unfolding numeral_taken
 digit-off m ds k h = rw (eq-eqb (2 + points ds) 3 (omega (arith, h))) refl
 
 pub data Came (done : List Cell) (f : Front) : Type 0 where
@@ -191,7 +191,7 @@ pub data Came (done : List Cell) (f : Front) : Type 0 where
 
 -- a digit that the reader takes behind digits, or behind none
 on-digit : (n : ℕ) (m : Bool) (ds : List Digit) (k : ℕ) (p : Bool) (done : List Cell) (g : Front) → Numerals ds → points ds ≤ 1 → k < 10
-    → done ≡ laid n m ds ++ (lit (digit k p) ∷ []) → On g ≡ numeralTaken (after m ds) k p → Came done g
+    → done ≡ laid n m ds ++ (lit (digit k p) ∷ []) → On g ≡ numeral_taken (after m ds) k p → Came done g
 on-digit n m ds k p done g ns one h e r = go (eqb (points ds) 1) p refl refl
   where
     put : points (ds ++ (digit k p ∷ [])) ≤ 1 → Came done g
@@ -200,7 +200,7 @@ on-digit n m ds k p done g ns one h e r = go (eqb (points ds) 1) p refl refl
         (e ∙ laid-snoc n m ds (digit k p)) (on-on (r ∙ digit-on m ds k p o))
 
     go : (b q : Bool) → eqb (points ds) 1 ≡ b → p ≡ q → Came done g
-    go true true i j = absurd (off-on (sym (r ∙ ap (λ (x : Bool). numeralTaken (after m ds) k x) j ∙ digit-off m ds k (eqb-true (points ds) 1 i))))
+    go true true i j = absurd (off-on (sym (r ∙ ap (λ (x : Bool). numeral_taken (after m ds) k x) j ∙ digit-off m ds k (eqb-true (points ds) 1 i))))
     go true false i j =
         let c : points (ds ++ (digit k p ∷ [])) ≡ points ds + 0 = points-snoc ds (digit k p) ∙ ap (λ (x : Bool). points ds + cond x 1 0) j in
         put (omega (arith, c, one))
@@ -213,12 +213,12 @@ on-digit n m ds k p done g ns one h e r = go (eqb (points ds) 1) p refl refl
         put (omega (arith, c, one))
 
 -- blanks alone and a minus are as no digits yet
-pub from_start : (k : ℕ) (p : Bool) → numeralTaken start k p ≡ numeralTaken (after false []) k p
-unfolding numeralTaken
+pub from_start : (k : ℕ) (p : Bool) → numeral_taken start k p ≡ numeral_taken (after false []) k p
+unfolding numeral_taken
 from_start k p = refl
 
-pub from-minus : (k : ℕ) (p : Bool) → numeralTaken (front 0 1 true 0) k p ≡ numeralTaken (after true []) k p
-unfolding numeralTaken
+pub from-minus : (k : ℕ) (p : Bool) → numeral_taken (front 0 1 true 0) k p ≡ numeral_taken (after true []) k p
+unfolding numeral_taken
 from-minus k p = refl
 
 blanks-laid : (n : ℕ) → replicate n blank ≡ laid n false []
@@ -232,15 +232,15 @@ came-next done f c last g n ca e = go ca (view f c last n)
 
     go : Came done f → Stepping f c last (next f c last) → Came (done ++ (c ∷ [])) g
     go (by-blanks i a q) (digit-more k p h b d) =
-        on-digit i false [] k p (done ++ (c ∷ [])) g tt (omega arith) h (more (a ∙ blanks-laid i) b) (sym e ∙ d ∙ ap (λ (x : Front). numeralTaken x k p) q ∙ from_start k p)
+        on-digit i false [] k p (done ++ (c ∷ [])) g tt (omega arith) h (more (a ∙ blanks-laid i) b) (sym e ∙ d ∙ ap (λ (x : Front). numeral_taken x k p) q ∙ from_start k p)
     go (by-blanks i a q) (blank-more b s d) = by-blanks (i + 1) (more a b ∙ replicate-append-replicate i 1 blank) (on-on (sym e ∙ d) ∙ q)
     go (by-blanks i a q) (minus-more b s l d) = by-minus i (more a b) (on-on (sym e ∙ d))
     go (by-minus i a q) (digit-more k p h b d) =
-        on-digit i true [] k p (done ++ (c ∷ [])) g tt (omega arith) h (more a b) (sym e ∙ d ∙ ap (λ (x : Front). numeralTaken x k p) q ∙ from-minus k p)
+        on-digit i true [] k p (done ++ (c ∷ [])) g tt (omega arith) h (more a b) (sym e ∙ d ∙ ap (λ (x : Front). numeral_taken x k p) q ∙ from-minus k p)
     go (by-minus i a q) (blank-more b s d) = absurd (let h = sym s ∙ ap (λ (x : Front). x.stage) q in omega (arith, h))
     go (by-minus i a q) (minus-more b s l d) = absurd (let h = sym s ∙ ap (λ (x : Front). x.stage) q in omega (arith, h))
     go (by_digits i m ds some ns one a q) (digit-more k p h b d) =
-        on-digit i m ds k p (done ++ (c ∷ [])) g ns one h (more a b) (sym e ∙ d ∙ ap (λ (x : Front). numeralTaken x k p) q)
+        on-digit i m ds k p (done ++ (c ∷ [])) g ns one h (more a b) (sym e ∙ d ∙ ap (λ (x : Front). numeral_taken x k p) q)
     go (by_digits i m ds some ns one a q) (blank-more b s d) = absurd (let h = sym s ∙ ap (λ (x : Front). x.stage) q in omega (arith, h))
     go (by_digits i m ds some ns one a q) (minus-more b s l d) = absurd (let h = sym s ∙ ap (λ (x : Front). x.stage) q in omega (arith, h))
     go (by-blanks i a q) (none d) = absurd (off-on (sym d ∙ e))
@@ -248,9 +248,9 @@ came-next done f c last g n ca e = go ca (view f c last n)
     go (by_digits i m ds some ns one a q) (none d) = absurd (off-on (sym d ∙ e))
 
 -- the reading of digits
-pub reading-after : (m : Bool) (ds : List Digit) → reading_of (after m ds) ≡ Number (signed m (whole ds)) (afterPoint ds)
+pub reading-after : (m : Bool) (ds : List Digit) → reading_of (after m ds) ≡ Number (signed m (whole ds)) (after_point ds)
 reading-after m ds =
-    ap {B = Reading} (λ (b : Bool). cond b Dark (Number (signed m (whole ds)) (afterPoint ds))) (ne_eqb (2 + points ds) 0 (λ h. absurd (omega (arith, h))))
+    ap {B = Reading} (λ (b : Bool). cond b Dark (Number (signed m (whole ds)) (after_point ds))) (ne_eqb (2 + points ds) 0 (λ h. absurd (omega (arith, h))))
 
 came-reads : (p : List Cell) (f : Front) → Came p f → (f.stage ≡ 1 → ⊥) → Reads p (reading_of f)
 came-reads p f (by-blanks n e q) h =

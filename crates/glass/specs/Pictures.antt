@@ -37,9 +37,9 @@ whole [] = 0
 whole (d ∷ ds) = d.numeral * 10 ^ length ds + whole ds
 
 -- "the count of digits after the point", 0 where none is lit
-abbrev pub afterPoint : List Digit → ℕ
-afterPoint [] = 0
-afterPoint (d ∷ ds) = cond d.pointed (length ds) (afterPoint ds)
+abbrev pub after_point : List Digit → ℕ
+after_point [] = 0
+after_point (d ∷ ds) = cond d.pointed (length ds) (after_point ds)
 
 -- a signed number. "Minus zero reads as 0": there is one zero
 abbrev pub signed : Bool → ℕ → ℤ
@@ -55,7 +55,7 @@ pub record Numbered (picture : List Cell) (value : ℤ) (count : ℕ) : Type 0 w
   pub one-point : points digits ≤ 1
   pub parts : picture ≡ laid blanks minus digits
   pub valued : value ≡ signed minus (whole digits)
-  pub counted : count ≡ afterPoint digits
+  pub counted : count ≡ after_point digits
 
 -- what a picture is read as
 abbrev pub Reads : List Cell → Reading → Type 0

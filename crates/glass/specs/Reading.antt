@@ -26,47 +26,47 @@ pub record Leftmost (picture : List Cell) (k : ℕ) : Type 0 where
   pub first : (j : ℕ) → j < k → Wrong picture j → ⊥
 
 -- "3 for a picture nibble over 15"
-unfoldable pub allNibbles : List ℕ → Bool
-allNibbles [] = true
-allNibbles (x ∷ xs) = ltb x 16 && allNibbles xs
+unfoldable pub all_nibbles : List ℕ → Bool
+all_nibbles [] = true
+all_nibbles (x ∷ xs) = ltb x 16 && all_nibbles xs
 
 -- eight nibbles, none over 15
 abbrev pub EightNibbles : List ℕ → Type 0
-EightNibbles s = (length s ≡ 2 * glass) × (allNibbles s ≡ true)
+EightNibbles s = (length s ≡ 2 * glass) × (all_nibbles s ≡ true)
 
 -- the paper's number of each answer, 0 for an answer that is not refused. 2 is a picture of another length
-abbrev pub seenRefusal : Seen → ℕ
-seenRefusal (Shown r) = 0
-seenRefusal BadLength = 2
-seenRefusal BadNibble = 3
-seenRefusal (Unreadable k) = 16
+abbrev pub seen_refusal : Seen → ℕ
+seen_refusal (Shown r) = 0
+seen_refusal BadLength = 2
+seen_refusal BadNibble = 3
+seen_refusal (Unreadable k) = 16
 
 -- and its values: the reading of 0, the digit of 16. Dark and 0 stand beside any other number
-abbrev pub seenReading : Seen → Reading
-seenReading (Shown r) = r
-seenReading BadLength = Dark
-seenReading BadNibble = Dark
-seenReading (Unreadable k) = Dark
+abbrev pub seen_reading : Seen → Reading
+seen_reading (Shown r) = r
+seen_reading BadLength = Dark
+seen_reading BadNibble = Dark
+seen_reading (Unreadable k) = Dark
 
-abbrev pub seenDigit : Seen → ℕ
-seenDigit (Shown r) = 0
-seenDigit BadLength = 0
-seenDigit BadNibble = 0
-seenDigit (Unreadable k) = k
+abbrev pub seen_digit : Seen → ℕ
+seen_digit (Shown r) = 0
+seen_digit BadLength = 0
+seen_digit BadNibble = 0
+seen_digit (Unreadable k) = k
 
 -- what each number says of a picture, with an answer's values: 0, that it reads so; document 01's 2, a buffer of another length; "3 for a picture
 -- nibble over 15; then 16 .."
 abbrev pub SeenSays : List ℕ → Seen → ℕ → Type 0
 SeenSays s x n =
-    cond (eqb n 0) (EightNibbles s × Reads (cells s) (seenReading x))
+    cond (eqb n 0) (EightNibbles s × Reads (cells s) (seen_reading x))
     (cond (eqb n 2) (length s ≡ 2 * glass → ⊥)
-    (cond (eqb n 3) ((length s ≡ 2 * glass) × (allNibbles s ≡ false))
-    (cond (eqb n 16) (EightNibbles s × Leftmost (cells s) (seenDigit x))
+    (cond (eqb n 3) ((length s ≡ 2 * glass) × (all_nibbles s ≡ false))
+    (cond (eqb n 16) (EightNibbles s × Leftmost (cells s) (seen_digit x))
     ⊥)))
 
 -- an answer says what its number says
 abbrev pub SeenAnswers : List ℕ → Seen → Type 0
-SeenAnswers s x = SeenSays s x (seenRefusal x)
+SeenAnswers s x = SeenSays s x (seen_refusal x)
 
 -- a picture has one answer
 abbrev pub SeenDetermined : Type 0

@@ -2,7 +2,7 @@
 use Rattle.std.specs.Prelude.{ℕ, ◌+◌, ◌*◌, cond, List, [], ◌∷◌, ◌++◌, nat_abs}
 use Prim.Native.Char.{code}
 use Rattle.glass.specs.Pictures.{Digit}
-use Rattle.glass.specs.Drawing.{fewest, digitsOf, isNegative, fitting}
+use Rattle.glass.specs.Drawing.{fewest, digits_of, is_negative, fitting}
 use Rattle.glass.specs.declared.Reading.{Reading}
 use Rattle.glass.specs.declared.Reading.TheVariants.{Dark, Number}
 
@@ -15,11 +15,11 @@ spelt (d ∷ ds) = (code "0" + d.numeral) ∷ (cond d.pointed (code "." ∷ []) 
 abbrev pub written : Reading → List ℕ
 written Dark = code "d" ∷ code "a" ∷ code "r" ∷ code "k" ∷ []
 written (Number value count) =
-    cond (isNegative value) (code "-" ∷ []) [] ++ spelt (digitsOf (fewest (nat_abs value) count) (nat_abs value) count)
+    cond (is_negative value) (code "-" ∷ []) [] ++ spelt (digits_of (fewest (nat_abs value) count) (nat_abs value) count)
 
 -- the text of a reading. One that does not fit the glass has none: so a text has at most five characters, and eight bytes hold it
-unfoldable pub textOf : Reading → List ℕ
-textOf r = cond (fitting r) (written r) []
+unfoldable pub text_of : Reading → List ℕ
+text_of r = cond (fitting r) (written r) []
 
 -- characters as the bytes of a number, the first lowest
 abbrev pub packed : List ℕ → ℕ

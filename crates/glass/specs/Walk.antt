@@ -2,7 +2,7 @@
 use Rattle.std.specs.Prelude.{ℕ, suc, ◌+◌, ◌*◌, ◌/◌, ◌%◌, ◌^◌, Bool, true, false, cond, List, [], ◌∷◌, ◌++◌, map, eqb, ltb}
 use Rattle.glass.specs.Shapes.{Cell, shapes, blank, hyphen}
 use Rattle.glass.specs.Pictures.{digit, lit, signed}
-use Rattle.glass.specs.Drawing.{pointAt}
+use Rattle.glass.specs.Drawing.{point_at}
 use Rattle.glass.specs.declared.Reading.{Reading}
 use Rattle.glass.specs.declared.Reading.TheVariants.{Dark, Number}
 use Rattle.glass.specs.declared.read.Front.{Front}
@@ -23,8 +23,8 @@ abbrev pub codes : List ℕ
 codes = map code_of (shapes ++ (blank ∷ hyphen ∷ []))
 
 -- what a code shows: 0 to 9, 10 for a blank, 11 for a minus, 12 for anything else
-unfoldable pub shownAs : ℕ → ℕ
-shownAs x = place_in codes x
+unfoldable pub shown_as : ℕ → ℕ
+shown_as x = place_in codes x
 
 abbrev pub front : ℕ → ℕ → Bool → ℕ → Front
 front value stage minus places = record { value = value; stage = stage; minus = minus; places = places }
@@ -33,8 +33,8 @@ abbrev pub start : Front
 start = front 0 0 false 0
 
 -- a numeral more
-unfoldable pub numeralTaken : Front → ℕ → Bool → Next
-numeralTaken f n pointed =
+unfoldable pub numeral_taken : Front → ℕ → Bool → Next
+numeral_taken f n pointed =
     cond (eqb f.stage 3)
     (cond pointed Off (On (front (f.value * 10 + n) 3 f.minus (f.places + 1))))
     (On (front (f.value * 10 + n) (cond pointed 3 2) f.minus 0))
@@ -42,7 +42,7 @@ numeralTaken f n pointed =
 -- a digit more, by what it shows; `last` where none stands after it
 unfoldable pub stepped : Front → ℕ → Bool → Bool → Next
 stepped f mark pointed last =
-    cond (ltb mark 10) (numeralTaken f mark pointed)
+    cond (ltb mark 10) (numeral_taken f mark pointed)
     (cond pointed Off
     (cond (eqb f.stage 0)
     (cond (eqb mark 10) (On f) (cond last Off (cond (eqb mark 11) (On (front 0 1 true 0)) Off)))
@@ -60,7 +60,7 @@ byte_of k = k.abcd + k.efgp * 16
 abbrev pub placed : Bool → ℕ → ℕ → ℕ → ℕ → Cell
 placed minus size count n after =
     cond (ltb after n)
-    (lit (digit (size / 10 ^ after % 10) (pointAt after count)))
+    (lit (digit (size / 10 ^ after % 10) (point_at after count)))
     (cond (eqb after n) (cond minus hyphen blank) blank)
 
 abbrev pub row : Bool → ℕ → ℕ → ℕ → List Cell

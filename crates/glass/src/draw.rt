@@ -1,7 +1,7 @@
 // Drawing a reading, at the right with the fewest digits.
 ghost use Rattle.std.specs.Prelude.{◌≡◌, ◌^◌, ◌≤◌, length};
 ghost use Rattle.glass.specs.Shapes.{nibbles};
-ghost use Rattle.glass.specs.Drawing.{drawing, drawnOver, enough, fewest, fits, pointAt};
+ghost use Rattle.glass.specs.Drawing.{drawing, drawn_over, enough, fewest, fits, point_at};
 ghost use Rattle.glass.specs.Walk.{byte_of, placed, row};
 
 use crate::Reading;
@@ -58,7 +58,7 @@ pub(crate) fn fits(minus: bool, n: u8) -> bool
 
 // Whether the point is lit on the digit that has `after` places to its right.
 pub(crate) fn point_at(after: u8, places: u8) -> bool
-    ensures { result ≡ pointAt after places }
+    ensures { result ≡ point_at after places }
 {
     if after == places {
         return places != 0;
@@ -119,7 +119,7 @@ fn put(nibbles: [u8; 8], picture: &mut [u8])
 
 fn draw_number(value: i32, places: u8, picture: &mut [u8]) -> u8
     requires { length picture.old ≡ 8 }
-    ensures { drawing result 0 picture.new ≡ drawnOver (Reading.Number value places) picture.old }
+    ensures { drawing result 0 picture.new ≡ drawn_over (Reading.Number value places) picture.old }
 {
     let minus = negative(value);
     let size = size(value);
@@ -133,7 +133,7 @@ fn draw_number(value: i32, places: u8, picture: &mut [u8]) -> u8
 
 fn draw_blank(picture: &mut [u8]) -> u8
     requires { length picture.old ≡ 8 }
-    ensures { drawing result 0 picture.new ≡ drawnOver Reading.Dark picture.old }
+    ensures { drawing result 0 picture.new ≡ drawn_over Reading.Dark picture.old }
 {
     put([0; 8], picture);
     0
@@ -141,7 +141,7 @@ fn draw_blank(picture: &mut [u8]) -> u8
 
 // Draws a reading, or refuses with 2 for the picture's length or 16 where the reading does not fit: then nothing is written.
 pub fn draw(reading: Reading, picture: &mut [u8]) -> u8
-    ensures { drawing result 0 picture.new ≡ drawnOver reading picture.old }
+    ensures { drawing result 0 picture.new ≡ drawn_over reading picture.old }
 {
     if picture.len() != 8 {
         return 2;

@@ -1,8 +1,8 @@
 // Reading a picture, digit by digit from the left.
 ghost use Rattle.std.specs.Prelude.{◌≡◌, true, ◌/◌, ◌<◌, ◌≤◌, eqb, length};
 ghost use Rattle.glass.specs.Shapes.{cell};
-ghost use Rattle.glass.specs.Reading.{SeenAnswers, allNibbles};
-ghost use Rattle.glass.specs.Walk.{code_of, numeralTaken, reading_of, shownAs, stepped};
+ghost use Rattle.glass.specs.Reading.{SeenAnswers, all_nibbles};
+ghost use Rattle.glass.specs.Walk.{code_of, numeral_taken, reading_of, shown_as, stepped};
 
 use crate::shapes::shown;
 use crate::signed::signed;
@@ -27,7 +27,7 @@ enum Next {
 // A numeral more.
 fn take_numeral(front: Front, numeral: u8, point: bool) -> Next
     requires { (front.value < 1000) × (front.places ≤ 3) × (numeral < 10) }
-    ensures { result ≡ numeralTaken front numeral point }
+    ensures { result ≡ numeral_taken front numeral point }
 {
     let value = front.value * 10 + numeral as u16;
     if front.stage == 3 {
@@ -60,7 +60,7 @@ fn take_numeral(front: Front, numeral: u8, point: bool) -> Next
 // A minus on the last digit has no digit after it.
 fn step(front: Front, abcd: u8, efgp: u8, last: bool) -> Next
     requires { (front.value < 1000) × (front.places ≤ 3) × (abcd < 16) }
-    ensures { result ≡ stepped front (shownAs (code_of (cell abcd efgp))) (eqb (efgp / 8) 1) last }
+    ensures { result ≡ stepped front (shown_as (code_of (cell abcd efgp))) (eqb (efgp / 8) 1) last }
 {
     let point = efgp / 8 == 1;
     let mark = shown(abcd + efgp % 8 * 16);
@@ -101,7 +101,7 @@ fn told(front: Front) -> Seen
 }
 
 fn walk(picture: &[u8]) -> Seen
-    requires { (length picture.now ≡ 8) × (allNibbles picture.now ≡ true) }
+    requires { (length picture.now ≡ 8) × (all_nibbles picture.now ≡ true) }
     ensures { SeenAnswers picture.now result }
 {
     let mut front = Front {
@@ -123,7 +123,7 @@ fn walk(picture: &[u8]) -> Seen
 }
 
 fn in_range(picture: &[u8]) -> bool
-    ensures { result ≡ allNibbles picture.now }
+    ensures { result ≡ all_nibbles picture.now }
 {
     let mut i = 0;
     while i < picture.len() {

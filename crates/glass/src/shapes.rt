@@ -1,7 +1,7 @@
 // The shapes of a digit. A code is the first nibble (a, b, c, d) and 16 times e, f, g: the point is not in it.
 ghost use Rattle.std.specs.Prelude.{◌≡◌};
 ghost use Rattle.glass.specs.Shapes.{shape};
-ghost use Rattle.glass.specs.Walk.{code_of, shownAs};
+ghost use Rattle.glass.specs.Walk.{code_of, shown_as};
 
 // The code of 0 to 9; blank for any other number.
 pub(crate) fn shape(numeral: u8) -> u8
@@ -24,7 +24,7 @@ pub(crate) fn shape(numeral: u8) -> u8
 
 // What a code shows: 0 to 9, 10 for a blank, 11 for a minus, 12 for anything else.
 pub(crate) fn shown(code: u8) -> u8
-    ensures { result ≡ shownAs code }
+    ensures { result ≡ shown_as code }
 {
     match code {
         0x3f => 0,

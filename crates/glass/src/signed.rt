@@ -1,7 +1,7 @@
 // A signed whole number as its sign and its size, and back.
 ghost use Rattle.std.specs.Prelude.{◌≡◌, nat_abs};
 ghost use Rattle.glass.specs.Pictures.{signed};
-ghost use Rattle.glass.specs.Drawing.{isNegative};
+ghost use Rattle.glass.specs.Drawing.{is_negative};
 
 pub(crate) fn signed(minus: bool, size: u16) -> i32
     ensures { result ≡ signed minus size }
@@ -14,7 +14,7 @@ pub(crate) fn signed(minus: bool, size: u16) -> i32
 }
 
 pub fn negative(value: i32) -> bool
-    ensures { result ≡ isNegative value }
+    ensures { result ≡ is_negative value }
 {
     value < 0
 }

@@ -1,7 +1,7 @@
 // A reading as a person writes it: `dark`, 12.34, -0.50. A text is a number whose bytes are its characters, the first lowest.
 ghost use Rattle.std.specs.Prelude.{◌≡◌, cond, ◌+◌, ◌*◌, ◌^◌, ◌<◌, ◌≤◌};
-ghost use Rattle.glass.specs.Drawing.{digitsOf, pointAt};
-ghost use Rattle.glass.specs.Text.{packed, spelt, textOf};
+ghost use Rattle.glass.specs.Drawing.{digits_of, point_at};
+ghost use Rattle.glass.specs.Text.{packed, spelt, text_of};
 
 use crate::Reading;
 use crate::draw::{fewest, fits, point_at, power};
@@ -10,7 +10,7 @@ use crate::signed::{negative, size};
 // A point before a text, where so many digits follow it.
 fn pointed(text: u64, places: u8, after: u8) -> u64
     requires { text < 65536 ^ 3 }
-    ensures { result ≡ cond (pointAt after places) (46 + 256 * text) text }
+    ensures { result ≡ cond (point_at after places) (46 + 256 * text) text }
 {
     if point_at(after, places) {
         return text * 256 + 46;
@@ -21,7 +21,7 @@ fn pointed(text: u64, places: u8, after: u8) -> u64
 // The characters of the last `n` digits, the point among them.
 fn digits(size: u32, places: u8, n: u8) -> u64
     requires { n ≤ 4 }
-    ensures { (result ≡ packed (spelt (digitsOf n size places))) × (result < 65536 ^ n) }
+    ensures { (result ≡ packed (spelt (digits_of n size places))) × (result < 65536 ^ n) }
 {
     let mut text = 0u64;
     let mut after = 0u8;
@@ -34,7 +34,7 @@ fn digits(size: u32, places: u8, n: u8) -> u64
 }
 
 fn text_of(value: i32, places: u8) -> u64
-    ensures { result ≡ packed (textOf (Reading.Number value places)) }
+    ensures { result ≡ packed (text_of (Reading.Number value places)) }
 {
     let minus = negative(value);
     let size = size(value);
@@ -51,7 +51,7 @@ fn text_of(value: i32, places: u8) -> u64
 
 // The text of a reading; 0, no characters, where it does not fit the glass.
 pub fn text(reading: Reading) -> u64
-    ensures { result ≡ packed (textOf reading) }
+    ensures { result ≡ packed (text_of reading) }
 {
     match reading {
         Reading::Dark => 0x6b726164,

@@ -15,19 +15,19 @@ use Rattle.isa.specs.Views.{View, on, jmp, branch, call, ret, reti, ei, view}
 use Rattle.isa.specs.declared.Instruction.{Instruction}
 use Rattle.isa.specs.declared.decoder.Decoded.{Decoded}
 use Rattle.isa.specs.declared.decoder.Decoded.TheVariants.{Read, Unreadable}
-use Rattle.rom.specs.Fetching.{Bytes, readAt, length_at, cyclesAt, movedFrom, branchTo}
+use Rattle.rom.specs.Fetching.{Bytes, read_at, length_at, cycles_at, moved_from, branch_to}
 use Rattle.cpu.specs.declared.Cpu.{Cpu}
-use Rattle.cpu.specs.State.{State, onCpu, address, withPc, withTf, withHeld, withLevel, withStack}
+use Rattle.cpu.specs.State.{State, on_cpu, address, with_pc, with_tf, with_held, with_level, with_stack}
 use Rattle.cpu.specs.Effect.{effect}
-use Rattle.cpu.specs.Step.{ticked, entered, moved, settled, instructed, executed, vectorOf, stepped, stopped, step}
+use Rattle.cpu.specs.Step.{ticked, entered, moved, settled, instructed, executed, vector_of, stepped, stopped, step}
 use Rattle.cpu.specs.Run.{ran}
 use Rattle.cpu.proofs.Leaves.{Standing, standing, ticked-same, GoesTo, Returns, Leaves, leaves}
 use Rattle.reach.specs.Chains.{Member, here, there}
 use Rattle.reach.proofs.Chains.{reached-next}
-use Rattle.checker.specs.Marks.{Pair, pair, flowBy, flow_of, flowRead, flowAt, faultIn, handed, fault, successors, Reached}
+use Rattle.checker.specs.Marks.{Pair, pair, flow_by, flow_of, flow_read, flow_at, fault_in, handed, fault, successors, Reached}
 use Rattle.checker.specs.declared.flow.Flow.{Flow}
 use Rattle.checker.specs.declared.flow.Flow.TheVariants.{Unread}
-use Rattle.checker.specs.Verdicts.{isMarked, Marked, Safe}
+use Rattle.checker.specs.Verdicts.{is_marked, Marked, Safe}
 use Rattle.checker.proofs.Reach.{reached-level, reached-address}
 
 -- a mask confines a program to places
@@ -84,12 +84,12 @@ module _ (R : ℕ → ℕ → Type 0) (s t : Standing) (to : ℕ) (k : Kept R s)
       subst (Kept R) (sym (l z)) (record { here = k.back z; back = λ h. absurd (h refl); vectors = k.vectors; no-fault = k.no-fault })
 
   -- an instruction hands the program on to such places: what it leaves keeps
-  handing : {i : Instruction} (v : View i) → Leaves v (moved_to to s) t → faultIn (flowBy v) s.level ≡ 0
-      → ((q : Pair) → Member q (handed (flowBy v) to s.level) → R q.address q.level) → Kept R t
+  handing : {i : Instruction} (v : View i) → Leaves v (moved_to to s) t → fault_in (flow_by v) s.level ≡ 0
+      → ((q : Pair) → Member q (handed (flow_by v) to s.level) → R q.address q.level) → Kept R t
   handing on l n r = goes_kept to l (r (pair to s.level) here)
   handing (jmp a) l n r = goes_kept a.0 l (r (pair a.0 s.level) here)
   handing (branch a c) (inl l) n r = goes_kept to l (r (pair to s.level) here)
-  handing (branch a c) (inr l) n r = goes_kept (branchTo to a) l (r (pair (branchTo to a) s.level) (there here))
+  handing (branch a c) (inr l) n r = goes_kept (branch_to to a) l (r (pair (branch_to to a) s.level) (there here))
   handing (call a) l n r =
       subst (Kept R) (sym (l (main-only s.level n)))
       (record { here = r (pair a.0 1) here; back = λ h. r (pair to 0) (there here); vectors = k.vectors; no-fault = k.no-fault })
@@ -106,15 +106,15 @@ module _ (R : ℕ → ℕ → Type 0) (s t : Standing) (to : ℕ) (k : Kept R s)
 
 module _ (mask : List ℕ) (R : ℕ → ℕ → Type 0) (confines : Confines mask R) where
   -- what a place hands on is one of them
-  next : (a l : ℕ) (f : Flow) → R a l → flowAt mask a ≡ f → (q : Pair) → Member q (handed f (movedFrom mask a) l) → R q.address q.level
+  next : (a l : ℕ) (f : Flow) → R a l → flow_at mask a ≡ f → (q : Pair) → Member q (handed f (moved_from mask a) l) → R q.address q.level
   unfolding successors
   next a l f r e q m =
-      confines.next a l r q (rw (eq-eqb (fault mask (pair a l)) 0 (confines.allowed a l r)) (subst (λ (x : Flow). Member q (handed x (movedFrom mask a) l)) (sym e) m))
+      confines.next a l r q (rw (eq-eqb (fault mask (pair a l)) 0 (confines.allowed a l r)) (subst (λ (x : Flow). Member q (handed x (moved_from mask a) l)) (sym e) m))
 
   -- and gives no fault
-  allowed : (a l : ℕ) (f : Flow) → R a l → flowAt mask a ≡ f → faultIn f l ≡ 0
+  allowed : (a l : ℕ) (f : Flow) → R a l → flow_at mask a ≡ f → fault_in f l ≡ 0
   unfolding fault
-  allowed a l f r e = subst (λ (x : Flow). faultIn x l ≡ 0) e (confines.allowed a l r)
+  allowed a l f r e = subst (λ (x : Flow). fault_in x l ≡ 0) e (confines.allowed a l r)
 
   -- the cycles go by
   ticked-kept : (n : ℕ) (c : Cpu) → Keeps R c → Keeps R (ticked n c)
@@ -123,26 +123,26 @@ module _ (mask : List ℕ) (R : ℕ → ℕ → Type 0) (confines : Confines mas
   settled-kept : (n : ℕ) (s t : State) → Keeps R t.cpu → Keeps R (settled n s t).cpu
   settled-kept n s t k = rw (eq-eqb t.cpu.status.fault 0 k.no-fault) (ticked-kept n t.cpu k)
 
-  instructed-kept : (s : State) (d : Decoded) → Keeps R s.cpu → readAt mask s.cpu.control.pc.0 ≡ d
-      → Keeps R (instructed mask d (length_at mask s.cpu.control.pc.0) (cyclesAt mask s.cpu.control.pc.0) s).cpu
-  unfolding flow_of flowAt
-  instructed-kept s Unreadable k e = absurd (omega (arith, allowed s.cpu.control.pc.0 s.cpu.interrupts.level Unread k.here (ap flowRead e)))
+  instructed-kept : (s : State) (d : Decoded) → Keeps R s.cpu → read_at mask s.cpu.control.pc.0 ≡ d
+      → Keeps R (instructed mask d (length_at mask s.cpu.control.pc.0) (cycles_at mask s.cpu.control.pc.0) s).cpu
+  unfolding flow_of flow_at
+  instructed-kept s Unreadable k e = absurd (omega (arith, allowed s.cpu.control.pc.0 s.cpu.interrupts.level Unread k.here (ap flow_read e)))
   instructed-kept s (Read i) k e =
       let pc = s.cpu.control.pc.0 in
       let l = s.cpu.interrupts.level in
-      let m = onCpu (moved (length_at mask pc)) s in
-      settled-kept (cyclesAt mask pc) s (effect mask i m)
-      (handing R (standing s.cpu) (standing (effect mask i m).cpu) (movedFrom mask pc) k (view i) (leaves mask i m)
-      (allowed pc l (flow_of i) k.here (ap flowRead e)) (next pc l (flow_of i) k.here (ap flowRead e)))
+      let m = on_cpu (moved (length_at mask pc)) s in
+      settled-kept (cycles_at mask pc) s (effect mask i m)
+      (handing R (standing s.cpu) (standing (effect mask i m).cpu) (moved_from mask pc) k (view i) (leaves mask i m)
+      (allowed pc l (flow_of i) k.here (ap flow_read e)) (next pc l (flow_of i) k.here (ap flow_read e)))
 
   executed-kept : (s : State) → Keeps R s.cpu → Keeps R (executed mask s).cpu
   unfolding executed
-  executed-kept s k = instructed-kept s (readAt mask s.cpu.control.pc.0) k refl
+  executed-kept s k = instructed-kept s (read_at mask s.cpu.control.pc.0) k refl
 
   -- ---- an interrupt
   -- it is taken only in level 0 with the enable flag on
-  vector-from : (c : Cpu) (v : ℕ) → vectorOf c ≡ v → (v ≡ 0 → ⊥) → (c.interrupts.level ≡ 0) × (c.interrupts.enabled ≡ 1)
-  unfolding vectorOf
+  vector-from : (c : Cpu) (v : ℕ) → vector_of c ≡ v → (v ≡ 0 → ⊥) → (c.interrupts.level ≡ 0) × (c.interrupts.enabled ≡ 1)
+  unfolding vector_of
   vector-from c v e n = go (eqb c.interrupts.level 0) (eqb c.interrupts.enabled 1) (eqb-true c.interrupts.level 0) (eqb-true c.interrupts.enabled 1) e
     where
       go : (t u : Bool) → (t ≡ true → c.interrupts.level ≡ 0) → (u ≡ true → c.interrupts.enabled ≡ 1)
@@ -154,7 +154,7 @@ module _ (mask : List ℕ) (R : ℕ → ℕ → Type 0) (confines : Confines mas
   entered-kept : (c : Cpu) (v : ℕ) → c.interrupts.level ≡ 0 → R v 2 → Keeps R c → Keeps R (entered v c)
   unfolding entered
   entered-kept c v z r k =
-      ticked-kept 2 (withStack (record { address = c.control.pc; carry = c.control.cf }) (withLevel 2 (withPc (address v) c)))
+      ticked-kept 2 (with_stack (record { address = c.control.pc; carry = c.control.cf }) (with_level 2 (with_pc (address v) c)))
       (record {
         here = r;
         back = λ h. subst (R c.control.pc.0) z k.here;
@@ -165,18 +165,18 @@ module _ (mask : List ℕ) (R : ℕ → ℕ → Type 0) (confines : Confines mas
   -- ---- one step, and Run
   stepped_kept : (s : State) → Keeps R s.cpu → Keeps R (stepped mask s).cpu
   unfolding stepped
-  stepped_kept s k = first (eqb (vectorOf s.cpu) 8) (eqb-true (vectorOf s.cpu) 8)
+  stepped_kept s k = first (eqb (vector_of s.cpu) 8) (eqb-true (vector_of s.cpu) 8)
     where
-      second : (t : Bool) → (t ≡ true → vectorOf s.cpu ≡ 4) → Keeps R (pick t (onCpu (λ (c : Cpu). entered 4 (withTf 0 c)) s) (executed mask s)).cpu
+      second : (t : Bool) → (t ≡ true → vector_of s.cpu ≡ 4) → Keeps R (pick t (on_cpu (λ (c : Cpu). entered 4 (with_tf 0 c)) s) (executed mask s)).cpu
       second true f =
-          let h = vector-from s.cpu 4 (f refl) (λ e. absurd (omega arith)) in entered-kept (withTf 0 s.cpu) 4 h.0 (k.vectors h.1).0 k
+          let h = vector-from s.cpu 4 (f refl) (λ e. absurd (omega arith)) in entered-kept (with_tf 0 s.cpu) 4 h.0 (k.vectors h.1).0 k
       second false f = executed-kept s k
 
-      first : (t : Bool) → (t ≡ true → vectorOf s.cpu ≡ 8)
-          → Keeps R (pick t (onCpu (λ (c : Cpu). entered 8 (withHeld 0 c)) s) (pick (eqb (vectorOf s.cpu) 4) (onCpu (λ (c : Cpu). entered 4 (withTf 0 c)) s) (executed mask s))).cpu
+      first : (t : Bool) → (t ≡ true → vector_of s.cpu ≡ 8)
+          → Keeps R (pick t (on_cpu (λ (c : Cpu). entered 8 (with_held 0 c)) s) (pick (eqb (vector_of s.cpu) 4) (on_cpu (λ (c : Cpu). entered 4 (with_tf 0 c)) s) (executed mask s))).cpu
       first true f =
-          let h = vector-from s.cpu 8 (f refl) (λ e. absurd (omega arith)) in entered-kept (withHeld 0 s.cpu) 8 h.0 (k.vectors h.1).1 k
-      first false f = second (eqb (vectorOf s.cpu) 4) (eqb-true (vectorOf s.cpu) 4)
+          let h = vector-from s.cpu 8 (f refl) (λ e. absurd (omega arith)) in entered-kept (with_held 0 s.cpu) 8 h.0 (k.vectors h.1).1 k
+      first false f = second (eqb (vector_of s.cpu) 4) (eqb-true (vector_of s.cpu) 4)
 
   pub step_kept : (s : State) → Keeps R s.cpu → Keeps R (step mask s).cpu
   unfolding step
@@ -199,7 +199,7 @@ pub safe-confines : (mask : List ℕ) → Safe mask → Confines mask (ReachedAt
 safe-confines mask safe = record { next = λ a l r q m. reached-next r m; allowed = λ a l r. safe (pair a l) r }
 
 -- the checker's marks are the reached pairs
-pub kept-marked : (mask marks : List ℕ) → Bytes mask → Marked mask marks → (s : Standing) → Kept (ReachedAt mask) s → isMarked marks s.pc s.level ≡ true
+pub kept-marked : (mask marks : List ℕ) → Bytes mask → Marked mask marks → (s : Standing) → Kept (ReachedAt mask) s → is_marked marks s.pc s.level ≡ true
 kept-marked mask marks bytes m s k =
     let p = pair s.pc s.level in
     m.full s.pc s.level (reached-address mask bytes p k.here) (reached-level mask p k.here) k.here

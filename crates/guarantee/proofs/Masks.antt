@@ -11,25 +11,25 @@ use lib.Dec.{eqb}
 use lib.ListN.{length, get_or, replicate, length-replicate, get_or-replicate}
 use Rattle.isa.specs.Code.{addresses}
 use Rattle.isa.specs.Reading.{decoded, opcodes}
-use Rattle.isa.specs.Timing.{columnsOf, columnsAt}
+use Rattle.isa.specs.Timing.{columns_of, columns_at}
 use Rattle.isa.specs.Views.{view}
 use Rattle.isa.specs.declared.Instruction.TheVariants as I
 use Rattle.isa.specs.declared.decoder.Decoded.TheVariants.{Read, Unreadable}
-use Rattle.rom.specs.Fetching.{sized, byteAt, readAt, length_at}
+use Rattle.rom.specs.Fetching.{sized, byte_at, read_at, length_at}
 use Rattle.rom.proofs.Fetching.{full, read-bytes, length-bytes}
 use Rattle.machine.specs.Table.{nops}
 use Rattle.machine.proofs.Table.{table}
 use Rattle.reach.specs.Chains.{Member, here}
 use Rattle.reach.proofs.Chains.{reached-start, reached-next, reached-all}
-use Rattle.checker.specs.Marks.{Pair, pair, flow_of, flowAt, fault, successors, Reached}
-use Rattle.checker.specs.Verdicts.{marksSize, Answers, Marked, rank, Safe, Lowest}
+use Rattle.checker.specs.Marks.{Pair, pair, flow_of, flow_at, fault, successors, Reached}
+use Rattle.checker.specs.Verdicts.{marks_size, Answers, Marked, rank, Safe, Lowest}
 use Rattle.checker.specs.declared.check.Verdict.{Verdict}
 use Rattle.checker.specs.declared.check.Verdict.TheVariants.{Passed, Failed}
 use Rattle.checker.proofs.Answer.{its-bit, same-marks, answer-passed, answer-failed}
 use Rattle.guarantee.specs.Table.{ProvedTable}
 
 -- ---- all 3E
-nop-at : (a : ℕ) → byteAt nops a ≡ 0x3e
+nop-at : (a : ℕ) → byte_at nops a ≡ 0x3e
 unfolding nops
 nop-at a = get_or-replicate addresses (a % addresses) 0x3e 0 (below a)
   where
@@ -37,21 +37,21 @@ nop-at a = get_or-replicate addresses (a % addresses) 0x3e 0 (below a)
     below a = omega arith
 
 -- a NOP hands on to the next address in its level, and gives no fault
-module _ (mask : List ℕ) (a l : ℕ) (e : byteAt mask a ≡ 0x3e) where
-  nop-read : readAt mask a ≡ Read I.Nop
+module _ (mask : List ℕ) (a l : ℕ) (e : byte_at mask a ≡ 0x3e) where
+  nop-read : read_at mask a ≡ Read I.Nop
   unfolding decoded opcodes
   nop-read = read-bytes mask a ∙ rw e refl
 
   nop-length : length_at mask a ≡ 1
-  unfolding opcodes columnsOf columnsAt
+  unfolding opcodes columns_of columns_at
   nop-length = length-bytes mask a ∙ rw e refl
 
   nop-next : successors mask (pair a l) ≡ pair ((a + 1) % addresses) l ∷ []
-  unfolding successors fault flowAt flow_of view
+  unfolding successors fault flow_at flow_of view
   nop-next = rw (nop-read, nop-length) refl
 
   nop-fault : fault mask (pair a l) ≡ 0
-  unfolding fault flowAt flow_of view
+  unfolding fault flow_at flow_of view
   nop-fault = rw nop-read refl
 
 only : {q p : Pair} → Member q (p ∷ []) → q ≡ p
@@ -77,16 +77,16 @@ unfolding nops
 nops-full = full nops (length-replicate {A = ℕ} addresses 0x3e)
 
 -- every mark 1 marks main at each address
-one_at : (a : ℕ) → a < addresses → ◌≡◌ {A = ℕ} (get_or (replicate marksSize 1) a 0) 1
-one_at a h = get_or-replicate marksSize a 1 0 h
+one_at : (a : ℕ) → a < addresses → ◌≡◌ {A = ℕ} (get_or (replicate marks_size 1) a 0) 1
+one_at a h = get_or-replicate marks_size a 1 0 h
 
-ones : Marked nops (replicate marksSize 1)
+ones : Marked nops (replicate marks_size 1)
 ones =
     record {
-      size = length-replicate {A = ℕ} marksSize 1;
+      size = length-replicate {A = ℕ} marks_size 1;
       rest = λ a h. omega (arith, one_at a h);
-      sound = λ a l h k e. main a l h k (subst (λ (b : ℕ). eqb (b / 2 ^ l % 2) 1 ≡ true) (one_at a h) (sym (its-bit (replicate marksSize 1) a l h k) ∙ e));
-      full = λ a l h k r. its-bit (replicate marksSize 1) a l h k ∙ rw (nops-main (pair a l) r, one_at a h) refl;
+      sound = λ a l h k e. main a l h k (subst (λ (b : ℕ). eqb (b / 2 ^ l % 2) 1 ≡ true) (one_at a h) (sym (its-bit (replicate marks_size 1) a l h k) ∙ e));
+      full = λ a l h k r. its-bit (replicate marks_size 1) a l h k ∙ rw (nops-main (pair a l) r, one_at a h) refl;
     }
   where
     main : (a l : ℕ) → a < addresses → l < 3 → eqb (1 / 2 ^ l % 2) 1 ≡ true → Reached nops (pair a l)
@@ -98,50 +98,50 @@ ones =
 nops-safe : Safe nops
 nops-safe p r = nop-fault nops p.address p.level (nop-at p.address)
 
-passes-3e : (old : List ℕ) → length old ≡ marksSize → Answers nops old (replicate marksSize 1) Passed
+passes-3e : (old : List ℕ) → length old ≡ marks_size → Answers nops old (replicate marks_size 1) Passed
 passes-3e old l = (record { mask_size = nops-full; marks-size = l; marked = ones }, nops-safe)
 
-pub every-3e : (old new : List ℕ) (v : Verdict) → length old ≡ marksSize → Answers nops old new v → (v ≡ Passed) × (new ≡ replicate marksSize 1)
+pub every-3e : (old new : List ℕ) (v : Verdict) → length old ≡ marks_size → Answers nops old new v → (v ≡ Passed) × (new ≡ replicate marks_size 1)
 every-3e old new v l w =
     let e = answer-passed nops old new nops-full l v nops-safe w in
-    (e, same-marks nops new (replicate marksSize 1) (subst (Answers nops old new) e w).0.marked ones)
+    (e, same-marks nops new (replicate marks_size 1) (subst (Answers nops old new) e w).0.marked ones)
 
 -- ---- a mask that fails is answered with its lowest forbidden pair
-first-unread : (mask : List ℕ) → byteAt mask 0 ≡ 0x40 → byteAt mask 1 ≡ 0x15 → readAt mask 0 ≡ Unreadable
+first-unread : (mask : List ℕ) → byte_at mask 0 ≡ 0x40 → byte_at mask 1 ≡ 0x15 → read_at mask 0 ≡ Unreadable
 unfolding decoded opcodes
 first-unread mask e f = read-bytes mask 0 ∙ rw (e, f) refl
 
-first-fault : (mask : List ℕ) → byteAt mask 0 ≡ 0x40 → byteAt mask 1 ≡ 0x15 → fault mask (pair 0 0) ≡ 1
-unfolding fault flowAt
+first-fault : (mask : List ℕ) → byte_at mask 0 ≡ 0x40 → byte_at mask 1 ≡ 0x15 → fault mask (pair 0 0) ≡ 1
+unfolding fault flow_at
 first-fault mask e f = rw (first-unread mask e f) refl
 
-lowest-40-15 : (mask : List ℕ) → byteAt mask 0 ≡ 0x40 → byteAt mask 1 ≡ 0x15 → Lowest mask 1 0 0
+lowest-40-15 : (mask : List ℕ) → byte_at mask 0 ≡ 0x40 → byte_at mask 1 ≡ 0x15 → Lowest mask 1 0 0
 lowest-40-15 mask e f = record { reached = reached-start; forbidden = first-fault mask e f; not-zero = λ z. omega arith; lowest = λ p r n. omega arith }
 
-pub mask-40-15 : (mask old new : List ℕ) (v : Verdict) → sized mask ≡ true → length old ≡ marksSize → byteAt mask 0 ≡ 0x40 → byteAt mask 1 ≡ 0x15 → Answers mask old new v → v ≡ Failed 1 0 0
+pub mask-40-15 : (mask old new : List ℕ) (v : Verdict) → sized mask ≡ true → length old ≡ marks_size → byte_at mask 0 ≡ 0x40 → byte_at mask 1 ≡ 0x15 → Answers mask old new v → v ≡ Failed 1 0 0
 mask-40-15 mask old new v m l e f =
     answer-failed mask old new m l 1 0 0 v (lowest-40-15 mask e f)
 
 -- "F0 10 then 3E: fault 2 at 0, level 1": the subroutine at 010h runs on past FFFh to the CALL at 0
-module _ (mask : List ℕ) (call : byteAt mask 0 ≡ 0xf0) (to : byteAt mask 1 ≡ 0x10) (rest : (a : ℕ) → 2 ≤ a → a < addresses → byteAt mask a ≡ 0x3e) where
-  call-read : readAt mask 0 ≡ Read (I.Call (record { 0 = 0x010 }))
+module _ (mask : List ℕ) (call : byte_at mask 0 ≡ 0xf0) (to : byte_at mask 1 ≡ 0x10) (rest : (a : ℕ) → 2 ≤ a → a < addresses → byte_at mask a ≡ 0x3e) where
+  call-read : read_at mask 0 ≡ Read (I.Call (record { 0 = 0x010 }))
   unfolding decoded opcodes
   call-read = read-bytes mask 0 ∙ rw (call, to) refl
 
   call_length : length_at mask 0 ≡ 2
-  unfolding opcodes columnsOf columnsAt
+  unfolding opcodes columns_of columns_at
   call_length = length-bytes mask 0 ∙ rw call refl
 
   call_next : successors mask (pair 0 0) ≡ pair 0x010 1 ∷ pair 2 0 ∷ []
-  unfolding successors fault flowAt flow_of view
+  unfolding successors fault flow_at flow_of view
   call_next = rw (call-read, call_length) refl
 
   call-main : fault mask (pair 0 0) ≡ 0
-  unfolding fault flowAt flow_of view
+  unfolding fault flow_at flow_of view
   call-main = rw call-read refl
 
   call-inside : fault mask (pair 0 1) ≡ 2
-  unfolding fault flowAt flow_of view
+  unfolding fault flow_at flow_of view
   call-inside = rw call-read refl
 
   inside : (n : ℕ) → 0x010 + n < addresses → Reached mask (pair (0x010 + n) 1)
@@ -173,7 +173,7 @@ module _ (mask : List ℕ) (call : byteAt mask 0 ≡ 0xf0) (to : byteAt mask 1 �
   lowest-f0-10 : Lowest mask 2 0 1
   lowest-f0-10 = record { reached = at_zero; forbidden = call-inside; not-zero = λ z. omega arith; lowest = λ p r n. lowest-one p n }
 
-  pub mask-f0-10 : (old new : List ℕ) (v : Verdict) → sized mask ≡ true → length old ≡ marksSize → Answers mask old new v → v ≡ Failed 2 0 1
+  pub mask-f0-10 : (old new : List ℕ) (v : Verdict) → sized mask ≡ true → length old ≡ marks_size → Answers mask old new v → v ≡ Failed 2 0 1
   mask-f0-10 old new v m l = answer-failed mask old new m l 2 0 1 v lowest-f0-10
 
 pub proved-table : ProvedTable

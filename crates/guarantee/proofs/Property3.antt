@@ -11,8 +11,8 @@ use Rattle.cpu.specs.Range.{valid}
 use Rattle.cpu.specs.declared.Options.{Options}
 use Rattle.datapath.specs.Timer.{counted}
 use Rattle.machine.specs.Machine.{state_of}
-use Rattle.machine.specs.Power.{reset, powered, powerRefusal, answered, powerOn}
-use Rattle.machine.specs.Events.{woken, wakes, pinned, interrupted, clocked, counting, happened, refusalOf, applied, Input, power, named, answerTo, Call, after, Every, UnderMask}
+use Rattle.machine.specs.Power.{reset, powered, power_refusal, answered, power_on}
+use Rattle.machine.specs.Events.{woken, wakes, pinned, interrupted, clocked, counting, happened, refusal_of, applied, Input, power, named, answer_to, Call, after, Every, UnderMask}
 use Rattle.machine.specs.declared.Machine.{Machine}
 use Rattle.machine.specs.declared.events.Event.{Event}
 use Rattle.machine.specs.declared.events.Event.TheVariants.{Run, Pins, Int, Tmclk, Res}
@@ -53,18 +53,18 @@ module _ (R : ℕ → ℕ → Type 0) (begins : R 0 0) where
       go false = q
 
   pub input-kept : (given : List ℕ) (i : Input) → ((n : ℕ) → i ≡ named (Known (Run n)) → Confines given R) → (m : Machine) → Keeps R m.cpu
-      → Keeps R (answerTo given i m).machine.cpu
-  unfolding powerOn applied
-  input-kept given (power options image) u m k = answered-kept (powerRefusal options image) (powered options image) m (powered-kept options image) k
+      → Keeps R (answer_to given i m).machine.cpu
+  unfolding power_on applied
+  input-kept given (power options image) u m k = answered-kept (power_refusal options image) (powered options image) m (powered-kept options image) k
   input-kept given (named (Known e)) u m k =
-      answered-kept (refusalOf given e m) (happened given e m) m (happened-kept given e (λ n p. u n (ap (λ (x : Event). named (Known x)) p)) m k) k
+      answered-kept (refusal_of given e m) (happened given e m) m (happened-kept given e (λ n p. u n (ap (λ (x : Event). named (Known x)) p)) m k) k
   input-kept given (named Unknown) u m k = answered-kept (pick (valid (state_of m)) 7 5) m m k k
 
   after_kept : (mask : List ℕ) → Confines mask R → (ks : List Call) → Every (UnderMask mask) ks → (m : Machine) → Keeps R m.cpu → Keeps R (after ks m).cpu
   unfolding after
   after_kept mask confines [] u m k = k
   after_kept mask confines (c ∷ ks) u m k =
-      after_kept mask confines ks u.1 (answerTo c.mask c.input m).machine
+      after_kept mask confines ks u.1 (answer_to c.mask c.input m).machine
       (input-kept c.mask c.input (λ n e. subst (λ (given : List ℕ). Confines given R) (sym (u.0 n e)) confines) m k)
 
 pub property3 : Property3

@@ -17,9 +17,9 @@ use Rattle.machine.specs.declared.Machine.{Machine}
 use Rattle.machine.proofs.Reports.{report-length}
 use Rattle.script.specs.Check.{checked}
 use Rattle.script.specs.Format.{inputs}
-use Rattle.script.specs.Reports.{next, reports, reportsOf, fronted, Applied, applied}
+use Rattle.script.specs.Reports.{next, reports, reports_of, fronted, Applied, applied}
 use Rattle.reach.proofs.Chains.{reached-start}
-use Rattle.checker.specs.Verdicts.{isMarked, Marked, Safe}
+use Rattle.checker.specs.Verdicts.{is_marked, Marked, Safe}
 use Rattle.cpu.proofs.Leaves.{standing}
 use Rattle.guarantee.specs.Reports.{Shows, ReportsShow}
 use Rattle.guarantee.proofs.Kept.{Keeps, start-kept, ReachedAt, safe-confines, kept-marked}
@@ -31,7 +31,7 @@ module _ (mask marks : List ℕ) (bytes : Bytes mask) (safe : Safe mask) (mark :
   shows m k =
       record {
         no-fault = k.no-fault;
-        marked = subst (λ (a : ℕ). isMarked marks a m.cpu.interrupts.level ≡ true) (sym (together m.cpu.control.pc.0))
+        marked = subst (λ (a : ℕ). is_marked marks a m.cpu.interrupts.level ≡ true) (sym (together m.cpu.control.pc.0))
             (kept-marked mask marks bytes mark (standing m.cpu) k);
       }
     where
@@ -71,14 +71,14 @@ module _ (mask marks : List ℕ) (bytes : Bytes mask) (safe : Safe mask) (mark :
       past p q j e = ap (λ (n : ℕ). drop n (p ++ q)) (one_more j) ∙ sym (drop-drop (48 * j) 48 (p ++ q)) ∙ ap (drop (48 * j)) (drop_at p q 48 e)
 
 -- what a script that is not refused leaves in the buffer
-left_by : (mask script before : List ℕ) → (applied mask script before).answer.number ≡ 0 → (applied mask script before).bytes ≡ fronted (reportsOf mask script) before
+left_by : (mask script before : List ℕ) → (applied mask script before).answer.number ≡ 0 → (applied mask script before).bytes ≡ fronted (reports_of mask script) before
 unfolding applied
 left_by mask script before e = rw (eq-eqb (checked mask script (length before)).number 0 e) refl
 
 pub reports-show : ReportsShow
 reports-show mask old marks script before after answer bytes passed e z j h =
-    let ran : after ≡ fronted (reportsOf mask script) before =
+    let ran : after ≡ fronted (reports_of mask script) before =
     ap (λ (a : Applied). a.bytes) e ∙ left_by mask script before (sym (ap (λ (a : Applied). a.answer.number) e) ∙ z) in
     subst (λ (s : List ℕ). Shows marks (take 48 (drop (48 * j) s))) (sym ran)
-    (each mask marks bytes passed.1 passed.0.marked (drop (length (reportsOf mask script)) before) (inputs script) blank
+    (each mask marks bytes passed.1 passed.0.marked (drop (length (reports_of mask script)) before) (inputs script) blank
     (blank-kept mask marks bytes passed.1 passed.0.marked) j h)

@@ -3,11 +3,11 @@
 -- mask that passed; the calls on the record are those of ht1130, a `Lending`. Assumes nothing.
 use Rattle.std.specs.Prelude.{ℕ, ◌≡◌, List}
 use Rattle.rom.specs.Fetching.{Bytes}
-use Rattle.machine.specs.Power.{powerOn}
+use Rattle.machine.specs.Power.{power_on}
 use Rattle.machine.specs.Events.{Call, Every, UnderMask}
 use Rattle.machine.specs.declared.Machine.{Machine}
 use Rattle.guarantee.specs.Property3.{Holds}
-use Rattle.ht1130.specs.Lent.{left, optionsOf}
+use Rattle.ht1130.specs.Lent.{left, options_of}
 use Rattle.ht1130.specs.Property2.{Lending}
 use Rattle.ht1130_tools.specs.Numbers.{Checks}
 
@@ -15,6 +15,6 @@ use Rattle.ht1130_tools.specs.Numbers.{Checks}
 abbrev pub LentProperty3 : Type 0
 LentProperty3 =
     (mask old marks : List ℕ) → Bytes mask → Checks mask old marks 0
-    → (rate commons pm ps pp : ℕ) (image : List ℕ) (before first : Machine) → left 0 first ≡ powerOn (optionsOf rate commons pm ps pp) image before
+    → (rate commons pm ps pp : ℕ) (image : List ℕ) (before first : Machine) → left 0 first ≡ power_on (options_of rate commons pm ps pp) image before
     → (calls : List Call) (last : Machine) → Every (UnderMask mask) calls → Lending first calls last
-    → Holds mask marks (optionsOf rate commons pm ps pp) image calls last
+    → Holds mask marks (options_of rate commons pm ps pp) image calls last

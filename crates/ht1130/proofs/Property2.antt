@@ -5,7 +5,7 @@ use Rattle.machine.specs.Events as E
 use Rattle.machine.specs.Events.{Call, Session}
 use Rattle.machine.specs.declared.Machine.{Machine}
 use Rattle.machine.proofs.Lists.{property2}
-use Rattle.ht1130.specs.Lent.{left, optionsOf}
+use Rattle.ht1130.specs.Lent.{left, options_of}
 use Rattle.ht1130.specs.Property2.{Lending, ended, powering, applying, LentProperty2}
 
 pub session : {m last : Machine} {ks : List Call} → Lending m ks last → Session m ks last
@@ -15,4 +15,4 @@ session (applying {n = n} kind count a b c mask r e rest) = E.calling _ (left r 
 
 pub lent-property2 : LentProperty2
 lent-property2 rate commons pm ps pp image before first e calls last bytes lending =
-    property2 (optionsOf rate commons pm ps pp) image before (left 0 first) e refl calls last bytes (session lending)
+    property2 (options_of rate commons pm ps pp) image before (left 0 first) e refl calls last bytes (session lending)

@@ -6,8 +6,8 @@ use mathlib.Core.List.{List}
 use lib.Dec.{T, eqb}
 use Rattle.isa.specs.Choice.{pick}
 use Rattle.cpu.specs.declared.Options.{Options}
-use Rattle.machine.specs.Power.{powered, powerRefusal, answered, powerOn}
-use Rattle.machine.specs.Events.{happened, refusalOf, applied, namedAnswer}
+use Rattle.machine.specs.Power.{powered, power_refusal, answered, power_on}
+use Rattle.machine.specs.Events.{happened, refusal_of, applied, named_answer}
 use Rattle.machine.specs.declared.Machine.{Machine}
 use Rattle.machine.specs.declared.Answer.{Answer}
 use Rattle.machine.specs.declared.events.Named.{Named}
@@ -28,11 +28,11 @@ answered-keeps n new old = go (eqb n 0)
     go true z = absurd z
     go false z = refl
 
-pub power-keeps : (options : Options) (image : List ℕ) (m : Machine) → Keeps answers m (powerOn options image m)
-unfolding powerOn
-power-keeps options image m = answered-keeps (powerRefusal options image) (powered options image) m
+pub power-keeps : (options : Options) (image : List ℕ) (m : Machine) → Keeps answers m (power_on options image m)
+unfolding power_on
+power-keeps options image m = answered-keeps (power_refusal options image) (powered options image) m
 
-pub event-keeps : (mask : List ℕ) (e : Named) (m : Machine) → Keeps answers m (namedAnswer mask e m)
+pub event-keeps : (mask : List ℕ) (e : Named) (m : Machine) → Keeps answers m (named_answer mask e m)
 unfolding applied
-event-keeps mask (Known e) m = answered-keeps (refusalOf mask e m) (happened mask e m) m
-event-keeps mask Unknown m = answered-keeps (namedAnswer mask Unknown m).refusal m m
+event-keeps mask (Known e) m = answered-keeps (refusal_of mask e m) (happened mask e m) m
+event-keeps mask Unknown m = answered-keeps (named_answer mask Unknown m).refusal m m

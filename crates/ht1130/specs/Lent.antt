@@ -2,7 +2,7 @@
 -- it directly". Assumes nothing.
 use Rattle.std.specs.Prelude.{ℕ, ◌+◌, ◌*◌, ◌^◌, ◌≡◌, List}
 use Rattle.cpu.specs.declared.Options.{Options}
-use Rattle.machine.specs.Events.{eventOf, namedAnswer}
+use Rattle.machine.specs.Events.{event_of, named_answer}
 use Rattle.machine.specs.declared.Machine.{Machine}
 use Rattle.machine.specs.declared.Answer.{Answer}
 use Rattle.machine.specs.declared.gap.GapCount.{GapCount}
@@ -14,22 +14,22 @@ abbrev pub left : ℕ → Machine → Answer
 left number m = record { refusal = number; machine = m }
 
 -- "1 power-on: rate, commons, wake PM, PS, PP"
-abbrev pub optionsOf : ℕ → ℕ → ℕ → ℕ → ℕ → Options
-optionsOf rate commons pm ps pp = record { rate = rate; commons = commons; pm = pm; ps = ps; pp = pp }
+abbrev pub options_of : ℕ → ℕ → ℕ → ℕ → ℕ → Options
+options_of rate commons pm ps pp = record { rate = rate; commons = commons; pm = pm; ps = ps; pp = pp }
 
 -- the event that a kind and its numbers name, or the refusal of a kind that names none
 abbrev pub hosted : List ℕ → ℕ → ℕ → ℕ → ℕ → ℕ → Machine → Answer
-hosted mask kind count a b c m = namedAnswer mask (eventOf kind count a b c) m
+hosted mask kind count a b c m = named_answer mask (event_of kind count a b c) m
 
 -- the answer to the query of the count as a number of eight bytes, which is this interface's own: the refusal in byte 0, the count in bytes 4 and 5
-abbrev pub gapNumber : GapCount → ℕ
-gapNumber a = a.refusal + a.count * 2 ^ 32
+abbrev pub gap_number : GapCount → ℕ
+gap_number a = a.refusal + a.count * 2 ^ 32
 
 -- the answer to a save likewise: how many bytes it wrote in bytes 4 and 5
-abbrev pub savedNumber : Saved → ℕ
-savedNumber a = a.refusal + a.count * 2 ^ 32
+abbrev pub saved_number : Saved → ℕ
+saved_number a = a.refusal + a.count * 2 ^ 32
 
 -- what `ht1130_save` leaves: the number of the save's answer, and the lent bytes
 pub record Saves (s : Saving) (new : List ℕ) (r : ℕ) : Type 0 where
-  pub number : r ≡ savedNumber s.answer
+  pub number : r ≡ saved_number s.answer
   pub bytes : new ≡ s.bytes

@@ -1,8 +1,8 @@
 // Power-on, the other events, the report and the count of strays on a machine by value, from numbers.
 ghost use Rattle.std.specs.Prelude.{◌≡◌};
-ghost use Rattle.ht1130.specs.Lent.{Saves, gapNumber, optionsOf, hosted};
-ghost use Rattle.machine.specs.Gap.{gapCount};
-ghost use Rattle.machine.specs.Power.{blank, powerOn};
+ghost use Rattle.ht1130.specs.Lent.{Saves, gap_number, options_of, hosted};
+ghost use Rattle.machine.specs.Gap.{gap_count};
+ghost use Rattle.machine.specs.Power.{blank, power_on};
 ghost use Rattle.machine.specs.Report.{report, reporting};
 ghost use Rattle.snapshot.specs.Snapshot.{loading, saving};
 
@@ -21,7 +21,7 @@ pub(crate) fn power(
     pp: u8,
     image: &[u8],
 ) -> Answer
-    ensures { result ≡ powerOn (optionsOf rate commons pm ps pp) image.now machine }
+    ensures { result ≡ power_on (options_of rate commons pm ps pp) image.now machine }
 {
     let options = Options {
         rate,
@@ -56,7 +56,7 @@ pub(crate) fn shown(machine: Machine, out: &mut [u8]) -> u8
 
 // The count in bytes 4 and 5, the refusal in byte 0.
 pub(crate) fn gap_number(machine: Machine) -> u64
-    ensures { result ≡ gapNumber (gapCount machine) }
+    ensures { result ≡ gap_number (gap_count machine) }
 {
     let answer = machine.gap_count();
     answer.refusal as u64 + answer.count as u64 * 0x100000000

@@ -1,9 +1,9 @@
 // The machine record that a host lends: document 01, "A host may also lend one machine record and have an event applied to it directly".
 // Each wrapper takes the record out, hands it on by value, and puts back what the answer has; a refused call stores nothing.
 ghost use Rattle.std.specs.Prelude.{◌≡◌};
-ghost use Rattle.ht1130.specs.Lent.{Saves, gapNumber, left, optionsOf, hosted};
-ghost use Rattle.machine.specs.Gap.{gapCount};
-ghost use Rattle.machine.specs.Power.{powerOn};
+ghost use Rattle.ht1130.specs.Lent.{Saves, gap_number, left, options_of, hosted};
+ghost use Rattle.machine.specs.Gap.{gap_count};
+ghost use Rattle.machine.specs.Power.{power_on};
 ghost use Rattle.machine.specs.Report.{report, reporting};
 ghost use Rattle.snapshot.specs.Snapshot.{loading, saving};
 
@@ -20,7 +20,7 @@ pub extern "C" fn ht1130_power_on(
     pp: u8,
     image: &[u8],
 ) -> u8
-    ensures { left result machine.new ≡ powerOn (optionsOf rate commons pm ps pp) image.now machine.old }
+    ensures { left result machine.new ≡ power_on (options_of rate commons pm ps pp) image.now machine.old }
 {
     let answer = power(*machine, rate, commons, pm, ps, pp, image);
     if answer.refusal == 0 {
@@ -57,7 +57,7 @@ pub extern "C" fn ht1130_report(machine: &Machine, out: &mut [u8]) -> u8
 
 #[unsafe(no_mangle)]
 pub extern "C" fn ht1130_gap_count(machine: &Machine) -> u64
-    ensures { result ≡ gapNumber (gapCount machine.now) }
+    ensures { result ≡ gap_number (gap_count machine.now) }
 {
     gap_number(*machine)
 }

@@ -6,14 +6,14 @@ use mathlib.Core.Bool.{true, false}
 use lib.IntN.{ℤ, pos, negsuc, nat_abs}
 use mir.Syntax.{w32}
 use mir.Val.{SFits}
-use Rattle.glass.specs.Drawing.{isNegative}
+use Rattle.glass.specs.Drawing.{is_negative}
 use Rattle.ht1130_tools.specs.Readings.{complement}
 
-pub below-0 : (v : ℤ) (size : ℕ) → size ≡ nat_abs v → isNegative v ≡ true → 4294967296 - size ≡ complement v
+pub below-0 : (v : ℤ) (size : ℕ) → size ≡ nat_abs v → is_negative v ≡ true → 4294967296 - size ≡ complement v
 below-0 (pos n) size e k = absurd (let y : ◌≡◌ {A = ℕ} 0 1 = cc in omega arith)
 below-0 (negsuc n) size e k = ap (λ (x : ℕ). 4294967296 - x) e
 
-pub from-0 : (v : ℤ) (size : ℕ) → size ≡ nat_abs v → isNegative v ≡ false → size ≡ complement v
+pub from-0 : (v : ℤ) (size : ℕ) → size ≡ nat_abs v → is_negative v ≡ false → size ≡ complement v
 from-0 (pos n) size e k = e
 from-0 (negsuc n) size e k = absurd (let y : ◌≡◌ {A = ℕ} 0 1 = cc in omega arith)
 

@@ -18,12 +18,12 @@ use Rattle.bound.specs.declared.bound.Bound.{Bound}
 use Rattle.bound.specs.declared.bound.Bound.TheVariants.{NotReached, NoBound, Cycles, BadPair, MaskFails}
 use Rattle.bound.specs.declared.bound.Bound.TheVariants.{BadMask as BadBoundMask}
 use Rattle.bound.proofs.Answers.{bound-determines}
-use Rattle.ht1130_tools.specs.Numbers.{Checks, ChecksDetermine, verdictNumber, WaysDetermine, WayLengthDoes, wayNumber, BoundsDetermine, BoundReads, BoundTold, boundNumber}
+use Rattle.ht1130_tools.specs.Numbers.{Checks, ChecksDetermine, verdict_number, WaysDetermine, WayLengthDoes, way_number, BoundsDetermine, BoundReads, BoundTold, bound_number}
 
 pub passed : (mask old marks : List ℕ) → Checks mask old marks 0 → Answers mask old marks Passed
 passed mask old marks c = go c.verdict c.answers c.number
   where
-    go : (v : Verdict) → Answers mask old marks v → 0 ≡ verdictNumber v → Answers mask old marks Passed
+    go : (v : Verdict) → Answers mask old marks v → 0 ≡ verdict_number v → Answers mask old marks Passed
     go Passed w e = w
     go (Failed f a l) w e = absurd (w.1.not-zero (omega (arith, e)))
     go BadMask w e = absurd (omega (arith, e))
@@ -32,20 +32,20 @@ passed mask old marks c = go c.verdict c.answers c.number
 pub checks-determine : ChecksDetermine
 checks-determine mask old new other r q c d =
     let same = answers-determine mask old new other c.verdict d.verdict c.answers d.answers in
-    (c.number ∙ ap verdictNumber same.0 ∙ sym d.number, same.1)
+    (c.number ∙ ap verdict_number same.0 ∙ sym d.number, same.1)
 
 pub ways-determine : WaysDetermine
 ways-determine mask old new other r q x y =
-    x.number ∙ ap wayNumber (way-determines mask old new other x.listing y.listing x.answers y.answers) ∙ sym y.number
+    x.number ∙ ap way_number (way-determines mask old new other x.listing y.listing x.answers y.answers) ∙ sym y.number
 
 pub bounds-determine : BoundsDetermine
 bounds-determine mask p r q x y =
-    x.number ∙ ap boundNumber (bound-determines mask p x.bound y.bound x.answers y.answers) ∙ sym y.number
+    x.number ∙ ap bound_number (bound-determines mask p x.bound y.bound x.answers y.answers) ∙ sym y.number
 
 pub bound-reads : BoundReads
 bound-reads mask p n b = go b.bound b.answers b.number
   where
-    go : (x : Bound) → BoundAnswers mask p x → 2 * 2 ^ 8 + n * 2 ^ 32 ≡ boundNumber x → BoundAnswers mask p (Cycles n)
+    go : (x : Bound) → BoundAnswers mask p x → 2 * 2 ^ 8 + n * 2 ^ 32 ≡ bound_number x → BoundAnswers mask p (Cycles n)
     go NotReached a e = absurd (omega (arith, e))
     go NoBound a e = absurd (omega (arith, e))
     go (Cycles k) a e = let same : k ≡ n = omega (arith, e) in subst (λ (k : ℕ). BoundAnswers mask p (Cycles k)) same a
@@ -56,7 +56,7 @@ bound-reads mask p n b = go b.bound b.answers b.number
 pub way-length-does : WayLengthDoes
 way-length-does mask old new r bytes h w e = go w.listing w.answers (sym w.number ∙ e)
   where
-    go : (v : Listing) → WayAnswers mask old new v → wayNumber v ≡ 11 → ⊥
+    go : (v : Listing) → WayAnswers mask old new v → way_number v ≡ 11 → ⊥
     go (Listed n) a e = omega (arith, e)
     go NoMask a e = omega (arith, e)
     go MaskPasses a e = omega (arith, e)

@@ -10,17 +10,17 @@ use Rattle.glass.specs.declared.Reading.TheVariants.{Dark, Number}
 use Rattle.glass.specs.declared.Seen.{Seen}
 use Rattle.glass.specs.declared.Seen.TheVariants.{Shown, BadLength, BadNibble, Unreadable}
 use Rattle.glass.proofs.Laws.{seen-determined, shown-under, unreadable-under}
-use Rattle.machine_glass.specs.Glass.{onGlass}
+use Rattle.machine_glass.specs.Glass.{on_glass}
 use Rattle.machine_glass.specs.declared.Sight.TheVariants.{OnGlass, BadMachine}
 use Rattle.machine_glass.proofs.Laws.{sight-determined}
-use Rattle.ht1130_tools.specs.Readings.{complement, seenNumber, sightNumber, GlassReadDetermined, SightToldDetermined, NumberTells, SightTells}
+use Rattle.ht1130_tools.specs.Readings.{complement, seen_number, sight_number, GlassReadDetermined, SightToldDetermined, NumberTells, SightTells}
 
 pub glass-read-determined : GlassReadDetermined
 glass-read-determined picture r q x y =
-    x.number ∙ ap seenNumber (seen-determined picture x.seen y.seen x.answers y.answers) ∙ sym y.number
+    x.number ∙ ap seen_number (seen-determined picture x.seen y.seen x.answers y.answers) ∙ sym y.number
 
 pub sight-told-determined : SightToldDetermined
-sight-told-determined m r q x y = x.number ∙ ap sightNumber (sight-determined m x.sight y.sight x.sees y.sees) ∙ sym y.number
+sight-told-determined m r q x y = x.number ∙ ap sight_number (sight-determined m x.sight y.sight x.sees y.sees) ∙ sym y.number
 
 -- a small number is told by its 32 bits
 complement-tells : (v w : ℤ) → nat_abs v < 10000 → nat_abs w < 10000 → complement v ≡ complement w → v ≡ w
@@ -30,7 +30,7 @@ complement-tells (negsuc m) (pos n) h k e = absurd (omega (arith, h, k, e))
 complement-tells (negsuc m) (negsuc n) h k e = ap negsuc (omega (arith, h, k, e))
 
 number_same : (p q : List ℕ) (v w : ℤ) (c d : ℕ) → SeenAnswers p (Shown (Number v c)) → SeenAnswers q (Shown (Number w d))
-    → seenNumber (Shown (Number v c)) ≡ seenNumber (Shown (Number w d)) → Shown (Number v c) ≡ Shown (Number w d)
+    → seen_number (Shown (Number v c)) ≡ seen_number (Shown (Number w d)) → Shown (Number v c) ≡ Shown (Number w d)
 number_same p q v w c d a b e =
     let x = shown-under p v c a in
     let y = shown-under q w d b in
@@ -71,7 +71,7 @@ number-tells p q (Unreadable j) BadNibble a b e = absurd (omega (arith, e))
 number-tells p q (Unreadable j) (Unreadable k) a b e = ap Unreadable (omega (arith, e))
 
 -- 5 is no picture's number
-not-5 : (x : Seen) → seenNumber x ≡ 5 → ⊥
+not-5 : (x : Seen) → seen_number x ≡ 5 → ⊥
 not-5 (Shown Dark) e = omega (arith, e)
 not-5 (Shown (Number v c)) e = omega (arith, e)
 not-5 BadLength e = omega (arith, e)
@@ -79,7 +79,7 @@ not-5 BadNibble e = omega (arith, e)
 not-5 (Unreadable k) e = omega (arith, e)
 
 pub sight-tells : SightTells
-sight-tells m n (OnGlass x) (OnGlass y) a b e = ap OnGlass (number-tells (onGlass m) (onGlass n) x y a.1 b.1 e)
+sight-tells m n (OnGlass x) (OnGlass y) a b e = ap OnGlass (number-tells (on_glass m) (on_glass n) x y a.1 b.1 e)
 sight-tells m n (OnGlass x) BadMachine a b e = absurd (not-5 x e)
 sight-tells m n BadMachine (OnGlass y) a b e = absurd (not-5 y (sym e))
 sight-tells m n BadMachine BadMachine a b e = refl

@@ -10,9 +10,9 @@ use lib.ListN.{length}
 use borrow.Author.Tests.{leb-true}
 use Rattle.isa.specs.Choice.{pick}
 use Rattle.rom.specs.Fetching.{sized}
-use Rattle.records.specs.Records.{size_at, kind_at, offsetsFrom, offsets}
+use Rattle.records.specs.Records.{size_at, kind_at, offsets_from, offsets}
 use Rattle.records.proofs.Offsets.{each}
-use Rattle.script.specs.Check.{refused, fine, unless, firstRefused, first, ruled, checked}
+use Rattle.script.specs.Check.{refused, fine, unless, first_refused, first, ruled, checked}
 use Rattle.script.specs.declared.Checked.{Checked}
 use Rattle.script.specs.declared.check.Rule.{Rule}
 use Rattle.script.specs.declared.check.Rule.TheVariants.{Format, Values, Choices}
@@ -28,29 +28,29 @@ first-inside : (rule : ℕ → ℕ) (s : List ℕ) → Within (length s) (first 
 unfolding first
 first-inside rule s =
     each s (λ (at : ℕ) (l : List ℕ). Within (length s) (first rule l)) (λ at h. record { bound = omega arith })
-    (λ at h p. picked (length s) (eqb (rule at) 0) (first rule (offsetsFrom s (at + 4 + size_at s at))) (refused (rule at) at) p (record { bound = omega (arith, h) }))
+    (λ at h p. picked (length s) (eqb (rule at) 0) (first rule (offsets_from s (at + 4 + size_at s at))) (refused (rule at) at) p (record { bound = omega (arith, h) }))
     0
 
-either : (n : ℕ) (a b : Checked) → Within n a → Within n b → Within n (firstRefused a b)
+either : (n : ℕ) (a b : Checked) → Within n a → Within n b → Within n (first_refused a b)
 either n a b p q = picked n (eqb a.number 0) b a q p
 
 tested : (n : ℕ) (t : Bool) (k : ℕ) → Within n (unless t k)
 tested n t k = picked n t fine (refused k 0) (record { bound = omega arith }) (record { bound = omega arith })
 
 -- past the test of its length a script has at most 65,535 bytes
-bounded : (s : List ℕ) (k : Checked) → (length s ≤ 65535 → Within 65535 k) → Within 65535 (firstRefused (unless (leb (length s) 65535) 6) k)
+bounded : (s : List ℕ) (k : Checked) → (length s ≤ 65535 → Within 65535 k) → Within 65535 (first_refused (unless (leb (length s) 65535) 6) k)
 bounded s k h = go (leb (length s) 65535) refl
   where
-    go : (t : Bool) → leb (length s) 65535 ≡ t → Within 65535 (firstRefused (unless t 6) k)
+    go : (t : Bool) → leb (length s) 65535 ≡ t → Within 65535 (first_refused (unless t 6) k)
     go true e = h (leb-true (length s) 65535 e)
     go false e = record { bound = omega arith }
 
 rest : (s : List ℕ) (room n : ℕ) → length s ≤ n
     → Within n
-    (firstRefused (first (ruled Format s) (offsets s))
-    (firstRefused (unless (eqb (kind_at s 0) 1) 8)
-    (firstRefused (first (ruled Values s) (offsets s))
-    (firstRefused (first (ruled Choices s) (offsets s))
+    (first_refused (first (ruled Format s) (offsets s))
+    (first_refused (unless (eqb (kind_at s 0) 1) 8)
+    (first_refused (first (ruled Values s) (offsets s))
+    (first_refused (first (ruled Choices s) (offsets s))
     (unless (leb (48 * length (offsets s)) room) 9)))))
 rest s room n h =
     either n _ _ (in-script Format) (either n _ _ (tested n (eqb (kind_at s 0) 1) 8) (either n _ _ (in-script Values) (either n _ _ (in-script Choices) (tested n (leb (48 * length (offsets s)) room) 9))))

@@ -3,13 +3,13 @@
 use Rattle.std.specs.Prelude.{ℕ, suc, ◌+◌, ◌*◌, ◌-◌, ◌^◌, ◌≡◌, List, eqb, ℤ, pos, negsuc}
 use Rattle.isa.specs.Choice.{pick}
 use Rattle.machine.specs.declared.Machine.{Machine}
-use Rattle.glass.specs.Reading.{SeenAnswers, seenRefusal}
+use Rattle.glass.specs.Reading.{SeenAnswers, seen_refusal}
 use Rattle.glass.specs.Drawing.{Drawing}
 use Rattle.glass.specs.declared.Reading.{Reading}
 use Rattle.glass.specs.declared.Reading.TheVariants.{Dark, Number}
 use Rattle.glass.specs.declared.Seen.{Seen}
 use Rattle.glass.specs.declared.Seen.TheVariants.{Shown, BadLength, BadNibble, Unreadable}
-use Rattle.machine_glass.specs.Glass.{Sees, sightRefusal}
+use Rattle.machine_glass.specs.Glass.{Sees, sight_refusal}
 use Rattle.machine_glass.specs.declared.Sight.{Sight}
 use Rattle.machine_glass.specs.declared.Sight.TheVariants.{OnGlass, BadMachine}
 
@@ -18,26 +18,26 @@ abbrev pub complement : ℤ → ℕ
 complement (pos n) = n
 complement (negsuc n) = 2 ^ 32 - suc n
 
-abbrev pub readingNumber : Reading → ℕ
-readingNumber Dark = 1 * 2 ^ 16
-readingNumber (Number value count) = count * 2 ^ 24 + complement value * 2 ^ 32
+abbrev pub reading_number : Reading → ℕ
+reading_number Dark = 1 * 2 ^ 16
+reading_number (Number value count) = count * 2 ^ 24 + complement value * 2 ^ 32
 
 -- what stands above the refusal: the reading, or the digit of a 16
-abbrev pub seenValues : Seen → ℕ
-seenValues (Shown r) = readingNumber r
-seenValues BadLength = 0
-seenValues BadNibble = 0
-seenValues (Unreadable k) = k * 2 ^ 8
+abbrev pub seen_values : Seen → ℕ
+seen_values (Shown r) = reading_number r
+seen_values BadLength = 0
+seen_values BadNibble = 0
+seen_values (Unreadable k) = k * 2 ^ 8
 
 -- document 02, wish 7: "3 for a picture nibble over 15; then 16 .., with the leftmost digit ..". 2 is a picture of another length
-abbrev pub seenNumber : Seen → ℕ
-seenNumber s = seenRefusal s + seenValues s
+abbrev pub seen_number : Seen → ℕ
+seen_number s = seen_refusal s + seen_values s
 
 -- what `ht1130_glass_read` answers: what the picture is read as, and its number
 pub record GlassRead (picture : List ℕ) (r : ℕ) : Type 0 where
   pub seen : Seen
   pub answers : SeenAnswers picture seen
-  pub number : r ≡ seenNumber seen
+  pub number : r ≡ seen_number seen
 
 -- the reading that `ht1130_glass_draw` is given: any `dark` but 0 is dark, and then the numbers are not looked at
 abbrev pub given : ℕ → ℤ → ℕ → Reading
@@ -48,15 +48,15 @@ pub record GlassDrawn (d : Drawing) (new : List ℕ) (r : ℕ) : Type 0 where
   pub number : r ≡ d.refusal + d.digit * 2 ^ 8
   pub bytes : new ≡ d.picture
 
-abbrev pub sightNumber : Sight → ℕ
-sightNumber (OnGlass s) = sightRefusal (OnGlass s) + seenValues s
-sightNumber BadMachine = sightRefusal BadMachine
+abbrev pub sight_number : Sight → ℕ
+sight_number (OnGlass s) = sight_refusal (OnGlass s) + seen_values s
+sight_number BadMachine = sight_refusal BadMachine
 
 -- what `ht1130_reading` answers: what is seen of the lent machine, and its number
 pub record SightTold (m : Machine) (r : ℕ) : Type 0 where
   pub sight : Sight
   pub sees : Sees m sight
-  pub number : r ≡ sightNumber sight
+  pub number : r ≡ sight_number sight
 
 -- the numbers depend on the picture and on the machine alone
 abbrev pub GlassReadDetermined : Type 0
@@ -67,8 +67,8 @@ SightToldDetermined = (m : Machine) (r q : ℕ) → SightTold m r → SightTold 
 
 -- the number of a reading is no other's: a host can tell what is seen from it
 abbrev pub NumberTells : Type 0
-NumberTells = (p q : List ℕ) (x y : Seen) → SeenAnswers p x → SeenAnswers q y → seenNumber x ≡ seenNumber y → x ≡ y
+NumberTells = (p q : List ℕ) (x y : Seen) → SeenAnswers p x → SeenAnswers q y → seen_number x ≡ seen_number y → x ≡ y
 
 -- nor is that of what is seen of a machine: 5 is no picture's number
 abbrev pub SightTells : Type 0
-SightTells = (m n : Machine) (x y : Sight) → Sees m x → Sees n y → sightNumber x ≡ sightNumber y → x ≡ y
+SightTells = (m n : Machine) (x y : Sight) → Sees m x → Sees n y → sight_number x ≡ sight_number y → x ≡ y

@@ -1,7 +1,7 @@
 // The checker's verdict, the way to what it names, and the bound of a pair, as numbers.
 ghost use Rattle.std.specs.Prelude.{◌≡◌, ◌+◌, ◌*◌, ◌^◌};
 ghost use Rattle.checker.specs.Marks.{pair};
-ghost use Rattle.ht1130_tools.specs.Numbers.{BoundTold, Checks, Ways, boundNumber, verdictNumber, wayNumber};
+ghost use Rattle.ht1130_tools.specs.Numbers.{BoundTold, Checks, Ways, bound_number, verdict_number, way_number};
 
 use bound::bound::{Bound, bound_of};
 use checker::check::{Verdict, check};
@@ -15,7 +15,7 @@ fn failed(fault: u8, address: u16, level: u8) -> u64
 }
 
 fn packed(verdict: Verdict) -> u64
-    ensures { result ≡ verdictNumber verdict }
+    ensures { result ≡ verdict_number verdict }
 {
     match verdict {
         Verdict::Passed => 0,
@@ -33,7 +33,7 @@ pub extern "C" fn ht1130_check(mask: &[u8], marks: &mut [u8]) -> u64
 }
 
 fn counted(listing: Listing) -> u64
-    ensures { result ≡ wayNumber listing }
+    ensures { result ≡ way_number listing }
 {
     match listing {
         Listing::Listed(count) => count as u64 * 0x100000000,
@@ -58,7 +58,7 @@ fn bounded(cycles: u16) -> u64
 }
 
 fn told(answer: Bound) -> u64
-    ensures { result ≡ boundNumber answer }
+    ensures { result ≡ bound_number answer }
 {
     match answer {
         Bound::NotReached => 0,

@@ -1,7 +1,7 @@
 // Pictures read, readings drawn, and what is seen of a lent machine, as numbers.
 ghost use Rattle.std.specs.Prelude.{◌≡◌, ◌+◌, ◌*◌, ◌^◌};
-ghost use Rattle.glass.specs.Drawing.{drawnOver};
-ghost use Rattle.ht1130_tools.specs.Readings.{GlassDrawn, GlassRead, SightTold, complement, given, readingNumber, seenNumber, sightNumber};
+ghost use Rattle.glass.specs.Drawing.{drawn_over};
+ghost use Rattle.ht1130_tools.specs.Readings.{GlassDrawn, GlassRead, SightTold, complement, given, reading_number, seen_number, sight_number};
 
 use glass::draw::draw;
 use glass::read::read;
@@ -28,7 +28,7 @@ fn number(value: i32, places: u8) -> u64
 }
 
 fn reading_number(reading: Reading) -> u64
-    ensures { result ≡ readingNumber reading }
+    ensures { result ≡ reading_number reading }
 {
     match reading {
         Reading::Dark => 0x10000,
@@ -37,7 +37,7 @@ fn reading_number(reading: Reading) -> u64
 }
 
 fn seen_number(seen: Seen) -> u64
-    ensures { result ≡ seenNumber seen }
+    ensures { result ≡ seen_number seen }
 {
     match seen {
         Seen::Shown(reading) => reading_number(reading),
@@ -65,13 +65,13 @@ fn given(dark: u8, value: i32, places: u8) -> Reading
 
 #[unsafe(no_mangle)]
 pub extern "C" fn ht1130_glass_draw(dark: u8, value: i32, places: u8, picture: &mut [u8]) -> u64
-    ensures { GlassDrawn (drawnOver (given dark value places) picture.old) picture.new result }
+    ensures { GlassDrawn (drawn_over (given dark value places) picture.old) picture.new result }
 {
     draw(given(dark, value, places), picture) as u64
 }
 
 fn sight_number(sight: Sight) -> u64
-    ensures { result ≡ sightNumber sight }
+    ensures { result ≡ sight_number sight }
 {
     match sight {
         Sight::OnGlass(seen) => seen_number(seen),

@@ -2,7 +2,7 @@
 ghost use Rattle.std.specs.Prelude.{◌≡◌, ◌≤◌};
 ghost use Rattle.script.specs.Check.{checked};
 ghost use Rattle.script.specs.Reports.{applied};
-ghost use Rattle.ht1130_tools.specs.Numbers.{Ran, scriptNumber};
+ghost use Rattle.ht1130_tools.specs.Numbers.{Ran, script_number};
 
 use script::Checked;
 use script::apply::apply_script;
@@ -10,14 +10,14 @@ use script::check::check_script;
 
 fn packed(answer: Checked) -> u64
     requires { answer.offset ≤ 65535 }
-    ensures { result ≡ scriptNumber answer }
+    ensures { result ≡ script_number answer }
 {
     answer.number as u64 + answer.offset as u64 * 0x100000000
 }
 
 #[unsafe(no_mangle)]
 pub extern "C" fn ht1130_check_script(mask: &[u8], script: &[u8], room: usize) -> u64
-    ensures { result ≡ scriptNumber (checked mask.now script.now room) }
+    ensures { result ≡ script_number (checked mask.now script.now room) }
 {
     packed(check_script(mask, script, room))
 }

@@ -11,9 +11,9 @@ use lib.Dec.{ltb, eqb, lit<}
 use lib.ListN.{length, take, get_or}
 use borrow.Author.Tests.{ltb-true, eqb-true, lt-ltb, le-ltb, ne_eqb}
 use Rattle.isa.specs.Choice.{pick}
-use Rattle.isa.specs.Code.{addresses, bytes_of, in_range, leading, bitInRange}
+use Rattle.isa.specs.Code.{addresses, bytes_of, in_range, leading, bit_in_range}
 use Rattle.isa.specs.Reading.{Reads, Reading, Entry, undefined, whole, fixed, nibble, byte, opcodes, complete, decoded, ReadingDetermines}
-use Rattle.isa.specs.Timing.{Columns, columns, columnsOf, columnsAt, entryColumns, Timed}
+use Rattle.isa.specs.Timing.{Columns, columns, columns_of, columns_at, entry_columns, Timed}
 use Rattle.isa.specs.declared.decoder.Decoded.{Decoded}
 use Rattle.isa.specs.declared.decoder.Decoded.TheVariants.{Read, Unreadable}
 use Rattle.isa.specs.declared.Pointer.{Pointer}
@@ -108,7 +108,7 @@ module _ (a b : ℕ) where
   bit n t h = target (Ja n) (0b1000_0000 + 8 * n) t (bits (t.0 % 256) n (ltb-true n 4 (and_left (ltb n 4) (ltb t.0 2048) h))) (and_right (ltb n 4) (ltb t.0 2048) h)
 
   pub back : (i : Instruction) → Reads a b i → decoded a b ≡ Read i
-  unfolding bytes_of in_range leading bitInRange decoded opcodes
+  unfolding bytes_of in_range leading bit_in_range decoded opcodes
   back I.AddAM r = one r.bytes refl
   back I.AdcAM r = one r.bytes refl
   back I.SubAM r = one r.bytes refl
@@ -200,21 +200,21 @@ below (suc n) f = f 0 && below n (λ (k : ℕ). f (suc k))
 
 -- i's fields are in range and its bytes are s; and its columns are c
 abbrev good : Columns → Instruction → List ℕ → Bool
-good c i s = in_range i && same (bytes_of i) s && (eqb c.bytes (columnsOf i).bytes && eqb c.cycles (columnsOf i).cycles)
+good c i s = in_range i && same (bytes_of i) s && (eqb c.bytes (columns_of i).bytes && eqb c.cycles (columns_of i).cycles)
 
 abbrev right : ℕ → Entry → Bool
 right a undefined = true
-right a (whole i) = good (columnsOf i) i (a ∷ [])
-right a (fixed b i) = good (columnsOf i) i (a ∷ b ∷ [])
-right a (nibble f) = below 16 (λ (b : ℕ). good (columnsOf (f 0)) (f b) (a ∷ b ∷ []))
-right a (byte f) = below 256 (λ (b : ℕ). good (columnsOf (f 0)) (f b) (a ∷ b ∷ []))
+right a (whole i) = good (columns_of i) i (a ∷ [])
+right a (fixed b i) = good (columns_of i) i (a ∷ b ∷ [])
+right a (nibble f) = below 16 (λ (b : ℕ). good (columns_of (f 0)) (f b) (a ∷ b ∷ []))
+right a (byte f) = below 256 (λ (b : ℕ). good (columns_of (f 0)) (f b) (a ∷ b ∷ []))
 
 abbrev every : ℕ → List Entry → Bool
 every a [] = true
 every a (e ∷ es) = right a e && every (suc a) es
 
 tested : every 0 opcodes ≡ true
-unfolding in_range bytes_of leading bitInRange columnsOf opcodes
+unfolding in_range bytes_of leading bit_in_range columns_of opcodes
 tested = refl
 
 same-is : (s t : List ℕ) → same s t ≡ true → s ≡ t
@@ -242,15 +242,15 @@ every-at (x ∷ es) a (suc k) e =
 -- what a passed test says of the instruction
 pub record Made (c : Columns) (a b : ℕ) (i : Instruction) : Type 0 where
   pub reads : Reads a b i
-  pub timed : c ≡ columnsOf i
+  pub timed : c ≡ columns_of i
 
 made : (c : Columns) (a b : ℕ) (i : Instruction) (s : List ℕ) → good c i s ≡ true → take (length s) (a ∷ b ∷ []) ≡ s → Made c a b i
 made c a b i s g e =
-    let coded : in_range i && same (bytes_of i) s ≡ true = and_left (in_range i && same (bytes_of i) s) (eqb c.bytes (columnsOf i).bytes && eqb c.cycles (columnsOf i).cycles) g in
-    let timed : eqb c.bytes (columnsOf i).bytes && eqb c.cycles (columnsOf i).cycles ≡ true = and_right (in_range i && same (bytes_of i) s) (eqb c.bytes (columnsOf i).bytes && eqb c.cycles (columnsOf i).cycles) g in
+    let coded : in_range i && same (bytes_of i) s ≡ true = and_left (in_range i && same (bytes_of i) s) (eqb c.bytes (columns_of i).bytes && eqb c.cycles (columns_of i).cycles) g in
+    let timed : eqb c.bytes (columns_of i).bytes && eqb c.cycles (columns_of i).cycles ≡ true = and_right (in_range i && same (bytes_of i) s) (eqb c.bytes (columns_of i).bytes && eqb c.cycles (columns_of i).cycles) g in
     let p : bytes_of i ≡ s = same-is (bytes_of i) s (and_right (in_range i) (same (bytes_of i) s) coded) in
-    let l : c.bytes ≡ (columnsOf i).bytes = eqb-true _ _ (and_left (eqb c.bytes (columnsOf i).bytes) (eqb c.cycles (columnsOf i).cycles) timed) in
-    let n : c.cycles ≡ (columnsOf i).cycles = eqb-true _ _ (and_right (eqb c.bytes (columnsOf i).bytes) (eqb c.cycles (columnsOf i).cycles) timed) in
+    let l : c.bytes ≡ (columns_of i).bytes = eqb-true _ _ (and_left (eqb c.bytes (columns_of i).bytes) (eqb c.cycles (columns_of i).cycles) timed) in
+    let n : c.cycles ≡ (columns_of i).cycles = eqb-true _ _ (and_right (eqb c.bytes (columns_of i).bytes) (eqb c.cycles (columns_of i).cycles) timed) in
     record { reads = record { fields = and_left (in_range i) (same (bytes_of i) s) coded; bytes = rw p e }; timed = λ k. record { bytes = l k; cycles = n k } }
 
 same_read : {i j : Instruction} → Read i ≡ Read j → i ≡ j
@@ -260,26 +260,26 @@ picked : (t : Bool) (i j : Instruction) → pick t (Read j) Unreadable ≡ Read 
 picked true i j e = (refl, same_read e)
 picked false i j e = absurd (let z : ◌≡◌ {A = ℕ} 0 1 = cc in omega arith)
 
-entry : (e : Entry) (a b : ℕ) (i : Instruction) → right a e ≡ true → b < 256 → complete e b ≡ Read i → Made (entryColumns e) a b i
+entry : (e : Entry) (a b : ℕ) (i : Instruction) → right a e ≡ true → b < 256 → complete e b ≡ Read i → Made (entry_columns e) a b i
 entry undefined a b i t h e = absurd (let z : ◌≡◌ {A = ℕ} 0 1 = cc in omega arith)
-entry (whole j) a b i t h e = subst (Made (columnsOf j) a b) (same_read e) (made (columnsOf j) a b j (a ∷ []) t refl)
+entry (whole j) a b i t h e = subst (Made (columns_of j) a b) (same_read e) (made (columns_of j) a b j (a ∷ []) t refl)
 entry (fixed y j) a b i t h e =
     let p = picked (eqb b y) i j e in
-    subst (Made (columnsOf j) a b) p.1 (made (columnsOf j) a b j (a ∷ y ∷ []) t (rw (eqb-true b y p.0) refl))
+    subst (Made (columns_of j) a b) p.1 (made (columns_of j) a b j (a ∷ y ∷ []) t (rw (eqb-true b y p.0) refl))
 entry (nibble f) a b i t h e =
     let p = picked (ltb b 16) i (f b) e in
-    subst (Made (columnsOf (f 0)) a b) p.1
-    (made (columnsOf (f 0)) a b (f b) (a ∷ b ∷ []) (below_at 16 (λ (b : ℕ). good (columnsOf (f 0)) (f b) (a ∷ b ∷ [])) t b (ltb-true b 16 p.0)) refl)
+    subst (Made (columns_of (f 0)) a b) p.1
+    (made (columns_of (f 0)) a b (f b) (a ∷ b ∷ []) (below_at 16 (λ (b : ℕ). good (columns_of (f 0)) (f b) (a ∷ b ∷ [])) t b (ltb-true b 16 p.0)) refl)
 entry (byte f) a b i t h e =
-    subst (Made (columnsOf (f 0)) a b) (same_read e)
-    (made (columnsOf (f 0)) a b (f b) (a ∷ b ∷ []) (below_at 256 (λ (b : ℕ). good (columnsOf (f 0)) (f b) (a ∷ b ∷ [])) t b h) refl)
+    subst (Made (columns_of (f 0)) a b) (same_read e)
+    (made (columns_of (f 0)) a b (f b) (a ∷ b ∷ []) (below_at 256 (λ (b : ℕ). good (columns_of (f 0)) (f b) (a ∷ b ∷ [])) t b h) refl)
 
 -- ---- the laws
 row : (a : ℕ) → right a (get_or opcodes a undefined) ≡ true
 row a = subst (λ (m : ℕ). right m (get_or opcodes a undefined) ≡ true) (zero-add a) (every-at opcodes 0 a tested)
 
-from-map : (a b : ℕ) (i : Instruction) → b < 256 → decoded a b ≡ Read i → Made (columnsAt a) a b i
-unfolding decoded columnsAt
+from-map : (a b : ℕ) (i : Instruction) → b < 256 → decoded a b ≡ Read i → Made (columns_at a) a b i
+unfolding decoded columns_at
 from-map a b i h e = entry (get_or opcodes a undefined) a b i (row a) h e
 
 -- what the map gives is what the codes say, for every pair of bytes
@@ -313,19 +313,19 @@ pub reading-determines : ReadingDetermines
 reading-determines a b d e h r s = reading a b d h r ∙ sym (reading a b e h s)
 
 -- ---- the list's entries
-timed-read : (a b : ℕ) (i : Instruction) → b < 256 → Reads a b i → columnsAt a ≡ columnsOf i
+timed-read : (a b : ℕ) (i : Instruction) → b < 256 → Reads a b i → columns_at a ≡ columns_of i
 timed-read a b i h r = (from-map a b i h (back a b i r)).timed
 
-timed-unread : (a : ℕ) (e : Entry) → right a e ≡ true → ((b : ℕ) (i : Instruction) → Reads a b i → ⊥) → entryColumns e ≡ columns 0 0
+timed-unread : (a : ℕ) (e : Entry) → right a e ≡ true → ((b : ℕ) (i : Instruction) → Reads a b i → ⊥) → entry_columns e ≡ columns 0 0
 timed-unread a undefined t h = refl
-timed-unread a (whole i) t h = absurd (h 0 i (made (columnsOf i) a 0 i (a ∷ []) t refl).reads)
-timed-unread a (fixed b i) t h = absurd (h b i (made (columnsOf i) a b i (a ∷ b ∷ []) t refl).reads)
-timed-unread a (nibble f) t h = absurd (h 0 (f 0) (made (columnsOf (f 0)) a 0 (f 0) (a ∷ 0 ∷ []) (below_at 16 (λ (b : ℕ). good (columnsOf (f 0)) (f b) (a ∷ b ∷ [])) t 0 (lit< tt)) refl).reads)
-timed-unread a (byte f) t h = absurd (h 0 (f 0) (made (columnsOf (f 0)) a 0 (f 0) (a ∷ 0 ∷ []) (below_at 256 (λ (b : ℕ). good (columnsOf (f 0)) (f b) (a ∷ b ∷ [])) t 0 (lit< tt)) refl).reads)
+timed-unread a (whole i) t h = absurd (h 0 i (made (columns_of i) a 0 i (a ∷ []) t refl).reads)
+timed-unread a (fixed b i) t h = absurd (h b i (made (columns_of i) a b i (a ∷ b ∷ []) t refl).reads)
+timed-unread a (nibble f) t h = absurd (h 0 (f 0) (made (columns_of (f 0)) a 0 (f 0) (a ∷ 0 ∷ []) (below_at 16 (λ (b : ℕ). good (columns_of (f 0)) (f b) (a ∷ b ∷ [])) t 0 (lit< tt)) refl).reads)
+timed-unread a (byte f) t h = absurd (h 0 (f 0) (made (columns_of (f 0)) a 0 (f 0) (a ∷ 0 ∷ []) (below_at 256 (λ (b : ℕ). good (columns_of (f 0)) (f b) (a ∷ b ∷ [])) t 0 (lit< tt)) refl).reads)
 
 -- the entry for a first byte is what the summary says of it
-pub timed : (a : ℕ) → Timed a (columnsAt a)
-unfolding columnsAt
+pub timed : (a : ℕ) → Timed a (columns_at a)
+unfolding columns_at
 timed a = record { read = λ b i h r. timed-read a b i h r; unread = timed-unread a (get_or opcodes a undefined) (row a) }
 
 -- ---- what the decoder's arms show
@@ -339,10 +339,10 @@ pub and_both : (x y : Bool) → x ≡ true → y ≡ true → x && y ≡ true
 and_both true y e f = f
 and_both false y e f = e
 
-pub to-target : (k : Condition) (a b : ℕ) → b < 256 → bitInRange k ≡ true → a / 8 * 8 ≡ leading k → Reads a b (I.Branch (record { 0 = a % 8 * 256 + b }) k)
+pub to-target : (k : Condition) (a b : ℕ) → b < 256 → bit_in_range k ≡ true → a / 8 * 8 ≡ leading k → Reads a b (I.Branch (record { 0 = a % 8 * 256 + b }) k)
 unfolding in_range bytes_of
 to-target k a b h f e =
-    two-byte (and_both (bitInRange k) (ltb (a % 8 * 256 + b) 2048) f (lt-ltb (a % 8 * 256 + b) 2048 (omega arith))) refl (omega arith) (omega arith)
+    two-byte (and_both (bit_in_range k) (ltb (a % 8 * 256 + b) 2048) f (lt-ltb (a % 8 * 256 + b) 2048 (omega arith))) refl (omega arith) (omega arith)
 
 pub no-pattern : (a b : ℕ) → a ≡ 0x35 → (i : Instruction) → Reads a b i → ⊥
 unfolding decoded opcodes

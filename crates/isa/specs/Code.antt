@@ -104,19 +104,19 @@ bytes_of I.SoundOff = 0b0100_1010 ∷ []
 bytes_of I.Halt = 0b0011_0111 ∷ 0b0011_1110 ∷ []
 
 -- "nnn being 0 to 4", "d a nibble", JAn's n is 0 to 3; a branch holds 11 bits of its target, a jump and a call 12
-unfoldable pub bitInRange : Condition → Bool
-bitInRange (Ja n) = ltb n 4
-bitInRange JnzR0 = true
-bitInRange JnzR1 = true
-bitInRange JnzR4 = true
-bitInRange Jz = true
-bitInRange JnzA = true
-bitInRange Jc = true
-bitInRange Jnc = true
-bitInRange Jtmr = true
+unfoldable pub bit_in_range : Condition → Bool
+bit_in_range (Ja n) = ltb n 4
+bit_in_range JnzR0 = true
+bit_in_range JnzR1 = true
+bit_in_range JnzR4 = true
+bit_in_range Jz = true
+bit_in_range JnzA = true
+bit_in_range Jc = true
+bit_in_range Jnc = true
+bit_in_range Jtmr = true
 
 unfoldable pub in_range : Instruction → Bool
-unfolding bitInRange
+unfolding bit_in_range
 in_range I.AddAM = true
 in_range I.AdcAM = true
 in_range I.SubAM = true
@@ -153,7 +153,7 @@ in_range I.RrcA = true
 in_range (I.InA p) = true
 in_range I.OutPaA = true
 in_range (I.Jmp t) = ltb t.0 addresses
-in_range (I.Branch t k) = bitInRange k && ltb t.0 2048
+in_range (I.Branch t k) = bit_in_range k && ltb t.0 2048
 in_range (I.Call t) = ltb t.0 addresses
 in_range I.Ret = true
 in_range I.Reti = true

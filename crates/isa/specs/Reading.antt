@@ -22,9 +22,9 @@ pub record Reads (a b : ℕ) (i : Instruction) : Type 0 where
   pub bytes : take (length (bytes_of i)) (a ∷ b ∷ []) ≡ bytes_of i
 
 -- document 01's fault for each answer of the decoder, 0 for none: "An instruction that cannot be read gives fault 1"
-abbrev pub faultNumber : Decoded → ℕ
-faultNumber (Read i) = 0
-faultNumber Unreadable = 1
+abbrev pub fault_number : Decoded → ℕ
+fault_number (Read i) = 0
+fault_number Unreadable = 1
 
 -- the answer is an instruction, and the bytes read as it
 abbrev pub ReadAs : ℕ → ℕ → Decoded → Type 0
@@ -38,7 +38,7 @@ Faulting a b d (suc zero) = (i : Instruction) → Reads a b i → ⊥
 Faulting a b d (suc (suc n)) = ⊥
 
 abbrev pub Reading : ℕ → ℕ → Decoded → Type 0
-Reading a b d = Faulting a b d (faultNumber d)
+Reading a b d = Faulting a b d (fault_number d)
 
 -- two answers to the same bytes are one
 abbrev pub ReadingDetermines : Type 0

@@ -13,98 +13,98 @@ abbrev pub columns : ℕ → ℕ → Columns
 columns l c = record { bytes = l; cycles = c }
 
 -- the summary, in its order: Byte, then Cycle
-unfoldable pub columnsOf : Instruction → Columns
-columnsOf I.AddAM = columns 1 1
-columnsOf I.AdcAM = columns 1 1
-columnsOf I.SubAM = columns 1 1
-columnsOf I.SbcAM = columns 1 1
-columnsOf (I.AddAX d) = columns 2 2
-columnsOf (I.SubAX d) = columns 2 2
-columnsOf I.Daa = columns 1 1
-columnsOf I.AndAM = columns 1 1
-columnsOf I.OrAM = columns 1 1
-columnsOf I.XorAM = columns 1 1
-columnsOf I.AndMA = columns 1 1
-columnsOf I.OrMA = columns 1 1
-columnsOf I.XorMA = columns 1 1
-columnsOf (I.AndAX d) = columns 2 2
-columnsOf (I.OrAX d) = columns 2 2
-columnsOf (I.XorAX d) = columns 2 2
-columnsOf I.IncA = columns 1 1
-columnsOf (I.IncR n) = columns 1 1
-columnsOf (I.IncM p) = columns 1 1
-columnsOf I.DecA = columns 1 1
-columnsOf (I.DecR n) = columns 1 1
-columnsOf (I.DecM p) = columns 1 1
-columnsOf (I.MovAR n) = columns 1 1
-columnsOf (I.MovRA n) = columns 1 1
-columnsOf (I.MovAM p) = columns 1 1
-columnsOf (I.MovMA p) = columns 1 1
-columnsOf (I.MovAX d) = columns 1 1
-columnsOf (I.MovPairXX p low high) = columns 2 2
-columnsOf (I.MovR4X d) = columns 2 2
-columnsOf I.RlA = columns 1 1
-columnsOf I.RlcA = columns 1 1
-columnsOf I.RrA = columns 1 1
-columnsOf I.RrcA = columns 1 1
-columnsOf (I.InA p) = columns 1 1
-columnsOf I.OutPaA = columns 1 1
-columnsOf (I.Jmp t) = columns 2 2
-columnsOf (I.Branch t k) = columns 2 2
-columnsOf (I.Call t) = columns 2 2
-columnsOf I.Ret = columns 1 1
-columnsOf I.Reti = columns 1 1
-columnsOf I.Clc = columns 1 1
-columnsOf I.Stc = columns 1 1
-columnsOf I.Ei = columns 1 1
-columnsOf I.Di = columns 1 1
-columnsOf I.Nop = columns 1 1
-columnsOf (I.TimerXX x) = columns 2 2
-columnsOf I.TimerOn = columns 1 1
-columnsOf I.TimerOff = columns 1 1
-columnsOf I.MovATmrl = columns 1 1
-columnsOf I.MovATmrh = columns 1 1
-columnsOf I.MovTmrlA = columns 1 1
-columnsOf I.MovTmrhA = columns 1 1
-columnsOf (I.ReadR4A p) = columns 1 2
-columnsOf (I.ReadMr0A p) = columns 1 2
-columnsOf (I.SoundN n) = columns 2 2
-columnsOf I.SoundA = columns 1 1
-columnsOf I.SoundOne = columns 1 1
-columnsOf I.SoundLoop = columns 1 1
-columnsOf I.SoundOff = columns 1 1
-columnsOf I.Halt = columns 2 2
+unfoldable pub columns_of : Instruction → Columns
+columns_of I.AddAM = columns 1 1
+columns_of I.AdcAM = columns 1 1
+columns_of I.SubAM = columns 1 1
+columns_of I.SbcAM = columns 1 1
+columns_of (I.AddAX d) = columns 2 2
+columns_of (I.SubAX d) = columns 2 2
+columns_of I.Daa = columns 1 1
+columns_of I.AndAM = columns 1 1
+columns_of I.OrAM = columns 1 1
+columns_of I.XorAM = columns 1 1
+columns_of I.AndMA = columns 1 1
+columns_of I.OrMA = columns 1 1
+columns_of I.XorMA = columns 1 1
+columns_of (I.AndAX d) = columns 2 2
+columns_of (I.OrAX d) = columns 2 2
+columns_of (I.XorAX d) = columns 2 2
+columns_of I.IncA = columns 1 1
+columns_of (I.IncR n) = columns 1 1
+columns_of (I.IncM p) = columns 1 1
+columns_of I.DecA = columns 1 1
+columns_of (I.DecR n) = columns 1 1
+columns_of (I.DecM p) = columns 1 1
+columns_of (I.MovAR n) = columns 1 1
+columns_of (I.MovRA n) = columns 1 1
+columns_of (I.MovAM p) = columns 1 1
+columns_of (I.MovMA p) = columns 1 1
+columns_of (I.MovAX d) = columns 1 1
+columns_of (I.MovPairXX p low high) = columns 2 2
+columns_of (I.MovR4X d) = columns 2 2
+columns_of I.RlA = columns 1 1
+columns_of I.RlcA = columns 1 1
+columns_of I.RrA = columns 1 1
+columns_of I.RrcA = columns 1 1
+columns_of (I.InA p) = columns 1 1
+columns_of I.OutPaA = columns 1 1
+columns_of (I.Jmp t) = columns 2 2
+columns_of (I.Branch t k) = columns 2 2
+columns_of (I.Call t) = columns 2 2
+columns_of I.Ret = columns 1 1
+columns_of I.Reti = columns 1 1
+columns_of I.Clc = columns 1 1
+columns_of I.Stc = columns 1 1
+columns_of I.Ei = columns 1 1
+columns_of I.Di = columns 1 1
+columns_of I.Nop = columns 1 1
+columns_of (I.TimerXX x) = columns 2 2
+columns_of I.TimerOn = columns 1 1
+columns_of I.TimerOff = columns 1 1
+columns_of I.MovATmrl = columns 1 1
+columns_of I.MovATmrh = columns 1 1
+columns_of I.MovTmrlA = columns 1 1
+columns_of I.MovTmrhA = columns 1 1
+columns_of (I.ReadR4A p) = columns 1 2
+columns_of (I.ReadMr0A p) = columns 1 2
+columns_of (I.SoundN n) = columns 2 2
+columns_of I.SoundA = columns 1 1
+columns_of I.SoundOne = columns 1 1
+columns_of I.SoundLoop = columns 1 1
+columns_of I.SoundOff = columns 1 1
+columns_of I.Halt = columns 2 2
 
 -- what the list's entry for a first byte is: the columns of every instruction that starts with it, 0 and 0 where there is none
 pub record Timed (a : ℕ) (c : Columns) : Type 0 where
-  pub read : (b : ℕ) (i : Instruction) → b < 256 → Reads a b i → c ≡ columnsOf i
+  pub read : (b : ℕ) (i : Instruction) → b < 256 → Reads a b i → c ≡ columns_of i
   pub unread : ((b : ℕ) (i : Instruction) → Reads a b i → ⊥) → c ≡ columns 0 0
 
 -- the entry, computed from the map: the columns do not depend on the second byte
-abbrev pub entryColumns : Entry → Columns
-entryColumns undefined = columns 0 0
-entryColumns (whole i) = columnsOf i
-entryColumns (fixed b i) = columnsOf i
-entryColumns (nibble f) = columnsOf (f 0)
-entryColumns (byte f) = columnsOf (f 0)
+abbrev pub entry_columns : Entry → Columns
+entry_columns undefined = columns 0 0
+entry_columns (whole i) = columns_of i
+entry_columns (fixed b i) = columns_of i
+entry_columns (nibble f) = columns_of (f 0)
+entry_columns (byte f) = columns_of (f 0)
 
-unfoldable pub columnsAt : ℕ → Columns
-columnsAt a = entryColumns (get_or opcodes a undefined)
+unfoldable pub columns_at : ℕ → Columns
+columns_at a = entry_columns (get_or opcodes a undefined)
 
 abbrev pub length_of : ℕ → ℕ
-length_of a = (columnsAt a).bytes
+length_of a = (columns_at a).bytes
 
-abbrev pub cyclesOf : ℕ → ℕ
-cyclesOf a = (columnsAt a).cycles
+abbrev pub cycles_of : ℕ → ℕ
+cycles_of a = (columns_at a).cycles
 
 -- an entry in one byte: the length in the high nibble, the cycles in the low one
 abbrev pub packed : Columns → ℕ
 packed c = 16 * c.bytes + c.cycles
 
-abbrev pub entriesOf : List Entry → List ℕ
-entriesOf [] = []
-entriesOf (e ∷ es) = packed (entryColumns e) ∷ entriesOf es
+abbrev pub entries_of : List Entry → List ℕ
+entries_of [] = []
+entries_of (e ∷ es) = packed (entry_columns e) ∷ entries_of es
 
 -- the list
 unfoldable pub entries : List ℕ
-entries = entriesOf opcodes
+entries = entries_of opcodes

@@ -11,14 +11,14 @@ use borrow.Author.Tests.{ltb-true, ltb-false}
 use Rattle.isa.specs.Choice.{pick}
 use Rattle.datapath.specs.Memory.{tallied}
 use Rattle.datapath.proofs.Tally.{tallied-add}
-use Rattle.cpu.specs.Gap.{straysIn}
+use Rattle.cpu.specs.Gap.{strays_in}
 use Rattle.cpu.specs.Run.{yielded}
 use Rattle.cpu.specs.Range.{valid}
 use Rattle.machine.specs.Machine.{state_of}
-use Rattle.machine.specs.Power.{answered, powerRefusal, powered, powerOn}
-use Rattle.machine.specs.Events.{happened, refusalOf, applied, Input, power, named, answerTo, Call, steps_of, after}
+use Rattle.machine.specs.Power.{answered, power_refusal, powered, power_on}
+use Rattle.machine.specs.Events.{happened, refusal_of, applied, Input, power, named, answer_to, Call, steps_of, after}
 use Rattle.machine.specs.Report.{report}
-use Rattle.machine.specs.Gap.{since, gapAccessesAfter, gapAccesses, lesser, GapCounted, CountGoesOn, withTrace, TraceAside}
+use Rattle.machine.specs.Gap.{since, gap_accesses_after, gap_accesses, lesser, GapCounted, CountGoesOn, with_trace, TraceAside}
 use Rattle.machine.specs.declared.Machine.{Machine}
 use Rattle.machine.specs.declared.Trace.{Trace}
 use Rattle.machine.specs.declared.events.Event.{Event}
@@ -77,28 +77,28 @@ module _ (n : ℕ) where
     none : m.trace.gap ≡ tallied 0 (n + 0)
     none = e ∙ ap (tallied 0) (sym (add-zero n))
 
-    happened-counts : (k : Event) → (happened mask k m).trace.gap ≡ tallied 0 (n + straysIn mask (steps_of (named (Known k))) (state_of m))
+    happened-counts : (k : Event) → (happened mask k m).trace.gap ≡ tallied 0 (n + strays_in mask (steps_of (named (Known k))) (state_of m))
     unfolding happened steps_of yielded
-    happened-counts (Run r) = ap (λ (x : ℕ). tallied x (straysIn mask r (state_of m))) e ∙ tallied-add 0 n (straysIn mask r (state_of m))
+    happened-counts (Run r) = ap (λ (x : ℕ). tallied x (strays_in mask r (state_of m))) e ∙ tallied-add 0 n (strays_in mask r (state_of m))
     happened-counts (Pins pm ps pp) = none
     happened-counts (Int level) = none
     happened-counts (Tmclk r) = none
     happened-counts Res = none
 
-    input-counts : (i : Input) → (answerTo mask i m).machine.trace.gap ≡ tallied 0 (pick (eqb (answerTo mask i m).refusal 0) (since i n + straysIn mask (steps_of i) (state_of m)) n)
-    unfolding powerOn applied steps_of yielded powered tallied
-    input-counts (power o image) = answered-counts (powerRefusal o image) 0 (powered o image) m refl e
-    input-counts (named (Known k)) = answered-counts (refusalOf mask k m) _ (happened mask k m) m (happened-counts k) e
+    input-counts : (i : Input) → (answer_to mask i m).machine.trace.gap ≡ tallied 0 (pick (eqb (answer_to mask i m).refusal 0) (since i n + strays_in mask (steps_of i) (state_of m)) n)
+    unfolding power_on applied steps_of yielded powered tallied
+    input-counts (power o image) = answered-counts (power_refusal o image) 0 (powered o image) m refl e
+    input-counts (named (Known k)) = answered-counts (refusal_of mask k m) _ (happened mask k m) m (happened-counts k) e
     input-counts (named Unknown) = answered-counts (pick (valid (state_of m)) 7 5) (n + 0) m m none e
 
 -- ---- every list
-list_counts : (ks : List Call) (n : ℕ) (m : Machine) → m.trace.gap ≡ tallied 0 n → (after ks m).trace.gap ≡ tallied 0 (gapAccessesAfter n ks m)
-unfolding after gapAccessesAfter
+list_counts : (ks : List Call) (n : ℕ) (m : Machine) → m.trace.gap ≡ tallied 0 n → (after ks m).trace.gap ≡ tallied 0 (gap_accesses_after n ks m)
+unfolding after gap_accesses_after
 list_counts [] n m e = e
-list_counts (k ∷ ks) n m e = list_counts ks _ (answerTo k.mask k.input m).machine (input-counts n k.mask m e k.input)
+list_counts (k ∷ ks) n m e = list_counts ks _ (answer_to k.mask k.input m).machine (input-counts n k.mask m e k.input)
 
 pub count-goes-on : CountGoesOn
-count-goes-on calls m h = list_counts calls m.trace.gap m (sym (from-0 m.trace.gap ∙ below m.trace.gap h)) ∙ from-0 (gapAccessesAfter m.trace.gap calls m)
+count-goes-on calls m h = list_counts calls m.trace.gap m (sym (from-0 m.trace.gap ∙ below m.trace.gap h)) ∙ from-0 (gap_accesses_after m.trace.gap calls m)
 
 pub gap-counted : GapCounted
 unfolding powered
@@ -107,7 +107,7 @@ gap-counted options image before start e z calls last bytes s =
     let first = powered options image in
     let q : last ≡ after calls first = session-after start.machine last calls s ∙ ap (after calls) p.1 in
     let v : valid (state_of last) ≡ true = (property2 options image before start e z calls last bytes s).in-range in
-    let counts : last.trace.gap ≡ lesser 65535 (gapAccesses calls first) = ap (λ (m : Machine). m.trace.gap) q ∙ count-goes-on calls first (omega arith) in
+    let counts : last.trace.gap ≡ lesser 65535 (gap_accesses calls first) = ap (λ (m : Machine). m.trace.gap) q ∙ count-goes-on calls first (omega arith) in
     record {
       counts = counts;
       answers = ap (λ (t : Bool). record { count = pick t last.trace.gap 0; refusal = pick t 0 5 }) v ∙ ap (λ (x : ℕ). record { count = x; refusal = 0 }) counts;
@@ -119,7 +119,7 @@ same true new new' old old' p q = p
 same false new new' old old' p q = q
 
 module _ (t : Trace) (mask : List ℕ) (m : Machine) where
-  happened-same : (e : Event) → state_of (happened mask e (withTrace t m)) ≡ state_of (happened mask e m)
+  happened-same : (e : Event) → state_of (happened mask e (with_trace t m)) ≡ state_of (happened mask e m)
   unfolding happened
   happened-same (Run r) = refl
   happened-same (Pins pm ps pp) = refl
@@ -127,17 +127,17 @@ module _ (t : Trace) (mask : List ℕ) (m : Machine) where
   happened-same (Tmclk r) = refl
   happened-same Res = refl
 
-  refusal-same : (i : Input) → (answerTo mask i (withTrace t m)).refusal ≡ (answerTo mask i m).refusal
-  unfolding powerOn applied refusalOf
+  refusal-same : (i : Input) → (answer_to mask i (with_trace t m)).refusal ≡ (answer_to mask i m).refusal
+  unfolding power_on applied refusal_of
   refusal-same (power o image) = refl
   refusal-same (named (Known e)) = refl
   refusal-same (named Unknown) = refl
 
-  state-same : (i : Input) → state_of (answerTo mask i (withTrace t m)).machine ≡ state_of (answerTo mask i m).machine
-  unfolding powerOn applied refusalOf
-  state-same (power o image) = same (eqb (powerRefusal o image) 0) (powered o image) (powered o image) m (withTrace t m) refl refl
-  state-same (named (Known e)) = same (eqb (refusalOf mask e m) 0) (happened mask e m) (happened mask e (withTrace t m)) m (withTrace t m) (happened-same e) refl
-  state-same (named Unknown) = same (eqb (pick (valid (state_of m)) 7 5) 0) m (withTrace t m) m (withTrace t m) refl refl
+  state-same : (i : Input) → state_of (answer_to mask i (with_trace t m)).machine ≡ state_of (answer_to mask i m).machine
+  unfolding power_on applied refusal_of
+  state-same (power o image) = same (eqb (power_refusal o image) 0) (powered o image) (powered o image) m (with_trace t m) refl refl
+  state-same (named (Known e)) = same (eqb (refusal_of mask e m) 0) (happened mask e m) (happened mask e (with_trace t m)) m (with_trace t m) (happened-same e) refl
+  state-same (named Unknown) = same (eqb (pick (valid (state_of m)) 7 5) 0) m (with_trace t m) m (with_trace t m) refl refl
 
 pub trace-aside : TraceAside
 unfolding report

@@ -7,10 +7,10 @@ use lib.ListN.{replicate}
 use borrow.Author.Tests.{lt-ltb, ltb-true}
 use Rattle.isa.proofs.Exact.{and_left, and_right, and_both}
 use Rattle.cpu.specs.State.{state}
-use Rattle.cpu.specs.Range.{bit, cpuOk, memoryOk, nibble, nibbles, optionsOk, registersOk, valid}
+use Rattle.cpu.specs.Range.{bit, cpu_ok, memory_ok, nibble, nibbles, options_ok, registers_ok, valid}
 use Rattle.cpu.specs.declared.Cpu.{Cpu}
 use Rattle.cpu.proofs.Ranges.{CpuIn, from, to}
-use Rattle.datapath.specs.Memory.{memorySize}
+use Rattle.datapath.specs.Memory.{memory_size}
 use Rattle.isa.specs.Code.{addresses}
 
 -- two tests that pass together
@@ -27,22 +27,22 @@ both : (x y : Bool) → x && y ≡ true → (x ≡ true) × (y ≡ true)
 both x y e = (and_left x y e, and_right x y e)
 
 -- a memory in range, to say of a processor what is said of a state
-zeros : memoryOk (replicate memorySize 0) ≡ true
-unfolding memoryOk nibbles
+zeros : memory_ok (replicate memory_size 0) ≡ true
+unfolding memory_ok nibbles
 zeros = refl
 
-bounds : (c : Cpu) → cpuOk c ≡ true → CpuIn c
+bounds : (c : Cpu) → cpu_ok c ≡ true → CpuIn c
 unfolding valid
-bounds c e = (from (state c (replicate memorySize 0)) (and_both (cpuOk c) (memoryOk (replicate memorySize 0)) e zeros)).cpu
+bounds c e = (from (state c (replicate memory_size 0)) (and_both (cpu_ok c) (memory_ok (replicate memory_size 0)) e zeros)).cpu
 
-tests : (c : Cpu) → CpuIn c → cpuOk c ≡ true
+tests : (c : Cpu) → CpuIn c → cpu_ok c ≡ true
 unfolding valid
-tests c v = and_left (cpuOk c) (memoryOk (replicate memorySize 0)) (to (state c (replicate memorySize 0)) (record { cpu = v; memory = zeros }))
+tests c v = and_left (cpu_ok c) (memory_ok (replicate memory_size 0)) (to (state c (replicate memory_size 0)) (record { cpu = v; memory = zeros }))
 
 module _ (c : Cpu) where
   abbrev pub small : Bool
   small =
-      registersOk c.registers
+      registers_ok c.registers
       && ((nibble c.outputs.pa && (nibble c.pins.pm && (nibble c.pins.ps && nibble c.pins.pp)))
       && (nibble c.options.pm && (nibble c.options.ps && nibble c.options.pp)))
 
@@ -69,12 +69,12 @@ module _ (c : Cpu) where
 
   module _ (count : c.timer.count < 256) (cycles : c.cycles < 2 ^ 32) where
     to-parts : small && (flags && (bothAddresses && others)) ≡ true → CpuIn c
-    unfolding registersOk optionsOk
+    unfolding registers_ok options_ok
     to-parts e =
         let s = both small _ e in
         let f = both flags _ s.1 in
         let p = both bothAddresses _ f.1 in
-        let r = both (registersOk c.registers) _ s.0 in
+        let r = both (registers_ok c.registers) _ s.0 in
         let n = both (nibble c.outputs.pa && (nibble c.pins.pm && (nibble c.pins.ps && nibble c.pins.pp))) _ r.1 in
         let acc = below c.registers.acc 16 _ r.0 in
         let r0 = below c.registers.r0 16 _ acc.1 in
@@ -112,7 +112,7 @@ module _ (c : Cpu) where
         }
 
     of_parts : CpuIn c → small && (flags && (bothAddresses && others)) ≡ true
-    unfolding registersOk optionsOk
+    unfolding registers_ok options_ok
     of_parts v =
         let r = v.registers in
         let q = v.pins in
@@ -146,5 +146,5 @@ module _ (c : Cpu) where
         (and_both bothAddresses _ (rw (lt-ltb c.control.pc.0 addresses v.control.pc, lt-ltb c.stack.address.0 addresses v.stack.address) refl)
         (rw (lt-ltb c.interrupts.level 3 v.interrupts.level, lt-ltb c.status.fault 4 v.status.fault, v.status.either, lt-ltb c.outputs.channel 17 v.outputs.channel, o.0) w.0)))
 
-    pub grouped : small && (flags && (bothAddresses && others)) ≡ cpuOk c
-    grouped = same (small && (flags && (bothAddresses && others))) (cpuOk c) (λ e. tests c (to-parts e)) (λ e. of_parts (bounds c e))
+    pub grouped : small && (flags && (bothAddresses && others)) ≡ cpu_ok c
+    grouped = same (small && (flags && (bothAddresses && others))) (cpu_ok c) (λ e. tests c (to-parts e)) (λ e. of_parts (bounds c e))

@@ -9,14 +9,14 @@ use mathlib.Core.List.{List, [], ◌∷◌}
 use lib.Dec.{ltb, eqb, lit<}
 use lib.ListN.{length, get_or, drop, length-drop}
 use borrow.Author.Tests.{ltb-true, eqb-true, eq-eqb}
-use Rattle.datapath.specs.Memory.{memorySize}
+use Rattle.datapath.specs.Memory.{memory_size}
 use Rattle.isa.specs.Choice.{pick}
 use Rattle.isa.proofs.Exact.{and_left, and_right, and_both}
 use Rattle.datapath.specs.Alu.{flag}
 use Rattle.datapath.specs.Timer.{counted}
-use Rattle.cpu.specs.State.{State, state, withTf, withHalted, withPins}
+use Rattle.cpu.specs.State.{State, state, with_tf, with_halted, with_pins}
 use Rattle.cpu.specs.Step.{step, timed}
-use Rattle.cpu.specs.Range.{nibble, nibbles, valid, memoryOk, optionsOk}
+use Rattle.cpu.specs.Range.{nibble, nibbles, valid, memory_ok, options_ok}
 use Rattle.cpu.specs.declared.Cpu.{Cpu}
 use Rattle.cpu.specs.declared.Options.{Options}
 use Rattle.cpu.specs.declared.Pins.{Pins}
@@ -25,9 +25,9 @@ use Rattle.cpu.proofs.Ranges.{Valid, CpuIn, RegistersIn, PinsIn, StatusIn, from,
 use Rattle.rom.specs.Fetching.{Bytes}
 use Rattle.cpu.proofs.Kept.{step-valid}
 use Rattle.machine.specs.Machine.{state_of, machine_of}
-use Rattle.machine.specs.Power.{afterRes, reset, powered, powerRefusal, answered, powerOn}
+use Rattle.machine.specs.Power.{after_res, reset, powered, power_refusal, answered, power_on}
 use Rattle.cpu.specs.Run.{ran}
-use Rattle.machine.specs.Events.{woken, wakes, withPorts, withInt, pinned, interrupted, clocked, counting, happened, maskOk, valuesOk, refusalOf, applied, Input, power, named, answerTo, Call, after, Every, Session, ended, calling}
+use Rattle.machine.specs.Events.{woken, wakes, with_ports, with_int, pinned, interrupted, clocked, counting, happened, mask_ok, values_ok, refusal_of, applied, Input, power, named, answer_to, Call, after, Every, Session, ended, calling}
 use Rattle.machine.specs.Report.{reporting, report, reported}
 use Rattle.machine.specs.Property2.{Property2}
 use Rattle.machine.specs.declared.Machine.{Machine}
@@ -51,7 +51,7 @@ nibbles-drop (suc n) [] e = e
 nibbles-drop (suc n) (x ∷ s) e = nibbles-drop n s (and_right (nibble x) (nibbles s) e)
 
 -- ---- RES and power-on
-res-in : (r : Registers) (p : Pins) (o : Options) (n : ℕ) → RegistersIn r → PinsIn p → optionsOk o ≡ true → n < 2 ^ 32 → CpuIn (afterRes r p o n)
+res-in : (r : Registers) (p : Pins) (o : Options) (n : ℕ) → RegistersIn r → PinsIn p → options_ok o ≡ true → n < 2 ^ 32 → CpuIn (after_res r p o n)
 res-in r p o n hr hp ho hn = record {
   registers = hr;
   control = record { pc = omega arith; cf = omega arith; tf = omega arith };
@@ -69,28 +69,28 @@ res-in r p o n hr hp ho hn = record {
 pub record Accepted (o : Options) (image : List ℕ) : Type 0 where
   pub size : length image ≡ 166
   pub nibbled : nibbles image ≡ true
-  pub chosen : optionsOk o ≡ true
+  pub chosen : options_ok o ≡ true
 
-pub accepted : (o : Options) (image : List ℕ) → powerRefusal o image ≡ 0 → Accepted o image
-unfolding powerRefusal
-accepted o image e = go (eqb (length image) 166) (nibbles image) (optionsOk o) refl refl refl e
+pub accepted : (o : Options) (image : List ℕ) → power_refusal o image ≡ 0 → Accepted o image
+unfolding power_refusal
+accepted o image e = go (eqb (length image) 166) (nibbles image) (options_ok o) refl refl refl e
   where
-    go : (x y z : Bool) → eqb (length image) 166 ≡ x → nibbles image ≡ y → optionsOk o ≡ z → ◌≡◌ {A = ℕ} (pick x (pick y (pick z 0 4) 3) 2) 0 → Accepted o image
+    go : (x y z : Bool) → eqb (length image) 166 ≡ x → nibbles image ≡ y → options_ok o ≡ z → ◌≡◌ {A = ℕ} (pick x (pick y (pick z 0 4) 3) 2) 0 → Accepted o image
     go true true true p q r n = record { size = eqb-true (length image) 166 p; nibbled = q; chosen = r }
     go true true false p q r n = absurd (omega arith)
     go true false z p q r n = absurd (omega arith)
     go false y z p q r n = absurd (omega arith)
 
-pub powered-valid : (o : Options) (image : List ℕ) → powerRefusal o image ≡ 0 → valid (state_of (powered o image)) ≡ true
-unfolding powered memoryOk
+pub powered-valid : (o : Options) (image : List ℕ) → power_refusal o image ≡ 0 → valid (state_of (powered o image)) ≡ true
+unfolding powered memory_ok
 powered-valid o image e =
     let h = accepted o image e in
     let n = nibbles-at image h.nibbled in
     to (state_of (powered o image)) (record {
       cpu = res-in _ _ o 0 (record { acc = n 0; r0 = n 1; r1 = n 2; r2 = n 3; r3 = n 4; r4 = n 5 })
           (record { pm = omega arith; ps = omega arith; pp = omega arith; int = omega arith }) h.chosen (lit< tt);
-      memory = and_both (eqb (length (drop 6 image)) memorySize) (nibbles (drop 6 image))
-          (eq-eqb (length (drop 6 image)) memorySize (omega (arith, length-drop 6 image, h.size))) (nibbles-drop 6 image h.nibbled);
+      memory = and_both (eqb (length (drop 6 image)) memory_size) (nibbles (drop 6 image))
+          (eq-eqb (length (drop 6 image)) memory_size (omega (arith, length-drop 6 image, h.size))) (nibbles-drop 6 image h.nibbled);
     })
 
 -- ---- each event
@@ -99,7 +99,7 @@ pick-in true x y p q = p
 pick-in false x y p q = q
 
 woken-in : {c : Cpu} → CpuIn c → CpuIn (woken c)
-woken-in {c} v = held_in {c = withHalted 0 c} (record {
+woken-in {c} v = held_in {c = with_halted 0 c} (record {
   registers = v.registers;
   control = v.control;
   timer = v.timer;
@@ -112,7 +112,7 @@ woken-in {c} v = held_in {c = withHalted 0 c} (record {
   cycles = v.cycles;
 }) 1 (omega arith)
 
-pins-in : {c : Cpu} → CpuIn c → (p : Pins) → PinsIn p → CpuIn (withPins p c)
+pins-in : {c : Cpu} → CpuIn c → (p : Pins) → PinsIn p → CpuIn (with_pins p c)
 pins-in v p h = record {
   registers = v.registers;
   control = v.control;
@@ -129,7 +129,7 @@ pins-in v p h = record {
 timed-in : {c : Cpu} → CpuIn c → (n : ℕ) → CpuIn (timed (counted c.timer.count n) c)
 timed-in {c} v n =
     let passed = eqb (counted c.timer.count n).passed 1 in
-    count-in (pick-in passed (withTf 1 c) c (tf-in v 1 (omega arith)) v) ((c.timer.count + n) % 256) (below (c.timer.count + n))
+    count-in (pick-in passed (with_tf 1 c) c (tf-in v 1 (omega arith)) v) ((c.timer.count + n) % 256) (below (c.timer.count + n))
   where
     below : (x : ℕ) → x % 256 < 256
     below x = omega arith
@@ -139,8 +139,8 @@ unfolding ran
 ran-valid mask b zero s v = v
 ran-valid mask b (suc n) s v = ran-valid mask b n (step mask s) (step-valid mask s b v)
 
-happened-valid : (mask : List ℕ) → Bytes mask → (e : Event) (m : Machine) → valuesOk e ≡ true → valid (state_of m) ≡ true → valid (state_of (happened mask e m)) ≡ true
-unfolding happened valuesOk pinned interrupted counting
+happened-valid : (mask : List ℕ) → Bytes mask → (e : Event) (m : Machine) → values_ok e ≡ true → valid (state_of m) ≡ true → valid (state_of (happened mask e m)) ≡ true
+unfolding happened values_ok pinned interrupted counting
 happened-valid mask b (Run n) m r v = ran-valid mask b n (state_of m) v
 happened-valid mask b (PinsEvent pm ps pp) m r v =
     let w = from (state_of m) v in
@@ -162,7 +162,7 @@ happened-valid mask b (Int level) m r v =
       memory = w.memory;
     })
   where
-    ports : (t : Bool) → PinsIn m.cpu.pins → level < 2 → PinsIn (withInt level (pick t (woken m.cpu) m.cpu)).pins
+    ports : (t : Bool) → PinsIn m.cpu.pins → level < 2 → PinsIn (with_int level (pick t (woken m.cpu) m.cpu)).pins
     ports true p h = record { pm = p.pm; ps = p.ps; pp = p.pp; int = h }
     ports false p h = record { pm = p.pm; ps = p.ps; pp = p.pp; int = h }
 happened-valid mask b (Tmclk n) m r v =
@@ -188,26 +188,26 @@ answered-valid n new old f v = go (eqb n 0) (eqb-true n 0)
     go false g = v
 
 -- what is not refused has its values in range
-unrefused : (mask : List ℕ) (e : Event) (m : Machine) → refusalOf mask e m ≡ 0 → valuesOk e ≡ true
-unfolding refusalOf
-unrefused mask e m r = go (maskOk mask e) (valuesOk e) (valid (state_of m)) refl r
+unrefused : (mask : List ℕ) (e : Event) (m : Machine) → refusal_of mask e m ≡ 0 → values_ok e ≡ true
+unfolding refusal_of
+unrefused mask e m r = go (mask_ok mask e) (values_ok e) (valid (state_of m)) refl r
   where
-    go : (x y z : Bool) → valuesOk e ≡ y → ◌≡◌ {A = ℕ} (pick x (pick y (pick z 0 5) 3) 1) 0 → valuesOk e ≡ true
+    go : (x y z : Bool) → values_ok e ≡ y → ◌≡◌ {A = ℕ} (pick x (pick y (pick z 0 5) 3) 1) 0 → values_ok e ≡ true
     go true true z q r = q
     go true false z q r = absurd (omega arith)
     go false y z q r = absurd (omega arith)
 
-pub input-valid : (mask : List ℕ) → Bytes mask → (i : Input) (m : Machine) → valid (state_of m) ≡ true → valid (state_of (answerTo mask i m).machine) ≡ true
-unfolding powerOn applied
-input-valid mask b (power o image) m v = answered-valid (powerRefusal o image) (powered o image) m (λ e. powered-valid o image e) v
-input-valid mask b (named (Known e)) m v = answered-valid (refusalOf mask e m) (happened mask e m) m (λ r. happened-valid mask b e m (unrefused mask e m r) v) v
+pub input-valid : (mask : List ℕ) → Bytes mask → (i : Input) (m : Machine) → valid (state_of m) ≡ true → valid (state_of (answer_to mask i m).machine) ≡ true
+unfolding power_on applied
+input-valid mask b (power o image) m v = answered-valid (power_refusal o image) (powered o image) m (λ e. powered-valid o image e) v
+input-valid mask b (named (Known e)) m v = answered-valid (refusal_of mask e m) (happened mask e m) m (λ r. happened-valid mask b e m (unrefused mask e m r) v) v
 input-valid mask b (named Unknown) m v = answered-valid (pick (valid (state_of m)) 7 5) m m (λ e. v) v
 
 -- no list of inputs takes the machine out of its ranges
 pub after-valid : (ks : List Call) → Every (λ (k : Call). Bytes k.mask) ks → (m : Machine) → valid (state_of m) ≡ true → valid (state_of (after ks m)) ≡ true
 unfolding after
 after-valid [] b m v = v
-after-valid (k ∷ ks) b m v = after-valid ks b.1 (answerTo k.mask k.input m).machine (input-valid k.mask b.0 k.input m v)
+after-valid (k ∷ ks) b m v = after-valid ks b.1 (answer_to k.mask k.input m).machine (input-valid k.mask b.0 k.input m v)
 
 -- ---- a whole list of calls
 -- the last machine is, in every field, the one that the rules give
@@ -217,11 +217,11 @@ session-after m n ks ended = refl
 session-after m n ks (calling {ks = js} k r p s) = session-after r.machine n js s ∙ ap (λ (a : Answer). after js a.machine) p
 
 -- an accepted power-on answers the machine that it makes
-pub powered-on : (o : Options) (image : List ℕ) (m : Machine) (r : Answer) → r ≡ powerOn o image m → r.refusal ≡ 0 → (powerRefusal o image ≡ 0) × (r.machine ≡ powered o image)
-unfolding powerOn
+pub powered-on : (o : Options) (image : List ℕ) (m : Machine) (r : Answer) → r ≡ power_on o image m → r.refusal ≡ 0 → (power_refusal o image ≡ 0) × (r.machine ≡ powered o image)
+unfolding power_on
 powered-on o image m r e z =
     let n = ap (λ (a : Answer). a.refusal) (sym e) ∙ z in
-    (n, ap (λ (a : Answer). a.machine) e ∙ rw (eq-eqb (powerRefusal o image) 0 n) refl)
+    (n, ap (λ (a : Answer). a.machine) e ∙ rw (eq-eqb (power_refusal o image) 0 n) refl)
 
 -- a machine in range is reported
 good-report : (m : Machine) (old : List ℕ) → length old ≡ 48 → valid (state_of m) ≡ true → report m old ≡ reporting 0 (reported m)

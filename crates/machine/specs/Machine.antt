@@ -2,7 +2,7 @@
 use Rattle.std.specs.Prelude.{ℕ, List}
 use Rattle.datapath.specs.Memory.{tallied}
 use Rattle.cpu.specs.State.{State, state}
-use Rattle.cpu.specs.Gap.{straysIn}
+use Rattle.cpu.specs.Gap.{strays_in}
 use Rattle.machine.specs.declared.Machine.{Machine}
 use Rattle.machine.specs.declared.Trace.{Trace}
 
@@ -13,13 +13,13 @@ abbrev pub machine_of : State → Trace → Machine
 machine_of s t = record { cpu = s.cpu; memory = s.memory; trace = t }
 
 -- a trace by its fields, as they are lent
-abbrev pub traceOf : ℕ → Trace
-traceOf gap = record { gap = gap }
+abbrev pub trace_of : ℕ → Trace
+trace_of gap = record { gap = gap }
 
 -- before anything ran
-abbrev pub noTrace : Trace
-noTrace = traceOf 0
+abbrev pub no_trace : Trace
+no_trace = trace_of 0
 
 -- what n steps leave behind, after what was there. Document 02, wish 6: "the machine counts such accesses"
 abbrev pub traced : List ℕ → ℕ → State → Trace → Trace
-traced mask n s t = traceOf (tallied t.gap (straysIn mask n s))
+traced mask n s t = trace_of (tallied t.gap (strays_in mask n s))

@@ -5,7 +5,7 @@ use Rattle.rom.specs.Fetching.{Bytes}
 use Rattle.cpu.specs.Range.{valid}
 use Rattle.cpu.specs.declared.Options.{Options}
 use Rattle.machine.specs.Machine.{state_of}
-use Rattle.machine.specs.Power.{powered, powerOn}
+use Rattle.machine.specs.Power.{powered, power_on}
 use Rattle.machine.specs.Events.{Call, Every, Session, after}
 use Rattle.machine.specs.Report.{reporting, report, reported}
 use Rattle.machine.specs.declared.Machine.{Machine}
@@ -21,6 +21,6 @@ pub record Ruled (options : Options) (image : List ℕ) (calls : List Call) (las
 -- a mask is bytes, as every lent slice is
 abbrev pub Property2 : Type 0
 Property2 =
-    (options : Options) (image : List ℕ) (before : Machine) (start : Answer) → start ≡ powerOn options image before → start.refusal ≡ 0
+    (options : Options) (image : List ℕ) (before : Machine) (start : Answer) → start ≡ power_on options image before → start.refusal ≡ 0
     → (calls : List Call) (last : Machine) → Every (λ (k : Call). Bytes k.mask) calls → Session start.machine calls last
     → Ruled options image calls last

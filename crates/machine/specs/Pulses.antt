@@ -1,9 +1,9 @@
 -- Document 02, wish 1, as claims about the rule: what kind 5 makes of a machine that sleeps, and what happens after a wake. The rule itself is
 -- `counting` (Events). Assumes nothing.
 use Rattle.std.specs.Prelude.{ℕ, ◌+◌, ◌<◌, ◌≡◌, List}
-use Rattle.rom.specs.Fetching.{byteAt}
+use Rattle.rom.specs.Fetching.{byte_at}
 use Rattle.datapath.specs.Timer.{counted}
-use Rattle.cpu.specs.State.{State, state, withTf, withCount, withHalted}
+use Rattle.cpu.specs.State.{State, state, with_tf, with_count, with_halted}
 use Rattle.cpu.specs.Step.{timed, step}
 use Rattle.cpu.specs.declared.Cpu.{Cpu}
 use Rattle.machine.specs.Events.{interrupted, counting}
@@ -24,18 +24,18 @@ pub record Overflows (n : ℕ) (c : Cpu) : Type 0 where
   pub no-fault : c.status.fault ≡ 0
 
 -- the first step after n pulses and a falling INT edge
-abbrev pub firstStep : List ℕ → List ℕ → ℕ → Cpu → State
-firstStep mask memory n c = step mask (state (interrupted 0 (counting n c)) memory)
+abbrev pub first_step : List ℕ → List ℕ → ℕ → Cpu → State
+first_step mask memory n c = step mask (state (interrupted 0 (counting n c)) memory)
 
 pub record PulsesAsleep : Type 0 where
   -- "kind 5 moves a running, externally clocked timer when halted too"
   pub moves : (n : ℕ) (c : Cpu) → Sleeps c → counting n c ≡ timed (counted c.timer.count n) c
   -- "TF by the same rule": pulses do not look at whether the machine is halted
-  pub as-awake : (n h : ℕ) (c : Cpu) → counting n (withHalted h c) ≡ withHalted h (counting n c)
+  pub as-awake : (n h : ℕ) (c : Cpu) → counting n (with_halted h c) ≡ with_halted h (counting n c)
   -- "It still wakes nothing": whatever the machine, no field but the timer's count and TF changes, so that no edge is held either
-  pub wakes-nothing : (n : ℕ) (c : Cpu) → withCount 0 (withTf 0 (counting n c)) ≡ withCount 0 (withTf 0 c)
+  pub wakes-nothing : (n : ℕ) (c : Cpu) → with_count 0 (with_tf 0 (counting n c)) ≡ with_count 0 (with_tf 0 c)
   -- document 01, "a held edge is taken (PC 8 ..), or else TF (PC 4 ..)", after a wake by INT: the edge first
-  pub edge-first : (mask memory : List ℕ) (n : ℕ) (c : Cpu) → Overflows n c → (firstStep mask memory n c).cpu.control.pc.0 ≡ 8
+  pub edge-first : (mask memory : List ℕ) (n : ℕ) (c : Cpu) → Overflows n c → (first_step mask memory n c).cpu.control.pc.0 ≡ 8
   -- then TF: with RETI (2Fh) at 8, the third step
-  pub then-flag : (mask memory : List ℕ) (n : ℕ) (c : Cpu) → Overflows n c → byteAt mask 8 ≡ 0x2f
-      → (step mask (step mask (firstStep mask memory n c))).cpu.control.pc.0 ≡ 4
+  pub then-flag : (mask memory : List ℕ) (n : ℕ) (c : Cpu) → Overflows n c → byte_at mask 8 ≡ 0x2f
+      → (step mask (step mask (first_step mask memory n c))).cpu.control.pc.0 ≡ 4

@@ -1,10 +1,10 @@
 // The events other than power-on: methods that take the machine and hand it back with their answer.
 ghost use Rattle.std.specs.Prelude.{◌≡◌, ℕ, length, true, [], List};
-ghost use Rattle.datapath.specs.Memory.{memorySize};
+ghost use Rattle.datapath.specs.Memory.{memory_size};
 ghost use Rattle.cpu.specs.State.{state};
-ghost use Rattle.machine.specs.Machine.{machine_of, traceOf};
+ghost use Rattle.machine.specs.Machine.{machine_of, trace_of};
 ghost use Rattle.machine.specs.declared.Trace.{Trace};
-ghost use Rattle.machine.specs.Events.{applied, clocked, counting, eventOf, fallen, happened, interrupted, maskOk, namedAnswer, pinned, refusalOf, stepping, valuesOk, wakes, withInt, withPorts, woken};
+ghost use Rattle.machine.specs.Events.{applied, clocked, counting, event_of, fallen, happened, interrupted, mask_ok, named_answer, pinned, refusal_of, stepping, values_ok, wakes, with_int, with_ports, woken};
 
 use crate::power::reset_cpu;
 use crate::ranges::{both, sound};
@@ -38,7 +38,7 @@ pub enum Named {
 
 // The event of a kind. What the kind does not name is not looked at.
 pub fn event_of(kind: u16, count: u16, a: u8, b: u8, c: u8) -> Named
-    ensures { result ≡ eventOf kind count a b c }
+    ensures { result ≡ event_of kind count a b c }
 {
     match kind {
         2 => Named::Known(Event::Run(count)),
@@ -90,7 +90,7 @@ fn clocked(c: Cpu) -> bool
 }
 
 fn set_ports(mut c: Cpu, pm: u8, ps: u8, pp: u8) -> Cpu
-    ensures { result ≡ withPorts pm ps pp c }
+    ensures { result ≡ with_ports pm ps pp c }
 {
     c.pins.pm = pm;
     c.pins.ps = ps;
@@ -99,7 +99,7 @@ fn set_ports(mut c: Cpu, pm: u8, ps: u8, pp: u8) -> Cpu
 }
 
 fn set_int(mut c: Cpu, level: u8) -> Cpu
-    ensures { result ≡ withInt level c }
+    ensures { result ≡ with_int level c }
 {
     c.pins.int = level;
     c
@@ -141,7 +141,7 @@ fn counting(c: Cpu, n: u16) -> Cpu
 
 // Refusal 3 is the answer to an event where this is false.
 pub fn values_ok(event: Event) -> bool
-    ensures { result ≡ valuesOk event }
+    ensures { result ≡ values_ok event }
 {
     match event {
         Event::Run(_) => true,
@@ -154,8 +154,8 @@ pub fn values_ok(event: Event) -> bool
 
 // The refusal of a Run, 0 for none: the lowest number wins. It does not look at the trace.
 fn run_refusal(cpu: Cpu, memory: &[u8; MEMORY], mask: &[u8]) -> u8
-    requires { length memory.now ≡ memorySize }
-    ensures { (n : ℕ) (trace : Trace) → result ≡ refusalOf mask.now (Event.Run n) (machine_of (state cpu memory.now) trace) }
+    requires { length memory.now ≡ memory_size }
+    ensures { (n : ℕ) (trace : Trace) → result ≡ refusal_of mask.now (Event.Run n) (machine_of (state cpu memory.now) trace) }
 {
     if mask_ok(mask) {
         if sound(cpu, memory) {
@@ -168,8 +168,8 @@ fn run_refusal(cpu: Cpu, memory: &[u8; MEMORY], mask: &[u8]) -> u8
 
 // The refusal of an event whose mask is as it should be: Run alone has one.
 fn refusal(cpu: Cpu, memory: &[u8; MEMORY], event: Event) -> u8
-    requires { length memory.now ≡ memorySize }
-    ensures { (mask : List ℕ) (trace : Trace) → maskOk mask event ≡ true → result ≡ refusalOf mask event (machine_of (state cpu memory.now) trace) }
+    requires { length memory.now ≡ memory_size }
+    ensures { (mask : List ℕ) (trace : Trace) → mask_ok mask event ≡ true → result ≡ refusal_of mask event (machine_of (state cpu memory.now) trace) }
 {
     if values_ok(event) {
         if sound(cpu, memory) {
@@ -201,7 +201,7 @@ pub fn happened(
     memory: &mut [u8; MEMORY],
     gap: &mut u16,
 ) -> Cpu
-    ensures { machine_of (state result memory.new) (traceOf gap.new) ≡ happened mask.now event (machine_of (state cpu memory.old) (traceOf gap.old)) }
+    ensures { machine_of (state result memory.new) (trace_of gap.new) ≡ happened mask.now event (machine_of (state cpu memory.old) (trace_of gap.old)) }
 {
     match event {
         Event::Run(n) => cpu.run(mask, memory, n, gap),
@@ -264,7 +264,7 @@ impl Machine {
 
     // A kind that names no event is refused with 7, but a machine out of range comes first.
     fn unknown(self) -> Answer
-        ensures { result ≡ namedAnswer [] Named.Unknown self }
+        ensures { result ≡ named_answer [] Named.Unknown self }
     {
         if sound(self.cpu, &self.memory) {
             return Answer {
@@ -280,7 +280,7 @@ impl Machine {
 
     // What a kind names: its event, or the refusal of an unknown kind.
     pub fn apply_named(mut self, named: Named, mask: &[u8]) -> Answer
-        ensures { result ≡ namedAnswer mask.now named self }
+        ensures { result ≡ named_answer mask.now named self }
     {
         match named {
             Named::Known(event) => self.apply(event, mask),

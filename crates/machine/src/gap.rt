@@ -1,6 +1,6 @@
 // The query of the count of strays: document 02, wish 6.
 ghost use Rattle.std.specs.Prelude.{◌≡◌};
-ghost use Rattle.machine.specs.Gap.{gapCount};
+ghost use Rattle.machine.specs.Gap.{gap_count};
 
 use crate::Machine;
 use crate::ranges::sound;
@@ -15,7 +15,7 @@ pub struct GapCount {
 impl Machine {
     // How many data accesses fell in 80h-DFh since the last power-on; 65,535 for that many or more.
     pub fn gap_count(self) -> GapCount
-        ensures { result ≡ gapCount self }
+        ensures { result ≡ gap_count self }
     {
         if sound(self.cpu, &self.memory) {
             return GapCount {

@@ -1,8 +1,8 @@
 // Power-on and RES.
 ghost use Rattle.std.specs.Prelude.{◌≡◌, drop, length, replicate, ◌≤◌};
 ghost use Rattle.cpu.specs.State.{state};
-ghost use Rattle.machine.specs.Machine.{machine_of, noTrace, traceOf};
-ghost use Rattle.machine.specs.Power.{afterRes, blank, powerOn, powerRefusal, powered, started};
+ghost use Rattle.machine.specs.Machine.{machine_of, no_trace, trace_of};
+ghost use Rattle.machine.specs.Power.{after_res, blank, power_on, power_refusal, powered, started};
 ghost use Rattle.machine.specs.Events.{resetting};
 
 use crate::ranges::{all_nibbles, options_ok, sound};
@@ -13,7 +13,7 @@ use isa::ProgramAddress;
 
 // The refusal of a power-on, 0 for none.
 fn power_refusal(options: Options, image: &[u8]) -> u8
-    ensures { result ≡ powerRefusal options image.now }
+    ensures { result ≡ power_refusal options image.now }
 {
     if image.len() != 166 {
         return 2;
@@ -43,7 +43,7 @@ fn image_memory(image: &[u8]) -> [u8; MEMORY]
 
 // The processor after RES, with what RES keeps.
 fn after_res(registers: Registers, pins: Pins, options: Options, cycles: u32) -> Cpu
-    ensures { result ≡ afterRes registers pins options cycles }
+    ensures { result ≡ after_res registers pins options cycles }
 {
     Cpu {
         registers,
@@ -82,7 +82,7 @@ fn after_res(registers: Registers, pins: Pins, options: Options, cycles: u32) ->
 
 // RES on a processor: what it keeps is its own.
 pub(crate) fn reset_cpu(cpu: Cpu) -> Cpu
-    ensures { result ≡ afterRes cpu.registers cpu.pins cpu.options cpu.cycles }
+    ensures { result ≡ after_res cpu.registers cpu.pins cpu.options cpu.cycles }
 {
     after_res(cpu.registers, cpu.pins, cpu.options, cpu.cycles)
 }
@@ -102,7 +102,7 @@ fn started(registers: Registers, options: Options) -> Cpu
 
 // Nothing is left behind yet.
 fn no_trace() -> Trace
-    ensures { result ≡ noTrace }
+    ensures { result ≡ no_trace }
 {
     Trace { gap: 0 }
 }
@@ -110,7 +110,7 @@ fn no_trace() -> Trace
 // The processor that a power-on makes of options and an image, which fills the data memory that is lent.
 fn powered(options: Options, image: &[u8], memory: &mut [u8; MEMORY]) -> Cpu
     requires { length image.now ≡ 166 }
-    ensures { machine_of (state result memory.new) noTrace ≡ powered options image.now }
+    ensures { machine_of (state result memory.new) no_trace ≡ powered options image.now }
 {
     let all = image_memory(image);
     *memory = all;
@@ -127,7 +127,7 @@ fn powered(options: Options, image: &[u8], memory: &mut [u8; MEMORY]) -> Cpu
 
 // The machine that a power-on makes of options and one nibble that fills the image, where data memory and the trace's fields are lent.
 pub fn filled(options: Options, x: u8, memory: &mut [u8; MEMORY], gap: &mut u16) -> Cpu
-    ensures { machine_of (state result memory.new) (traceOf gap.new) ≡ powered options (replicate 166 x) }
+    ensures { machine_of (state result memory.new) (trace_of gap.new) ≡ powered options (replicate 166 x) }
 {
     let all = [x; MEMORY];
     *memory = all;
@@ -180,7 +180,7 @@ impl Machine {
 
     // Power-on. A refused one leaves the machine as it was.
     pub fn power_on(mut self, options: Options, image: &[u8]) -> Answer
-        ensures { result ≡ powerOn options image.now self }
+        ensures { result ≡ power_on options image.now self }
     {
         let refusal = power_refusal(options, image);
         if refusal != 0 {

@@ -1,8 +1,8 @@
 // Whether each field is in its range: refusals 3, 4 and 5.
 ghost use Rattle.std.specs.Prelude.{◌≡◌, not, ◌&&◌, ◌||◌, eqb, ltb, length};
 ghost use Rattle.isa.specs.Code.{addresses};
-ghost use Rattle.datapath.specs.Memory.{memorySize};
-ghost use Rattle.cpu.specs.Range.{bit, cpuOk, nibble, nibbles, optionsOk, registersOk, valid};
+ghost use Rattle.datapath.specs.Memory.{memory_size};
+ghost use Rattle.cpu.specs.Range.{bit, cpu_ok, nibble, nibbles, options_ok, registers_ok, valid};
 ghost use Rattle.cpu.specs.State.{state};
 
 use cpu::{Cpu, Options};
@@ -65,7 +65,7 @@ fn rate_ok(rate: u8) -> bool
 
 // Refusal 4 is the answer to a power-on where this is false.
 pub fn options_ok(o: Options) -> bool
-    ensures { result ≡ optionsOk o }
+    ensures { result ≡ options_ok o }
 {
     both(
         rate_ok(o.rate),
@@ -78,7 +78,7 @@ pub fn options_ok(o: Options) -> bool
 
 // Registers, PA, port levels and wake nibbles: one test for all.
 fn nibbles_ok(c: Cpu) -> bool
-    ensures { result ≡ registersOk c.registers
+    ensures { result ≡ registers_ok c.registers
         && ((nibble c.outputs.pa && (nibble c.pins.pm && (nibble c.pins.ps && nibble c.pins.pp)))
         && (nibble c.options.pm && (nibble c.options.ps && nibble c.options.pp))) }
 {
@@ -160,7 +160,7 @@ fn others_ok(c: Cpu) -> bool
 
 // Tests of many fields at once are few: so the compiler puts them in place of each call, and no processor is copied for one.
 fn cpu_ok(c: Cpu) -> bool
-    ensures { result ≡ cpuOk c }
+    ensures { result ≡ cpu_ok c }
 {
     both(
         nibbles_ok(c),

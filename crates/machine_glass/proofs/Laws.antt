@@ -9,20 +9,20 @@ use lib.ListN.{replicate}
 use borrow.Author.Tests.{lt-ltb, eq-eqb}
 use Rattle.isa.specs.Choice.{pick}
 use Rattle.datapath.specs.Memory.{loaded}
-use Rattle.cpu.specs.Range.{cpuOk, memoryOk, valid}
+use Rattle.cpu.specs.Range.{cpu_ok, memory_ok, valid}
 use Rattle.cpu.specs.declared.Cpu.{Cpu}
 use Rattle.cpu.proofs.Ranges.{loaded-in}
 use Rattle.machine.specs.Machine.{state_of}
 use Rattle.machine.specs.Report.{places, shown}
-use Rattle.glass.specs.Reading.{allNibbles, SeenAnswers}
+use Rattle.glass.specs.Reading.{all_nibbles, SeenAnswers}
 use Rattle.glass.specs.declared.Reading.TheVariants.{Dark}
 use Rattle.glass.specs.declared.Seen.TheVariants.{Shown}
 use Rattle.glass.proofs.Laws.{true-false, seen-determined}
-use Rattle.machine_glass.specs.Glass.{onGlass, SightDetermined, ShowsPicture, AsleepIsDark}
+use Rattle.machine_glass.specs.Glass.{on_glass, SightDetermined, ShowsPicture, AsleepIsDark}
 use Rattle.machine_glass.specs.declared.Sight.TheVariants.{OnGlass, BadMachine}
 
 pub sight-determined : SightDetermined
-sight-determined m (OnGlass s) (OnGlass t) a b = ap OnGlass (seen-determined (onGlass m) s t a.1 b.1)
+sight-determined m (OnGlass s) (OnGlass t) a b = ap OnGlass (seen-determined (on_glass m) s t a.1 b.1)
 sight-determined m (OnGlass s) BadMachine a b = absurd (true-false (valid (state_of m)) a.0 b.0)
 sight-determined m BadMachine (OnGlass t) a b = absurd (true-false (valid (state_of m)) b.0 a.0)
 sight-determined m BadMachine BadMachine a b = refl
@@ -32,7 +32,7 @@ and_right true b e = e
 and_right false b e = absurd (let y : ◌≡◌ {A = ℕ} 0 1 = cc in omega arith)
 
 -- a shown nibble is one
-shown-in : (c : Cpu) (memory : List ℕ) → memoryOk memory ≡ true → (s : ℕ) → shown c memory s < 16
+shown-in : (c : Cpu) (memory : List ℕ) → memory_ok memory ≡ true → (s : ℕ) → shown c memory s < 16
 unfolding shown
 shown-in c memory v s = go (eqb c.status.halted 1) (eqb c.options.commons 3) (loaded-in memory v (record { 0 = 0xe0 + s }))
   where
@@ -41,14 +41,14 @@ shown-in c memory v s = go (eqb c.status.halted 1) (eqb c.options.commons 3) (lo
     go false true h = omega arith
     go false false h = h
 
-all_in : (n : ℕ) (f : ℕ → ℕ) (s : ℕ) → ((k : ℕ) → f k < 16) → allNibbles (places n f s) ≡ true
-unfolding allNibbles
+all_in : (n : ℕ) (f : ℕ → ℕ) (s : ℕ) → ((k : ℕ) → f k < 16) → all_nibbles (places n f s) ≡ true
+unfolding all_nibbles
 all_in zero f s h = refl
 all_in (suc n) f s h = rw (lt-ltb (f s) 16 (h s)) (all_in n f (suc s) h)
 
 pub shows-picture : ShowsPicture
 unfolding valid
-shows-picture m v = (refl, all_in 8 (shown m.cpu m.memory) 0 (shown-in m.cpu m.memory (and_right (cpuOk m.cpu) (memoryOk m.memory) v)))
+shows-picture m v = (refl, all_in 8 (shown m.cpu m.memory) 0 (shown-in m.cpu m.memory (and_right (cpu_ok m.cpu) (memory_ok m.memory) v)))
 
 -- asleep each nibble is 0
 shown-asleep : (c : Cpu) (memory : List ℕ) → c.status.halted ≡ 1 → (s : ℕ) → shown c memory s ≡ 0
@@ -60,7 +60,7 @@ all-0 zero f s h = refl
 all-0 (suc n) f s h = ap₂ {C = List ℕ} (λ (x : ℕ) (xs : List ℕ). x ∷ xs) (h s) (all-0 n f (suc s) h)
 
 dark : SeenAnswers (replicate 8 0) (Shown Dark)
-unfolding allNibbles
+unfolding all_nibbles
 dark = ((refl, refl), refl)
 
 pub asleep-is-dark : AsleepIsDark

@@ -7,7 +7,7 @@ use Rattle.machine.specs.Machine.{state_of}
 use Rattle.machine.specs.Report.{display}
 use Rattle.machine.specs.declared.Machine.{Machine}
 use Rattle.glass.specs.Shapes.{glass}
-use Rattle.glass.specs.Reading.{EightNibbles, SeenSays, seenRefusal}
+use Rattle.glass.specs.Reading.{EightNibbles, SeenSays, seen_refusal}
 use Rattle.glass.specs.declared.Reading.TheVariants.{Dark}
 use Rattle.glass.specs.declared.Seen.TheVariants.{Shown}
 use Rattle.machine_glass.specs.declared.Pictured.{Pictured}
@@ -15,26 +15,26 @@ use Rattle.machine_glass.specs.declared.Sight.{Sight}
 use Rattle.machine_glass.specs.declared.Sight.TheVariants.{OnGlass, BadMachine}
 
 -- "Digit k, leftmost 0, uses display nibbles 2k .. and 2k+1"
-abbrev pub onGlass : Machine → List ℕ
-onGlass m = take (2 * glass) (display m)
+abbrev pub on_glass : Machine → List ℕ
+on_glass m = take (2 * glass) (display m)
 
 abbrev pub pictured : List ℕ → ℕ → Pictured
 pictured s n = record { nibbles = s; refusal = n }
 
 -- the picture of a machine. "5: machine field outside its range", and then it is blank
-unfoldable pub pictureOf : Machine → Pictured
-pictureOf m = pick (valid (state_of m)) (pictured (onGlass m) 0) (pictured (replicate (2 * glass) 0) 5)
+unfoldable pub picture_of : Machine → Pictured
+picture_of m = pick (valid (state_of m)) (pictured (on_glass m) 0) (pictured (replicate (2 * glass) 0) 5)
 
 -- the paper's number of each answer, 0 for an answer that is not refused
-abbrev pub sightRefusal : Sight → ℕ
-sightRefusal (OnGlass s) = seenRefusal s
-sightRefusal BadMachine = 5
+abbrev pub sight_refusal : Sight → ℕ
+sight_refusal (OnGlass s) = seen_refusal s
+sight_refusal BadMachine = 5
 
 -- what each answer says of the machine: in range its picture is what its number says. `BadMachine` has the number of its picture, which is 5 where the
 -- machine is out of range
 abbrev pub Sees : Machine → Sight → Type 0
-Sees m (OnGlass s) = (valid (state_of m) ≡ true) × SeenSays (onGlass m) s (sightRefusal (OnGlass s))
-Sees m BadMachine = (valid (state_of m) ≡ false) × ((pictureOf m).refusal ≡ sightRefusal BadMachine)
+Sees m (OnGlass s) = (valid (state_of m) ≡ true) × SeenSays (on_glass m) s (sight_refusal (OnGlass s))
+Sees m BadMachine = (valid (state_of m) ≡ false) × ((picture_of m).refusal ≡ sight_refusal BadMachine)
 
 -- a machine has one answer
 abbrev pub SightDetermined : Type 0
@@ -42,7 +42,7 @@ SightDetermined = (m : Machine) (x y : Sight) → Sees m x → Sees m y → x �
 
 -- a machine in range shows eight nibbles, none over 15: 2 and 3 are never the answer
 abbrev pub ShowsPicture : Type 0
-ShowsPicture = (m : Machine) → valid (state_of m) ≡ true → EightNibbles (onGlass m)
+ShowsPicture = (m : Machine) → valid (state_of m) ≡ true → EightNibbles (on_glass m)
 
 -- "halted shows all 0": asleep is dark
 abbrev pub AsleepIsDark : Type 0

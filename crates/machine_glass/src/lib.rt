@@ -1,6 +1,6 @@
 // What an operator sees of a machine: the picture on its glass, and what it is read as.
 ghost use Rattle.std.specs.Prelude.{◌≡◌};
-ghost use Rattle.machine_glass.specs.Glass.{Sees, pictureOf};
+ghost use Rattle.machine_glass.specs.Glass.{Sees, picture_of};
 
 use glass::Seen;
 use glass::read::read;
@@ -22,7 +22,7 @@ pub enum Sight {
 
 // The picture as a report shows it: dark asleep, and without bit 3 on three commons.
 pub fn picture_of(machine: Machine) -> Pictured
-    ensures { result ≡ pictureOf machine }
+    ensures { result ≡ picture_of machine }
 {
     let mut report = [0u8; 48];
     let refusal = machine.report(&mut report);

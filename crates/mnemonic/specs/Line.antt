@@ -103,5 +103,5 @@ line_of I.SoundOff = word "SOUND" ∷ word "OFF" ∷ []
 line_of I.Halt = word "HALT" ∷ []
 
 -- the text of an instruction
-unfoldable pub textOf : Instruction → List ℕ
-textOf i = spelling (line_of i)
+unfoldable pub text_of : Instruction → List ℕ
+text_of i = spelling (line_of i)

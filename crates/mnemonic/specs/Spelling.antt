@@ -30,9 +30,9 @@ abbrev pub numbered : String → ℕ → Token
 numbered s n = letters (codes s ++ (digit (n % 16) ∷ []))
 
 -- the last digits of a number, so many
-abbrev pub hexDigits : ℕ → ℕ → List ℕ
-hexDigits zero v = []
-hexDigits (suc n) v = hexDigits n (v / 16) ++ (digit (v % 16) ∷ [])
+abbrev pub hex_digits : ℕ → ℕ → List ℕ
+hex_digits zero v = []
+hex_digits (suc n) v = hex_digits n (v / 16) ++ (digit (v % 16) ∷ [])
 
 -- "hexadecimal ending in H; it starts with a digit" (document 02, wish 4): a 0 stands before a letter
 abbrev pub led : List ℕ → List ℕ
@@ -40,7 +40,7 @@ led [] = []
 led (c ∷ s) = pick (ltb c (code "A")) (c ∷ s) (code "0" ∷ c ∷ s)
 
 abbrev pub number : ℕ → ℕ → List ℕ
-number n v = led (hexDigits n v) ++ codes "H"
+number n v = led (hex_digits n v) ++ codes "H"
 
 abbrev pub spelt : Token → List ℕ
 spelt (letters s) = s

@@ -1,7 +1,7 @@
 // The text of an instruction, and an instruction at an address.
 ghost use Rattle.std.specs.Prelude.{◌≡◌};
 ghost use Rattle.mnemonic.specs.Held.{Holds};
-ghost use Rattle.mnemonic.specs.Line.{textOf};
+ghost use Rattle.mnemonic.specs.Line.{text_of};
 ghost use Rattle.mnemonic.specs.Placing.{placed_at};
 
 use crate::letters::{address, byte, digit, joined, nibble, plain, register};
@@ -10,7 +10,7 @@ use isa::{Condition, Instruction, Page, Pointer, Port, ProgramAddress};
 
 // JAn: the bit's number is a digit of the first word.
 fn bit_branch(n: u8, target: ProgramAddress) -> Text
-    ensures { Holds result (textOf (Instruction.Branch target (Condition.Ja n))) }
+    ensures { Holds result (text_of (Instruction.Branch target (Condition.Ja n))) }
 {
     let d = digit(n as u16);
     let front = [b'J', b'A', d, b' ', 0, 0, 0, 0, 0, 0, 0, 0, 0, 0, 0, 0];
@@ -19,7 +19,7 @@ fn bit_branch(n: u8, target: ProgramAddress) -> Text
 
 // A conditional branch.
 fn branch(condition: Condition, target: ProgramAddress) -> Text
-    ensures { Holds result (textOf (Instruction.Branch target condition)) }
+    ensures { Holds result (text_of (Instruction.Branch target condition)) }
 {
     let at = target.0;
     match condition {
@@ -37,7 +37,7 @@ fn branch(condition: Condition, target: ProgramAddress) -> Text
 
 // The text of an instruction.
 pub fn text_of(instruction: Instruction) -> Text
-    ensures { Holds result (textOf instruction) }
+    ensures { Holds result (text_of instruction) }
 {
     match instruction {
         Instruction::AddAM => plain(fronts::ADD_A_R1R0),

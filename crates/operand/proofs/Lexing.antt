@@ -12,20 +12,20 @@ use lib.Dec.{eqb, ltb}
 use lib.ListN.{get_or, length, drop, drop_of_length-le, length-drop, get_or-eq_default}
 use lib.Seq.{drop-cons, drop-drop, get_or-drop}
 use Rattle.operand.specs.Text.{LF, in_word, tokens}
-use Rattle.operand.specs.Read.{Lexed, ended, lexemeAt, lexemeFrom, pastSpaces, sign, signKind, spaces, tokensAt, upToLf, word, word_at, wordKind}
+use Rattle.operand.specs.Read.{Lexed, ended, lexeme_at, lexeme_from, past_spaces, sign, sign_kind, spaces, tokens_at, up_to_lf, word, word_at, word_kind}
 use Rattle.operand.specs.declared.tokens.Lexeme.{Lexeme}
-use Rattle.operand.proofs.Texts.{at-end, at-lf, at_sign, at-word, case, getD-in, word_on, word-within}
+use Rattle.operand.proofs.Texts.{at-end, at-lf, at_sign, at-word, case, get_d-in, word_on, word-within}
 
 -- ---- past the spaces
 module _ (text : List ℕ) (at : ℕ) where
-  pub space-past : length text ≤ at → pastSpaces text at ≡ at
+  pub space-past : length text ≤ at → past_spaces text at ≡ at
   space-past h = rw (drop_of_length-le text h) (add-zero at)
 
   module _ (within : at < length text) where
-    pub space-on : get_or text at 0 ≡ code " " → pastSpaces text at ≡ pastSpaces text (suc at)
+    pub space-on : get_or text at 0 ≡ code " " → past_spaces text at ≡ past_spaces text (suc at)
     space-on e = rw (drop-cons text at 0 within, e) (add-suc at (spaces (drop (suc at) text)) ∙ sym (suc-add at (spaces (drop (suc at) text))))
 
-    pub no-space : eqb (get_or text at 0) (code " ") ≡ false → pastSpaces text at ≡ at
+    pub no-space : eqb (get_or text at 0) (code " ") ≡ false → past_spaces text at ≡ at
     no-space e = rw (drop-cons text at 0 within, e) (add-zero at)
 
 spaces-short : (s : List ℕ) → spaces s ≤ length s
@@ -33,7 +33,7 @@ spaces-short [] = omega arith
 spaces-short (c ∷ s) = case (eqb c 32) (λ e. rw e (omega (arith, spaces-short s))) (λ e. rw e (omega arith))
 
 -- a line's tokens are those past its spaces
-spaces-same : (s : List ℕ) → tokens (upToLf (drop (spaces s) s)) ≡ tokens (upToLf s)
+spaces-same : (s : List ℕ) → tokens (up_to_lf (drop (spaces s) s)) ≡ tokens (up_to_lf s)
 spaces-same [] = refl
 spaces-same (c ∷ s) = case (eqb c 32) (λ e. rw (eqb-true c 32 e) (spaces-same s)) (λ e. rw e refl)
 
@@ -44,41 +44,41 @@ spaces-stop (c ∷ s) h = case (eqb c 32) (λ e. rw e (spaces-stop s (omega (ari
 record Skipped (text : List ℕ) (at r : ℕ) : Type 0 where
   from : at ≤ r
   within : r ≤ length text
-  same : tokensAt text r ≡ tokensAt text at
+  same : tokens_at text r ≡ tokens_at text at
   stops : r < length text → eqb (get_or text r 0) (code " ") ≡ false
 
-skipped : (text : List ℕ) (at : ℕ) → at ≤ length text → Skipped text at (pastSpaces text at)
+skipped : (text : List ℕ) (at : ℕ) → at ≤ length text → Skipped text at (past_spaces text at)
 skipped text at h =
     let s = drop at text in
     let n = length-drop at text in
     record {
       from = omega arith;
       within = omega (arith, spaces-short s, n);
-      same = ap (λ (u : List ℕ). tokens (upToLf u)) (sym (drop-drop (spaces s) at text)) ∙ spaces-same s;
+      same = ap (λ (u : List ℕ). tokens (up_to_lf u)) (sym (drop-drop (spaces s) at text)) ∙ spaces-same s;
       stops = λ l. ap (λ (c : ℕ). eqb c 32) (sym (get_or-drop at text (spaces s) 0)) ∙ spaces-stop s (omega (arith, n));
     }
 
 -- ---- what stands there
 module _ (text : List ℕ) (at : ℕ) where
-  pub ends-past : length text ≤ at → record { kind = 1; start = at; next = at } ≡ lexemeFrom text at
+  pub ends-past : length text ≤ at → record { kind = 1; start = at; next = at } ≡ lexeme_from text at
   ends-past h = rw (get_or-eq_default text LF h) refl
 
   module _ (within : at < length text) where
-    pub ends-lf : get_or text at 0 ≡ LF → record { kind = 1; start = at; next = at } ≡ lexemeFrom text at
-    ends-lf e = rw (getD-in text at within, e) refl
+    pub ends-lf : get_or text at 0 ≡ LF → record { kind = 1; start = at; next = at } ≡ lexeme_from text at
+    ends-lf e = rw (get_d-in text at within, e) refl
 
     module _ (here : get_or text at 0 ≡ LF → ⊥) where
-      pub word-from : (kind next : ℕ) → in_word (get_or text at 0) ≡ true → kind ≡ wordKind (word_at text at) → next ≡ at + length (word_at text at)
-          → record { kind = kind; start = at; next = next } ≡ lexemeFrom text at
-      word-from kind next i k n = rw (getD-in text at within, ne_eqb (get_or text at 0) LF here, i, k, n) refl
+      pub word-from : (kind next : ℕ) → in_word (get_or text at 0) ≡ true → kind ≡ word_kind (word_at text at) → next ≡ at + length (word_at text at)
+          → record { kind = kind; start = at; next = next } ≡ lexeme_from text at
+      word-from kind next i k n = rw (get_d-in text at within, ne_eqb (get_or text at 0) LF here, i, k, n) refl
 
-      pub sign-from : (kind : ℕ) → in_word (get_or text at 0) ≡ false → kind ≡ signKind (get_or text at 0)
-          → record { kind = kind; start = at; next = at + 1 } ≡ lexemeFrom text at
-      sign-from kind i k = rw (getD-in text at within, ne_eqb (get_or text at 0) LF here, i, k) refl
+      pub sign-from : (kind : ℕ) → in_word (get_or text at 0) ≡ false → kind ≡ sign_kind (get_or text at 0)
+          → record { kind = kind; start = at; next = at + 1 } ≡ lexeme_from text at
+      sign-from kind i k = rw (get_d-in text at within, ne_eqb (get_or text at 0) LF here, i, k) refl
 
 -- ---- it is the first of the line's tokens
 module _ (text : List ℕ) (at from : ℕ) (k : Skipped text from at) where
-  ended-there : tokensAt text at ≡ [] → get_or text at LF ≡ LF → Lexed text from (record { kind = 1; start = at; next = at })
+  ended-there : tokens_at text at ≡ [] → get_or text at LF ≡ LF → Lexed text from (record { kind = 1; start = at; next = at })
   ended-there e g = record {
     from = k.from;
     starts = omega arith;
@@ -89,7 +89,7 @@ module _ (text : List ℕ) (at from : ℕ) (k : Skipped text from at) where
 
   module _ (within : at < length text) (here : get_or text at 0 ≡ LF → ⊥) where
     word-there : in_word (get_or text at 0) ≡ true
-        → Lexed text from (record { kind = wordKind (word_at text at); start = at; next = at + length (word_at text at) })
+        → Lexed text from (record { kind = word_kind (word_at text at); start = at; next = at + length (word_at text at) })
     word-there i =
         let w = ap length (word_on text at i) in
         record {
@@ -101,7 +101,7 @@ module _ (text : List ℕ) (at from : ℕ) (k : Skipped text from at) where
         }
 
     sign-there : in_word (get_or text at 0) ≡ false
-        → Lexed text from (record { kind = signKind (get_or text at 0); start = at; next = at + 1 })
+        → Lexed text from (record { kind = sign_kind (get_or text at 0); start = at; next = at + 1 })
     sign-there i = record {
       from = k.from;
       starts = omega arith;
@@ -110,17 +110,17 @@ module _ (text : List ℕ) (at from : ℕ) (k : Skipped text from at) where
       next = sign (get_or text at 0) (sym k.same ∙ at_sign text at within here (k.stops within) i ∙ rw add-one refl) refl;
     }
 
-  from-there : Lexed text from (lexemeFrom text at)
+  from-there : Lexed text from (lexeme_from text at)
   from-there = case (ltb at (length text))
       (λ e. let within = ltb-true at (length text) e in
-      rw (getD-in text at within) (case (eqb (get_or text at 0) LF)
+      rw (get_d-in text at within) (case (eqb (get_or text at 0) LF)
       (λ f. let g = eqb-true (get_or text at 0) LF f in
-      rw f (ended-there (at-lf text at within g) (getD-in text at within ∙ g)))
+      rw f (ended-there (at-lf text at within g) (get_d-in text at within ∙ g)))
       (λ f. rw f (case (in_word (get_or text at 0))
       (λ i. rw i (word-there within (eqb-false (get_or text at 0) LF f) i))
       (λ i. rw i (sign-there within (eqb-false (get_or text at 0) LF f) i))))))
       (λ e. let past = ltb-false at (length text) e in
       subst (Lexed text from) (ends-past text at past) (ended-there (at-end text at past) (get_or-eq_default text LF past)))
 
-pub lexed : (text : List ℕ) (at : ℕ) {r : Lexeme} → at ≤ length text → r ≡ lexemeAt text at → Lexed text at r
-lexed text at h e = subst (Lexed text at) (sym e) (from-there text (pastSpaces text at) at (skipped text at h))
+pub lexed : (text : List ℕ) (at : ℕ) {r : Lexeme} → at ≤ length text → r ≡ lexeme_at text at → Lexed text at r
+lexed text at h e = subst (Lexed text at) (sym e) (from-there text (past_spaces text at) at (skipped text at h))

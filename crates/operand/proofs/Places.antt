@@ -9,8 +9,8 @@ use borrow.Author.Tests.{eq-eqb, eqb-false, eqb-true, leb-true, ltb-true, ne_eqb
 use lib.Dec.{eqb, leb, ltb}
 use lib.ListN.{get_or, length, drop, drop_of_length-le, length-map, length-take, take}
 use lib.Seq.{drop-cons, get_or-take, length-take-le, slice}
-use Rattle.operand.specs.Words.{fixedWords, place, same}
-use Rattle.operand.specs.Read.{names_at, packed, packedWords, packing, place_of, word_at}
+use Rattle.operand.specs.Words.{fixed_words, place, same}
+use Rattle.operand.specs.Read.{names_at, packed, packed_words, packing, place_of, word_at}
 use Rattle.operand.proofs.Texts.{both, case}
 
 pub take-few : (n : ℕ) (s : List ℕ) → length (take n s) ≤ n
@@ -91,23 +91,23 @@ abbrev pub characters : List ℕ → Bool
 characters [] = true
 characters (c ∷ w) = ltb 0 c && ltb c 256 && characters w
 
-abbrev shortWord : List ℕ → Bool
-shortWord w = characters w && leb (length w) 5
+abbrev short_word : List ℕ → Bool
+short_word w = characters w && leb (length w) 5
 
 abbrev all : List (List ℕ) → Bool
 all [] = true
-all (w ∷ ws) = shortWord w && all ws
+all (w ∷ ws) = short_word w && all ws
 
-fixed-short : all fixedWords ≡ true
-unfolding fixedWords
+fixed-short : all fixed_words ≡ true
+unfolding fixed_words
 fixed-short = refl
 
-none-packed : place_of packedWords 0 ≡ 61
-unfolding packedWords fixedWords
+none-packed : place_of packed_words 0 ≡ 61
+unfolding packed_words fixed_words
 none-packed = refl
 
-pub fixed-count : length fixedWords ≡ 61
-unfolding fixedWords
+pub fixed-count : length fixed_words ≡ 61
+unfolding fixed_words
 fixed-count = refl
 
 pub characters-are : (w : List ℕ) → characters w ≡ true → Characters w
@@ -121,7 +121,7 @@ characters-are (c ∷ w) e (suc k) h = characters-are w (both (ltb 0 c && ltb c 
 place-long : (ws : List (List ℕ)) (w : List ℕ) → all ws ≡ true → 5 < length w → place ws w ≡ length ws
 place-long [] w e h = refl
 place-long (v ∷ ws) w e h =
-    let p = both (shortWord v) (all ws) e in
+    let p = both (short_word v) (all ws) e in
     let l = leb-true (length v) 5 (both (characters v) (leb (length v) 5) p.0).1 in
     rw (unequal v w (λ q. omega arith)) (ap suc (place-long ws w p.1 h))
   where
@@ -134,16 +134,16 @@ place-long (v ∷ ws) w e h =
 place_short : (ws : List (List ℕ)) (w : List ℕ) → all ws ≡ true → Characters w → place ws w ≡ place_of (map packed ws) (packed w)
 place_short [] w e h = refl
 place_short (v ∷ ws) w e h =
-    let p = both (shortWord v) (all ws) e in
+    let p = both (short_word v) (all ws) e in
     let q = characters-are v (both (characters v) (leb (length v) 5) p.0).0 in
     rw (same-packed v w q h, place_short ws w p.1 h) refl
 
 -- the place that `fixed` finds is the word's
-pub fixed-place : (w : List ℕ) → Characters w → place_of packedWords (packing w) ≡ place fixedWords w
-unfolding packedWords
+pub fixed-place : (w : List ℕ) → Characters w → place_of packed_words (packing w) ≡ place fixed_words w
+unfolding packed_words
 fixed-place w h = case (ltb 5 (length w))
-    (λ e. rw e (none-packed ∙ sym fixed-count ∙ sym (place-long fixedWords w fixed-short (ltb-true 5 (length w) e))))
-    (λ e. rw e (sym (place_short fixedWords w fixed-short h)))
+    (λ e. rw e (none-packed ∙ sym fixed-count ∙ sym (place-long fixed_words w fixed-short (ltb-true 5 (length w) e))))
+    (λ e. rw e (sym (place_short fixed_words w fixed-short h)))
 
 pub names-length : (text starts : List ℕ) (count : ℕ) → length (names_at text starts count) ≡ length (take count starts)
 names-length text starts count = length-map (take count starts) (word_at text)

@@ -10,9 +10,9 @@ use borrow.Author.Tests.{leb-true}
 use lib.Dec.{eqb, leb}
 use lib.ListN.{get_or}
 use Rattle.isa.specs.Choice.{pick}
-use Rattle.operand.specs.Text.{isDigit}
-use Rattle.operand.specs.Words.{among, at_most, first, front, inBase, last, number_of, place}
-use Rattle.operand.specs.Operand.{Part, Term, before, isMissing, label, minus, missing, plus, value_of}
+use Rattle.operand.specs.Text.{is_digit}
+use Rattle.operand.specs.Words.{among, at_most, first, front, in_base, last, number_of, place}
+use Rattle.operand.specs.Operand.{Part, Term, before, is_missing, label, minus, missing, plus, value_of}
 use Rattle.operand.specs.Read.{Counts, Single, befores, counted}
 use Rattle.operand.specs.declared.operands.Sum.{Sum}
 use Rattle.operand.proofs.Texts.{case}
@@ -38,7 +38,7 @@ module _ (names : List (List ℕ)) (addresses : List ℕ) where
 
 pub missing-append : (names : List (List ℕ)) (a b : List Term) → missing names (a ++ b) ≡ (missing names a || missing names b)
 missing-append names [] b = refl
-missing-append names (t ∷ a) b = rw (missing-append names a b) (sym (or_assoc (isMissing names t.part) (missing names a) (missing names b)))
+missing-append names (t ∷ a) b = rw (missing-append names a b) (sym (or_assoc (is_missing names t.part) (missing names a) (missing names b)))
   where
     or_assoc : (x y z : Bool) → ((x || y) || z) ≡ (x || (y || z))
     or_assoc true y z = refl
@@ -51,18 +51,18 @@ or-false false = refl
 -- a number or a label by itself
 pub single-counts : (names : List (List ℕ)) (addresses : List ℕ) (at next : ℕ) (taken : Bool) (p : Part) (r : Sum) → value_of names addresses p ≤ 65535
     → at < next
-    → Single (value_of names addresses p) (isMissing names p) taken next r → Counts names addresses at (record { taken = taken; part = p } ∷ []) r
+    → Single (value_of names addresses p) (is_missing names p) taken next r → Counts names addresses at (record { taken = taken; part = p } ∷ []) r
 single-counts names addresses at next true p r v h s = record {
   added = s.plus;
   taken = s.minus ∙ sym (add-zero (value_of names addresses p));
-  missed = s.missing ∙ sym (or-false (isMissing names p));
+  missed = s.missing ∙ sym (or-false (is_missing names p));
   low = omega (arith, s.plus, s.next);
   less = omega (arith, s.minus, s.next);
 }
 single-counts names addresses at next false p r v h s = record {
   added = s.plus ∙ sym (add-zero (value_of names addresses p));
   taken = s.minus;
-  missed = s.missing ∙ sym (or-false (isMissing names p));
+  missed = s.missing ∙ sym (or-false (is_missing names p));
   low = omega (arith, s.plus, s.next);
   less = omega (arith, s.minus, s.next);
 }
@@ -82,10 +82,10 @@ most-some (some v) h = case (leb v 65535) (λ e. rw e (rw e refl)) (λ e. absurd
 
 pub no_number : (w : List ℕ) → 65535 < counted (number_of w) → number_of w ≡ none
 unfolding number_of
-no_number w h = case (isDigit (first w))
-    (λ d. rw d (most-none (pick (eqb (last w) 72) (inBase 16 0 (front w)) (inBase 10 0 w)) (rw d at h))) (λ d. rw d refl)
+no_number w h = case (is_digit (first w))
+    (λ d. rw d (most-none (pick (eqb (last w) 72) (in_base 16 0 (front w)) (in_base 10 0 w)) (rw d at h))) (λ d. rw d refl)
 
 pub some_number : (w : List ℕ) → counted (number_of w) ≤ 65535 → number_of w ≡ some (counted (number_of w))
 unfolding number_of
-some_number w h = case (isDigit (first w))
-    (λ d. rw d (most-some (pick (eqb (last w) 72) (inBase 16 0 (front w)) (inBase 10 0 w)) (rw d at h))) (λ d. absurd (omega (arith, rw d at h)))
+some_number w h = case (is_digit (first w))
+    (λ d. rw d (most-some (pick (eqb (last w) 72) (in_base 16 0 (front w)) (in_base 10 0 w)) (rw d at h))) (λ d. absurd (omega (arith, rw d at h)))

@@ -12,9 +12,9 @@ use lib.ListN.{get_or, length, drop, drop_of_length-le, length-drop, get_or-eq_d
 use lib.Seq.{drop-cons, drop-drop, slice, take-nil, take-take}
 use Rattle.isa.specs.Choice.{pick}
 use Rattle.mnemonic.specs.Spelling.{letters, mark}
-use Rattle.operand.specs.Text.{LF, begins, in_word, isDigit, isLetter, tokens}
+use Rattle.operand.specs.Text.{LF, begins, in_word, is_digit, is_letter, tokens}
 use Rattle.operand.specs.Words.{same}
-use Rattle.operand.specs.Read.{run, tokensAt, upToLf, word_at}
+use Rattle.operand.specs.Read.{run, tokens_at, up_to_lf, word_at}
 
 pub case : {A : Type 0} (b : Bool) → (b ≡ true → A) → (b ≡ false → A) → A
 case true f g = f refl
@@ -42,7 +42,7 @@ unfolding in_word
 in-word-under c e = case (leb c 90) (λ h. omega (arith, leb-true c 90 h))
     (λ h. case (leb c 57) (λ k. omega (arith, leb-true c 57 k)) (λ k. absurd (differ (sym (none h k) ∙ e))))
   where
-    none : leb c 90 ≡ false → leb c 57 ≡ false → (isLetter c || isDigit c) ≡ false
+    none : leb c 90 ≡ false → leb c 57 ≡ false → (is_letter c || is_digit c) ≡ false
     none h k = rw (h, k) (case (leb 65 c) (λ a. rw a (case (leb 48 c) (λ b. rw b refl) (λ b. rw b refl)))
         (λ a. rw a (case (leb 48 c) (λ b. rw b refl) (λ b. rw b refl))))
 
@@ -62,7 +62,7 @@ word_on text at e = word-here text at ∙ rw e refl
 pub no_word : (text : List ℕ) (at : ℕ) → in_word (get_or text at 0) ≡ false → word_at text at ≡ []
 no_word text at e = word-here text at ∙ rw e refl
 
-up-to-word : (s : List ℕ) → begins (upToLf s) ≡ begins s
+up-to-word : (s : List ℕ) → begins (up_to_lf s) ≡ begins s
 up-to-word [] = refl
 up-to-word (c ∷ s) = case (eqb c LF) (λ e. rw (e, eqb-true c LF e, below_word 10 (omega arith)) refl) (λ e. rw e refl)
 
@@ -71,7 +71,7 @@ run_none [] e = refl
 run_none (c ∷ s) e = rw e refl
 
 -- a word, and what follows it
-tokens-word : (s : List ℕ) → begins s ≡ true → tokens (upToLf s) ≡ letters (run s) ∷ tokens (upToLf (drop (length (run s)) s))
+tokens-word : (s : List ℕ) → begins s ≡ true → tokens (up_to_lf s) ≡ letters (run s) ∷ tokens (up_to_lf (drop (length (run s)) s))
 tokens-word [] e = absurd (differ e)
 tokens-word (c ∷ s) e =
     let over = in-word-over c e in
@@ -81,19 +81,19 @@ tokens-word (c ∷ s) e =
     (λ b. rw (b, run_none s b) refl))
 
 module _ (text : List ℕ) (at : ℕ) where
-  pub at-end : length text ≤ at → tokensAt text at ≡ []
+  pub at-end : length text ≤ at → tokens_at text at ≡ []
   at-end h = rw (drop_of_length-le text h) refl
 
   module _ (within : at < length text) where
-    pub at-lf : get_or text at 0 ≡ LF → tokensAt text at ≡ []
+    pub at-lf : get_or text at 0 ≡ LF → tokens_at text at ≡ []
     at-lf e = rw (drop-cons text at 0 within, e) refl
 
     pub at_sign : (get_or text at 0 ≡ LF → ⊥) → eqb (get_or text at 0) (code " ") ≡ false → in_word (get_or text at 0) ≡ false
-        → tokensAt text at ≡ mark (get_or text at 0) ∷ tokensAt text (suc at)
+        → tokens_at text at ≡ mark (get_or text at 0) ∷ tokens_at text (suc at)
     at_sign l s w = rw (drop-cons text at 0 within, ne_eqb (get_or text at 0) LF l, s, w) refl
 
     pub at-word : in_word (get_or text at 0) ≡ true
-        → tokensAt text at ≡ letters (word_at text at) ∷ tokensAt text (at + length (word_at text at))
+        → tokens_at text at ≡ letters (word_at text at) ∷ tokens_at text (at + length (word_at text at))
     at-word w =
         let b : begins (drop at text) ≡ true = rw (drop-cons text at 0 within) w in
         tokens-word (drop at text) b ∙ rw drop-drop refl
@@ -107,11 +107,11 @@ in-text text at e = case (ltb at (length text)) (λ h. ltb-true at (length text)
     (λ h. absurd (differ (sym (rw (get_or-eq_default text 0 (ltb-false at (length text) h)) (below_word 0 (omega arith))) ∙ e)))
 
 -- the characters of a word are the text's
-pub getD-word : (text : List ℕ) (at k : ℕ) → k < length (word_at text at) → get_or (word_at text at) k 0 ≡ get_or text (at + k) 0
-getD-word text at zero h = case (in_word (get_or text at 0)) (λ e. rw (word_on text at e, add-zero) refl)
+pub get_d-word : (text : List ℕ) (at k : ℕ) → k < length (word_at text at) → get_or (word_at text at) k 0 ≡ get_or text (at + k) 0
+get_d-word text at zero h = case (in_word (get_or text at 0)) (λ e. rw (word_on text at e, add-zero) refl)
     (λ e. absurd (omega (arith, ap length (no_word text at e))))
-getD-word text at (suc k) h = case (in_word (get_or text at 0))
-    (λ e. rw (word_on text at e) (getD-word text (suc at) k (omega (arith, ap length (word_on text at e))) ∙ rw (suc-add, add-suc) refl))
+get_d-word text at (suc k) h = case (in_word (get_or text at 0))
+    (λ e. rw (word_on text at e) (get_d-word text (suc at) k (omega (arith, ap length (word_on text at e))) ∙ rw (suc-add, add-suc) refl))
     (λ e. absurd (omega (arith, ap length (no_word text at e))))
 
 pub word-within : (text : List ℕ) (at : ℕ) → at ≤ length text → at + length (word_at text at) ≤ length text
@@ -160,12 +160,12 @@ word-characters text at k h =
     (omega (arith, in-word-over (get_or (word_at text at) k 0) e), in-word-under (get_or (word_at text at) k 0) e)
 
 -- within a list the default does not matter
-pub getD-in : (text : List ℕ) (at : ℕ) → at < length text → get_or text at LF ≡ get_or text at 0
-getD-in [] at h = absurd (omega arith)
-getD-in (c ∷ s) zero h = refl
-getD-in (c ∷ s) (suc at) h = getD-in s at (omega arith)
+pub get_d-in : (text : List ℕ) (at : ℕ) → at < length text → get_or text at LF ≡ get_or text at 0
+get_d-in [] at h = absurd (omega arith)
+get_d-in (c ∷ s) zero h = refl
+get_d-in (c ∷ s) (suc at) h = get_d-in s at (omega arith)
 
-pub not-letter : (c : ℕ) → isDigit c ≡ true → isLetter c ≡ false
+pub not-letter : (c : ℕ) → is_digit c ≡ true → is_letter c ≡ false
 not-letter c e = case (leb 65 c)
     (λ h. absurd (let under : leb c 57 ≡ true = case (leb 48 c) (λ k. rw k at e) (λ k. absurd (differ (rw k at e))) in
     omega (arith, leb-true 65 c h, leb-true c 57 under)))

@@ -9,77 +9,77 @@ use borrow.Author.Tests.{eqb-false, lt-ltb, ltb-true, ne_eqb}
 use lib.Dec.{eqb, ltb}
 use lib.ListN.{get_or, length}
 use Rattle.mnemonic.specs.Spelling.{Token, letters, mark}
-use Rattle.operand.specs.Text.{LF, in_word, isDigit, isLetter}
-use Rattle.operand.specs.Words.{first, fixedWords, isFixed, isLabel, number_of, place}
+use Rattle.operand.specs.Text.{LF, in_word, is_digit, is_letter}
+use Rattle.operand.specs.Words.{first, fixed_words, is_fixed, is_label, number_of, place}
 use Rattle.operand.specs.Operand.{as_number, followed, part_of, wanted}
-use Rattle.operand.specs.Read.{Next, Stops, ended, sign, signKind, tokensAt, word, word_at, wordKind}
+use Rattle.operand.specs.Read.{Next, Stops, ended, sign, sign_kind, tokens_at, word, word_at, word_kind}
 use Rattle.operand.specs.declared.tokens.Lexeme.{Lexeme}
 use Rattle.operand.proofs.Texts.{both, case, differ, neither, not-letter, word_on}
 
 -- a sign that is printed is told by its kind
-pub sign-is : (c k : ℕ) → 3 < k → signKind c ≡ k → c ≡ k
-unfolding signKind
+pub sign-is : (c k : ℕ) → 3 < k → sign_kind c ≡ k → c ≡ k
+unfolding sign_kind
 sign-is c k h e = case (ltb 32 c && ltb c 128) (λ f. rw f at e) (λ f. absurd (let z : 0 ≡ k = rw f at e in omega arith))
 
-pub sign-not : (c k : ℕ) → 32 < k → k < 128 → (signKind c ≡ k → ⊥) → eqb c k ≡ false
-unfolding signKind
-sign-not c k l u f = ne_eqb c k (λ e. f (ap signKind e ∙ rw (lt-ltb 32 k l, lt-ltb k 128 u) refl))
+pub sign-not : (c k : ℕ) → 32 < k → k < 128 → (sign_kind c ≡ k → ⊥) → eqb c k ≡ false
+unfolding sign_kind
+sign-not c k l u f = ne_eqb c k (λ e. f (ap sign_kind e ∙ rw (lt-ltb 32 k l, lt-ltb k 128 u) refl))
 
-no_sign : (c k : ℕ) → k < 4 → 0 < k → signKind c ≡ k → ⊥
-unfolding signKind
+no_sign : (c k : ℕ) → k < 4 → 0 < k → sign_kind c ≡ k → ⊥
+unfolding sign_kind
 no_sign c k l u e = case
     (ltb 32 c && ltb c 128) (λ f. let o = ltb-true 32 c (both (ltb 32 c) (ltb c 128) f).0 in let z : c ≡ k = rw f at e in omega arith)
     (λ f. let z : 0 ≡ k = rw f at e in omega arith)
 
 -- a word's kind is 2, 3, or 128 and more
 module _ (w : List ℕ) where
-  digit-kind : isDigit (first w) ≡ true → wordKind w ≡ 3
-  unfolding wordKind
+  digit-kind : is_digit (first w) ≡ true → word_kind w ≡ 3
+  unfolding word_kind
   digit-kind e = rw e refl
 
-  fixed-kind : isDigit (first w) ≡ false → isFixed w ≡ true → wordKind w ≡ 128 + place fixedWords w
-  unfolding wordKind
+  fixed-kind : is_digit (first w) ≡ false → is_fixed w ≡ true → word_kind w ≡ 128 + place fixed_words w
+  unfolding word_kind
   fixed-kind e f = rw (e, f) refl
 
-  label-kind : isDigit (first w) ≡ false → isFixed w ≡ false → wordKind w ≡ 2
-  unfolding wordKind
+  label-kind : is_digit (first w) ≡ false → is_fixed w ≡ false → word_kind w ≡ 2
+  unfolding word_kind
   label-kind e f = rw (e, f) refl
 
-  pub no-sign-kind : (k : ℕ) → 3 < k → k < 128 → wordKind w ≡ k → ⊥
-  no-sign-kind k l u q = case (isDigit (first w)) (λ e. omega (arith, digit-kind e))
-      (λ e. case (isFixed w) (λ f. omega (arith, fixed-kind e f)) (λ f. omega (arith, label-kind e f)))
+  pub no-sign-kind : (k : ℕ) → 3 < k → k < 128 → word_kind w ≡ k → ⊥
+  no-sign-kind k l u q = case (is_digit (first w)) (λ e. omega (arith, digit-kind e))
+      (λ e. case (is_fixed w) (λ f. omega (arith, fixed-kind e f)) (λ f. omega (arith, label-kind e f)))
 
-  pub no-end-kind : wordKind w ≡ 1 → ⊥
-  no-end-kind q = case (isDigit (first w)) (λ e. omega (arith, digit-kind e))
-      (λ e. case (isFixed w) (λ f. omega (arith, fixed-kind e f)) (λ f. omega (arith, label-kind e f)))
+  pub no-end-kind : word_kind w ≡ 1 → ⊥
+  no-end-kind q = case (is_digit (first w)) (λ e. omega (arith, digit-kind e))
+      (λ e. case (is_fixed w) (λ f. omega (arith, fixed-kind e f)) (λ f. omega (arith, label-kind e f)))
 
-  pub number_is : wordKind w ≡ 3 → isDigit (first w) ≡ true
-  number_is q = case (isDigit (first w)) (λ e. e)
-      (λ e. case (isFixed w) (λ f. absurd (omega (arith, fixed-kind e f))) (λ f. absurd (omega (arith, label-kind e f))))
+  pub number_is : word_kind w ≡ 3 → is_digit (first w) ≡ true
+  number_is q = case (is_digit (first w)) (λ e. e)
+      (λ e. case (is_fixed w) (λ f. absurd (omega (arith, fixed-kind e f))) (λ f. absurd (omega (arith, label-kind e f))))
 
-  pub label_is : in_word (first w) ≡ true → wordKind w ≡ 2 → isLabel w ≡ true
-  unfolding isLabel in_word
-  label_is i q = case (isDigit (first w)) (λ e. absurd (omega (arith, digit-kind e)))
-      (λ e. case (isFixed w) (λ f. absurd (omega (arith, fixed-kind e f)))
-      (λ f. case (isLetter (first w)) (λ l. rw (l, f) refl) (λ l. absurd (differ (sym (rw (l, e) refl) ∙ i)))))
+  pub label_is : in_word (first w) ≡ true → word_kind w ≡ 2 → is_label w ≡ true
+  unfolding is_label in_word
+  label_is i q = case (is_digit (first w)) (λ e. absurd (omega (arith, digit-kind e)))
+      (λ e. case (is_fixed w) (λ f. absurd (omega (arith, fixed-kind e f)))
+      (λ f. case (is_letter (first w)) (λ l. rw (l, f) refl) (λ l. absurd (differ (sym (rw (l, e) refl) ∙ i)))))
 
   -- a word that starts with a digit is no label
-  pub digit-no-label : isDigit (first w) ≡ true → part_of w ≡ as_number (number_of w)
-  unfolding part_of isLabel
+  pub digit-no-label : is_digit (first w) ≡ true → part_of w ≡ as_number (number_of w)
+  unfolding part_of is_label
   digit-no-label e = rw (not-letter (first w) e) refl
 
-  pub fixed-no-part : (wordKind w ≡ 2 → ⊥) → (wordKind w ≡ 3 → ⊥) → part_of w ≡ none
-  unfolding part_of isLabel number_of
-  fixed-no-part a b = case (isDigit (first w)) (λ e. absurd (b (digit-kind e)))
-      (λ e. case (isFixed w) (λ f. case (isLetter (first w)) (λ l. rw (l, f, e) refl) (λ l. rw (l, e) refl))
+  pub fixed-no-part : (word_kind w ≡ 2 → ⊥) → (word_kind w ≡ 3 → ⊥) → part_of w ≡ none
+  unfolding part_of is_label number_of
+  fixed-no-part a b = case (is_digit (first w)) (λ e. absurd (b (digit-kind e)))
+      (λ e. case (is_fixed w) (λ f. case (is_letter (first w)) (λ l. rw (l, f, e) refl) (λ l. rw (l, e) refl))
       (λ f. absurd (a (label-kind e f))))
 
 module _ {text : List ℕ} {ts : List Token} {r : Lexeme} where
   -- a sign that means something is told by its kind
-  pub as-sign : Next text ts r → (k : ℕ) → 3 < k → k < 128 → r.kind ≡ k → ts ≡ mark k ∷ tokensAt text r.next
+  pub as-sign : Next text ts r → (k : ℕ) → 3 < k → k < 128 → r.kind ≡ k → ts ≡ mark k ∷ tokens_at text r.next
   as-sign (ended e q g) k l u h = absurd (omega arith)
   as-sign (word e q n i w) k l u h = absurd (no-sign-kind (word_at text r.start) k l u (sym q ∙ h))
-  as-sign (sign c e q) k l u h = e ∙ ap (λ (d : ℕ). mark d ∷ tokensAt text r.next) (sign-is c k l (sym q ∙ h))
+  as-sign (sign c e q) k l u h = e ∙ ap (λ (d : ℕ). mark d ∷ tokens_at text r.next) (sign-is c k l (sym q ∙ h))
 
   pub as-end : Next text ts r → r.kind ≡ 1 → (ts ≡ []) × (get_or text r.next LF ≡ LF)
   as-end (ended e q g) h = (e, g)
@@ -87,14 +87,14 @@ module _ {text : List ℕ} {ts : List Token} {r : Lexeme} where
   as-end (sign c e q) h = absurd (no_sign c 1 (omega arith) (omega arith) (sym q ∙ h))
 
   -- a label, a number, or nothing that an operand can have here
-  pub as-label : Next text ts r → r.kind ≡ 2 → (ts ≡ letters (word_at text r.start) ∷ tokensAt text r.next) ×
-      (isLabel (word_at text r.start) ≡ true)
+  pub as-label : Next text ts r → r.kind ≡ 2 → (ts ≡ letters (word_at text r.start) ∷ tokens_at text r.next) ×
+      (is_label (word_at text r.start) ≡ true)
   as-label (ended e q g) h = absurd (omega arith)
   as-label (word e q n i w) h = (e, label_is (word_at text r.start) (rw (word_on text r.start w) w) (sym q ∙ h))
   as-label (sign c e q) h = absurd (no_sign c 2 (omega arith) (omega arith) (sym q ∙ h))
 
-  pub as-number : Next text ts r → r.kind ≡ 3 → (ts ≡ letters (word_at text r.start) ∷ tokensAt text r.next)
-      × (part_of (word_at text r.start) ≡ as_number (number_of (word_at text r.start))) × (isDigit (get_or text r.start 0) ≡ true)
+  pub as-number : Next text ts r → r.kind ≡ 3 → (ts ≡ letters (word_at text r.start) ∷ tokens_at text r.next)
+      × (part_of (word_at text r.start) ≡ as_number (number_of (word_at text r.start))) × (is_digit (get_or text r.start 0) ≡ true)
       × (r.next ≡ r.start + length (word_at text r.start)) × (r.start < length text)
   as-number (ended e q g) h = absurd (omega arith)
   as-number (word e q n i w) h =
@@ -126,7 +126,7 @@ module _ {text : List ℕ} {ts : List Token} {r : Lexeme} where
   as-closing (ended e q g) s n here o os = rw e refl
   as-closing (word e q k i w) s n here o os = rw e refl
   as-closing (sign c e q) s n here o os =
-      let stop : Stops (mark c ∷ tokensAt text r.next) = rw e at s in
+      let stop : Stops (mark c ∷ tokens_at text r.next) = rw e at s in
       rw (e, stop.0, stop.1, sign-not c 41 (omega arith) (omega arith) (λ x. n (q ∙ x))) refl
 
   -- at the end of the line an operand has ended, and not before
@@ -134,4 +134,4 @@ module _ {text : List ℕ} {ts : List Token} {r : Lexeme} where
   as-over (ended e q g) s n here = absurd (n q)
   as-over (word e q k i w) s n here = rw e refl
   as-over (sign c e q) s n here =
-      let stop : Stops (mark c ∷ tokensAt text r.next) = rw e at s in rw (e, stop.0, stop.1) refl
+      let stop : Stops (mark c ∷ tokens_at text r.next) = rw e at s in rw (e, stop.0, stop.1) refl

@@ -12,7 +12,7 @@ use lib.ListN.{length}
 use Rattle.isa.specs.Choice.{pick}
 use Rattle.mnemonic.specs.Spelling.{Token, mark}
 use Rattle.operand.specs.Operand.{Term, deepest, followed, minus, missing, plus, wanted}
-use Rattle.operand.specs.Read.{Lexed, OperandRead, PartRead, bad, befores, good, tokensAt}
+use Rattle.operand.specs.Read.{Lexed, OperandRead, PartRead, bad, befores, good, tokens_at}
 use Rattle.operand.specs.declared.operands.Sum.{Sum}
 use Rattle.operand.specs.declared.tokens.Lexeme.{Lexeme}
 use Rattle.operand.proofs.Terms.{befores-append, befores-none, minus-append, missing-append, plus-append}
@@ -30,14 +30,14 @@ pub record So (text : List ℕ) (names : List (List ℕ)) (addresses : List ℕ)
   pub missed : m ≡ missing names terms
   pub low : p + 65535 * at ≤ 65535 * i
   pub less : l + 65535 * at ≤ 65535 * i
-  pub reads : (outer : List Bool) → length outer + depth ≡ deepest → wanted (tokensAt text at) all all outer ≡ befores terms (rest outer)
+  pub reads : (outer : List Bool) → length outer + depth ≡ deepest → wanted (tokens_at text at) all all outer ≡ befores terms (rest outer)
 
 module _ (text : List ℕ) (names : List (List ℕ)) (addresses : List ℕ) (at depth : ℕ) (all : Bool) where
   abbrev pub Wanting : ℕ → ℕ → Bool → Bool → ℕ → Type 0
-  Wanting p l m taken i = So text names addresses at depth all p l m i (λ outer. wanted (tokensAt text i) taken all outer)
+  Wanting p l m taken i = So text names addresses at depth all p l m i (λ outer. wanted (tokens_at text i) taken all outer)
 
   abbrev pub Past : ℕ → ℕ → Bool → ℕ → Type 0
-  Past p l m i = So text names addresses at depth all p l m i (λ outer. followed (tokensAt text i) all outer)
+  Past p l m i = So text names addresses at depth all p l m i (λ outer. followed (tokens_at text i) all outer)
 
   pub starts : at ≤ length text → Wanting 0 0 false all at
   starts h = record {
@@ -54,7 +54,7 @@ module _ (text : List ℕ) (names : List (List ℕ)) (addresses : List ℕ) (at 
 
   pub part-broken : {p l : ℕ} {m taken : Bool} {i : ℕ} {r : Sum} → Wanting p l m taken i → PartRead text names addresses i depth taken r → r.readable
       ≡ false
-      → (outer : List Bool) → length outer + depth ≡ deepest → wanted (tokensAt text at) all all outer ≡ none
+      → (outer : List Bool) → length outer + depth ≡ deepest → wanted (tokens_at text at) all all outer ≡ none
   part-broken s (bad q f) h outer e = s.reads outer e ∙ ap (befores s.terms) (f all outer e) ∙ befores-none s.terms
   part-broken s (good ts q n a b f) h outer e = absurd (differ (sym h ∙ q))
 
@@ -72,7 +72,7 @@ module _ (text : List ℕ) (names : List (List ℕ)) (addresses : List ℕ) (at 
     low = omega (arith, s.low, n.low);
     less = omega (arith, s.less, n.less);
     reads = λ outer e. s.reads outer e ∙ ap (befores s.terms) (f all outer e)
-        ∙ sym (befores-append s.terms ts (followed (tokensAt text r.next) all outer));
+        ∙ sym (befores-append s.terms ts (followed (tokens_at text r.next) all outer));
   }
 
   pub past-as : {p l : ℕ} {m n : Bool} {i : ℕ} → Past p l m i → n ≡ m → Past p l n i
@@ -104,11 +104,11 @@ module _ (text : List ℕ) (names : List (List ℕ)) (addresses : List ℕ) (at 
     reads = λ outer e. s.reads outer e ∙ ap (befores s.terms) (sign outer);
   }
     where
-      sign : (outer : List Bool) → followed (tokensAt text i) all outer ≡ wanted (tokensAt text k.next)
+      sign : (outer : List Bool) → followed (tokens_at text i) all outer ≡ wanted (tokens_at text k.next)
           (pick (eqb k.kind 45) (not all) all) all outer
       sign outer = case (eqb k.kind 45)
-          (λ f. rw (f, as-sign x.next 45 (omega arith) (omega arith) (eqb-true k.kind 45 f)) (minus-on (tokensAt text k.next) outer))
-          (λ f. rw (f, as-sign x.next 43 (omega arith) (omega arith) (only f)) (plus-on (tokensAt text k.next) outer))
+          (λ f. rw (f, as-sign x.next 45 (omega arith) (omega arith) (eqb-true k.kind 45 f)) (minus-on (tokens_at text k.next) outer))
+          (λ f. rw (f, as-sign x.next 43 (omega arith) (omega arith) (only f)) (plus-on (tokens_at text k.next) outer))
         where
           only : eqb k.kind 45 ≡ false → k.kind ≡ 43
           only f = case (eqb k.kind 43) (λ g. eqb-true k.kind 43 g) (λ g. absurd (differ (sym (rw (f, g) refl) ∙ h)))
@@ -122,26 +122,26 @@ module _ (text : List ℕ) (names : List (List ℕ)) (addresses : List ℕ) (at 
 module _ (text : List ℕ) (names : List (List ℕ)) (addresses : List ℕ) (at depth : ℕ) (taken : Bool) (opening : Lexeme) (x : Lexed text at opening)
     (opened : opening.kind ≡ 40) where
   opens : (here : Bool) (outer : List Bool)
-      → wanted (tokensAt text at) taken here outer ≡ pick (ltb (length outer) deepest)
-      (wanted (tokensAt text opening.next) taken taken (here ∷ outer)) none
+      → wanted (tokens_at text at) taken here outer ≡ pick (ltb (length outer) deepest)
+      (wanted (tokens_at text opening.next) taken taken (here ∷ outer)) none
   opens here outer = rw (as-sign x.next 40 (omega arith) (omega arith) opened) refl
 
-  pub too-deep : depth ≡ 0 → (here : Bool) (outer : List Bool) → length outer + depth ≡ deepest → wanted (tokensAt text at) taken here outer ≡ none
+  pub too-deep : depth ≡ 0 → (here : Bool) (outer : List Bool) → length outer + depth ≡ deepest → wanted (tokens_at text at) taken here outer ≡ none
   too-deep d here outer e = opens here outer ∙ rw (le-ltb (length outer) deepest (omega arith)) refl
 
   module _ (some_left : 0 < depth) (inner : Sum) where
     enters : (here : Bool) (outer : List Bool) → length outer + depth ≡ deepest
-        → wanted (tokensAt text at) taken here outer ≡ wanted (tokensAt text opening.next) taken taken (here ∷ outer)
+        → wanted (tokens_at text at) taken here outer ≡ wanted (tokens_at text opening.next) taken taken (here ∷ outer)
     enters here outer e = opens here outer ∙ rw (lt-ltb (length outer) deepest (omega arith)) refl
 
     pub inner-broken : OperandRead text names addresses opening.next (depth - 1) taken inner → inner.readable ≡ false
-        → (here : Bool) (outer : List Bool) → length outer + depth ≡ deepest → wanted (tokensAt text at) taken here outer ≡ none
+        → (here : Bool) (outer : List Bool) → length outer + depth ≡ deepest → wanted (tokens_at text at) taken here outer ≡ none
     inner-broken (bad q f) h here outer e = enters here outer e ∙ f (here ∷ outer) (omega arith)
     inner-broken (good ts q n a b s f) h here outer e = absurd (differ (sym h ∙ q))
 
     module _ (close : Lexeme) (y : Lexed text inner.next close) where
       pub not-closed : OperandRead text names addresses opening.next (depth - 1) taken inner → inner.readable ≡ true → (close.kind ≡ 41 → ⊥)
-          → (here : Bool) (outer : List Bool) → length outer + depth ≡ deepest → wanted (tokensAt text at) taken here outer ≡ none
+          → (here : Bool) (outer : List Bool) → length outer + depth ≡ deepest → wanted (tokens_at text at) taken here outer ≡ none
       not-closed (bad q f) h k here outer e = absurd (differ (sym q ∙ h))
       not-closed (good ts q n a b s f) h k here outer e =
           enters here outer e ∙ f (here ∷ outer) (omega arith) ∙ ap (befores ts) (as-closing y.next s k taken here outer) ∙ befores-none ts

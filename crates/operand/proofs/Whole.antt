@@ -8,8 +8,8 @@ use borrow.Author.Tests.{le-leb, lt-leb}
 use lib.ListN.{length}
 use native.Mathlib.Omega.{arith}
 use Rattle.mnemonic.specs.Spelling.{Token}
-use Rattle.operand.specs.Operand.{Term, followed, operandOf}
-use Rattle.operand.specs.Read.{Lexed, OperandRead, bad, befores, good, operand_at, tokensAt, valued}
+use Rattle.operand.specs.Operand.{Term, followed, operand_of}
+use Rattle.operand.specs.Read.{Lexed, OperandRead, bad, befores, good, operand_at, tokens_at, valued}
 use Rattle.operand.specs.declared.operands.Sum.{Sum}
 use Rattle.operand.specs.declared.operands.Value.{Value}
 use Rattle.operand.specs.declared.tokens.Lexeme.{Lexeme}
@@ -21,7 +21,7 @@ befores-some : (ts us : List Term) → befores ts (some us) ≡ some (ts ++ us)
 befores-some [] us = refl
 befores-some (t ∷ ts) us = rw (befores-some ts us) refl
 
-pub short-read : (text : List ℕ) (at : ℕ) → length text ≤ 65535 → operand_at text at ≡ operandOf (tokensAt text at)
+pub short-read : (text : List ℕ) (at : ℕ) → length text ≤ 65535 → operand_at text at ≡ operand_of (tokens_at text at)
 short-read text at h = rw (le-leb (length text) 65535 h) refl
 
 module _ (text : List ℕ) (names : List (List ℕ)) (addresses : List ℕ) (at : ℕ) where
@@ -33,7 +33,7 @@ module _ (text : List ℕ) (names : List (List ℕ)) (addresses : List ℕ) (at 
 
   module _ (short : length text ≤ 65535) where
     pub past-text : {v : Value} → v ≡ valued [] [] none → length text < at → v ≡ valued names addresses (operand_at text at)
-    past-text e h = counts-nothing e (short-read text at short ∙ ap operandOf (at-end text at (omega arith)))
+    past-text e h = counts-nothing e (short-read text at short ∙ ap operand_of (at-end text at (omega arith)))
 
     module _ {r : Sum} where
       pub no_operand : {v : Value} → v ≡ valued [] [] none → OperandRead text names addresses at 16 false r → r.readable ≡ false

@@ -7,7 +7,7 @@ use Prim.Native.Char.{code}
 use Rattle.std.proofs.Math.Option.{Option, none, some}
 use Rattle.isa.specs.Choice.{pick}
 use Rattle.mnemonic.specs.Spelling.{Token, letters, mark, operand}
-use Rattle.operand.specs.Words.{among, isLabel, number_of, place}
+use Rattle.operand.specs.Words.{among, is_label, number_of, place}
 
 pub data Part : Type 0 where
   number : ℕ → Part
@@ -24,7 +24,7 @@ as_number (some n) = some (number n)
 
 -- what a word is in an operand
 unfoldable pub part_of : List ℕ → Option Part
-part_of w = pick (isLabel w) (some (label w)) (as_number (number_of w))
+part_of w = pick (is_label w) (some (label w)) (as_number (number_of w))
 
 abbrev pub before : Term → Option (List Term) → Option (List Term)
 before t none = none
@@ -57,17 +57,17 @@ abbrev mutual
   followed (letters w ∷ ts) here outer = none
   followed (operand n v ∷ ts) here outer = none
 
-abbrev pub operandOf : List Token → Option (List Term)
-operandOf ts = wanted ts false false []
+abbrev pub operand_of : List Token → Option (List Term)
+operand_of ts = wanted ts false false []
 
 -- what a part counts, where these labels have these addresses; 0 for a label that is missing
 abbrev pub value_of : List (List ℕ) → List ℕ → Part → ℕ
 value_of names addresses (number n) = n
 value_of names addresses (label w) = pick (among names w) (get_or addresses (place names w) 0) 0
 
-abbrev pub isMissing : List (List ℕ) → Part → Bool
-isMissing names (number n) = false
-isMissing names (label w) = not (among names w)
+abbrev pub is_missing : List (List ℕ) → Part → Bool
+is_missing names (number n) = false
+is_missing names (label w) = not (among names w)
 
 -- the terms' values, added where they are not taken away, or where they are
 abbrev pub plus : List (List ℕ) → List ℕ → List Term → ℕ
@@ -80,4 +80,4 @@ minus names addresses (t ∷ ts) = pick t.taken (value_of names addresses t.part
 
 abbrev pub missing : List (List ℕ) → List Term → Bool
 missing names [] = false
-missing names (t ∷ ts) = isMissing names t.part || missing names ts
+missing names (t ∷ ts) = is_missing names t.part || missing names ts

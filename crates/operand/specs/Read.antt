@@ -5,20 +5,20 @@ use Prim.Native.Char.{code}
 use Rattle.std.proofs.Math.Option.{Option, none, some}
 use Rattle.isa.specs.Choice.{pick}
 use Rattle.mnemonic.specs.Spelling.{Token, letters, mark, operand}
-use Rattle.operand.specs.Text.{LF, in_word, isDigit, tokens}
-use Rattle.operand.specs.Words.{first, fixedWords, isFixed, place}
-use Rattle.operand.specs.Operand.{Term, label, before, deepest, followed, isMissing, minus, missing, operandOf, plus, value_of, wanted}
+use Rattle.operand.specs.Text.{LF, in_word, is_digit, tokens}
+use Rattle.operand.specs.Words.{first, fixed_words, is_fixed, place}
+use Rattle.operand.specs.Operand.{Term, label, before, deepest, followed, is_missing, minus, missing, operand_of, plus, value_of, wanted}
 use Rattle.operand.specs.declared.tokens.Lexeme.{Lexeme}
 use Rattle.operand.specs.declared.operands.Sum.{Sum}
 use Rattle.operand.specs.declared.operands.Value.{Value}
 
 -- a line from a position on: up to its LF
-abbrev pub upToLf : List ℕ → List ℕ
-upToLf [] = []
-upToLf (c ∷ s) = pick (eqb c LF) [] (c ∷ upToLf s)
+abbrev pub up_to_lf : List ℕ → List ℕ
+up_to_lf [] = []
+up_to_lf (c ∷ s) = pick (eqb c LF) [] (c ∷ up_to_lf s)
 
-abbrev pub tokensAt : List ℕ → ℕ → List Token
-tokensAt text at = tokens (upToLf (drop at text))
+abbrev pub tokens_at : List ℕ → ℕ → List Token
+tokens_at text at = tokens (up_to_lf (drop at text))
 
 -- the word that a text starts with
 abbrev pub run : List ℕ → List ℕ
@@ -33,8 +33,8 @@ abbrev pub spaces : List ℕ → ℕ
 spaces [] = zero
 spaces (c ∷ s) = pick (eqb c (code " ")) (suc (spaces s)) zero
 
-abbrev pub pastSpaces : List ℕ → ℕ → ℕ
-pastSpaces text at = at + spaces (drop at text)
+abbrev pub past_spaces : List ℕ → ℕ → ℕ
+past_spaces text at = at + spaces (drop at text)
 
 -- a word as a number, its first character the lowest
 abbrev pub packed : List ℕ → ℕ
@@ -49,45 +49,45 @@ abbrev pub place_of : List ℕ → ℕ → ℕ
 place_of [] x = zero
 place_of (y ∷ ys) x = pick (eqb y x) zero (suc (place_of ys x))
 
-unfoldable pub packedWords : List ℕ
-unfolding fixedWords
-packedWords = map packed fixedWords
+unfoldable pub packed_words : List ℕ
+unfolding fixed_words
+packed_words = map packed fixed_words
 
 -- a token's kind: 128 and its place for a fixed word, 2 for another that starts with a letter, 3 for one that starts with a digit; a sign's
 -- character, 0 where it is none that is printed
-unfoldable pub wordKind : List ℕ → ℕ
-wordKind w = pick (isDigit (first w)) 3 (pick (isFixed w) (128 + place fixedWords w) 2)
+unfoldable pub word_kind : List ℕ → ℕ
+word_kind w = pick (is_digit (first w)) 3 (pick (is_fixed w) (128 + place fixed_words w) 2)
 
-unfoldable pub signKind : ℕ → ℕ
-signKind c = pick (ltb (code " ") c && ltb c 128) c 0
+unfoldable pub sign_kind : ℕ → ℕ
+sign_kind c = pick (ltb (code " ") c && ltb c 128) c 0
 
 abbrev pub kind_of : Token → ℕ
-kind_of (letters w) = wordKind w
-kind_of (mark c) = signKind c
+kind_of (letters w) = word_kind w
+kind_of (mark c) = sign_kind c
 kind_of (operand n v) = 0
 
 -- the next token: past the spaces stands the end of the line, which is also past the end of the text, a word or a sign
-abbrev pub lexemeFrom : List ℕ → ℕ → Lexeme
-lexemeFrom text at = pick (eqb (get_or text at LF) LF) (record { kind = 1; start = at; next = at })
-    (pick (in_word (get_or text at LF)) (record { kind = wordKind (word_at text at); start = at; next = at + length (word_at text at) })
-    (record { kind = signKind (get_or text at LF); start = at; next = at + 1 }))
+abbrev pub lexeme_from : List ℕ → ℕ → Lexeme
+lexeme_from text at = pick (eqb (get_or text at LF) LF) (record { kind = 1; start = at; next = at })
+    (pick (in_word (get_or text at LF)) (record { kind = word_kind (word_at text at); start = at; next = at + length (word_at text at) })
+    (record { kind = sign_kind (get_or text at LF); start = at; next = at + 1 }))
 
-abbrev pub lexemeAt : List ℕ → ℕ → Lexeme
-lexemeAt text at = lexemeFrom text (pastSpaces text at)
+abbrev pub lexeme_at : List ℕ → ℕ → Lexeme
+lexeme_at text at = lexeme_from text (past_spaces text at)
 
 -- what the next token is, of these
 pub data Next (text : List ℕ) (ts : List Token) (r : Lexeme) : Type 0 where
   ended : ts ≡ [] → r.kind ≡ 1 → get_or text r.next LF ≡ LF → Next text ts r
-  word : ts ≡ letters (word_at text r.start) ∷ tokensAt text r.next → r.kind ≡ wordKind (word_at text r.start)
+  word : ts ≡ letters (word_at text r.start) ∷ tokens_at text r.next → r.kind ≡ word_kind (word_at text r.start)
       → r.next ≡ r.start + length (word_at text r.start) → r.start < length text → in_word (get_or text r.start 0) ≡ true → Next text ts r
-  sign : (c : ℕ) → ts ≡ mark c ∷ tokensAt text r.next → r.kind ≡ signKind c → Next text ts r
+  sign : (c : ℕ) → ts ≡ mark c ∷ tokens_at text r.next → r.kind ≡ sign_kind c → Next text ts r
 
 pub record Lexed (text : List ℕ) (at : ℕ) (r : Lexeme) : Type 0 where
   pub from : at ≤ r.start
   pub starts : r.start ≤ r.next
   pub within : r.next ≤ length text
   pub moves : (r.kind ≡ 1 → ⊥) → r.start < r.next
-  pub next : Next text (tokensAt text at) r
+  pub next : Next text (tokens_at text at) r
 
 -- a number's value, 65,536 for none
 abbrev pub counted : Option ℕ → ℕ
@@ -120,27 +120,27 @@ pub record Counts (names : List (List ℕ)) (addresses : List ℕ) (at : ℕ) (t
 -- a part of an operand that is wanted at a position, with so much depth left
 pub data PartRead (text : List ℕ) (names : List (List ℕ)) (addresses : List ℕ) (at depth : ℕ) (taken : Bool) (r : Sum) : Type 0 where
   bad : r.readable ≡ false
-      → ((here : Bool) (outer : List Bool) → length outer + depth ≡ deepest → wanted (tokensAt text at) taken here outer ≡ none)
+      → ((here : Bool) (outer : List Bool) → length outer + depth ≡ deepest → wanted (tokens_at text at) taken here outer ≡ none)
       → PartRead text names addresses at depth taken r
   good : (terms : List Term) → r.readable ≡ true → Counts names addresses at terms r → at ≤ r.next → r.next ≤ length text
       → ((here : Bool) (outer : List Bool) → length outer + depth ≡ deepest
-      → wanted (tokensAt text at) taken here outer ≡ befores terms (followed (tokensAt text r.next) here outer))
+      → wanted (tokens_at text at) taken here outer ≡ befores terms (followed (tokens_at text r.next) here outer))
       → PartRead text names addresses at depth taken r
 
 -- a whole operand there, in a parenthesis that is taken away or not
 pub data OperandRead (text : List ℕ) (names : List (List ℕ)) (addresses : List ℕ) (at depth : ℕ) (taken : Bool) (r : Sum) : Type 0 where
   bad : r.readable ≡ false
-      → ((outer : List Bool) → length outer + depth ≡ deepest → wanted (tokensAt text at) taken taken outer ≡ none)
+      → ((outer : List Bool) → length outer + depth ≡ deepest → wanted (tokens_at text at) taken taken outer ≡ none)
       → OperandRead text names addresses at depth taken r
   good : (terms : List Term) → r.readable ≡ true → Counts names addresses at terms r → at ≤ r.next → r.next ≤ length text
-      → Stops (tokensAt text r.next)
+      → Stops (tokens_at text r.next)
       → ((outer : List Bool) → length outer + depth ≡ deepest
-      → wanted (tokensAt text at) taken taken outer ≡ befores terms (followed (tokensAt text r.next) taken outer))
+      → wanted (tokens_at text at) taken taken outer ≡ befores terms (followed (tokens_at text r.next) taken outer))
       → OperandRead text names addresses at depth taken r
 
 -- the operand of a line from a position on; none is read of a text of more than 65,535 bytes
 abbrev pub operand_at : List ℕ → ℕ → Option (List Term)
-operand_at text at = pick (leb (length text) 65535) (operandOf (tokensAt text at)) none
+operand_at text at = pick (leb (length text) 65535) (operand_of (tokens_at text at)) none
 
 -- what it counts, nothing where there is none
 abbrev pub valued : List (List ℕ) → List ℕ → Option (List Term) → Value
@@ -157,4 +157,4 @@ pub record Single (value : ℕ) (missed taken : Bool) (after : ℕ) (r : Sum) : 
 
 abbrev pub Named : List ℕ → List (List ℕ) → List ℕ → Lexeme → Bool → Sum → Type 0
 Named text names addresses w taken r = Single (value_of names addresses (label (word_at text w.start)))
-    (isMissing names (label (word_at text w.start))) taken w.next r
+    (is_missing names (label (word_at text w.start))) taken w.next r

@@ -9,24 +9,24 @@ use Rattle.mnemonic.specs.Spelling.{Token, letters, mark, operand}
 abbrev pub LF : ℕ
 LF = 10
 
-abbrev pub isLetter : ℕ → Bool
-isLetter c = leb (code "A") c && leb c (code "Z")
+abbrev pub is_letter : ℕ → Bool
+is_letter c = leb (code "A") c && leb c (code "Z")
 
-abbrev pub isDigit : ℕ → Bool
-isDigit c = leb (code "0") c && leb c (code "9")
+abbrev pub is_digit : ℕ → Bool
+is_digit c = leb (code "0") c && leb c (code "9")
 
 -- what words are made of
 unfoldable pub in_word : ℕ → Bool
-in_word c = isLetter c || isDigit c
+in_word c = is_letter c || is_digit c
 
-abbrev pub onFirst : ℕ → List (List ℕ) → List (List ℕ)
-onFirst c [] = (c ∷ []) ∷ []
-onFirst c (l ∷ ls) = (c ∷ l) ∷ ls
+abbrev pub on_first : ℕ → List (List ℕ) → List (List ℕ)
+on_first c [] = (c ∷ []) ∷ []
+on_first c (l ∷ ls) = (c ∷ l) ∷ ls
 
 -- the lines of a text, without their LF; after a last LF stands an empty one, which is blank
 abbrev pub lines : List ℕ → List (List ℕ)
 lines [] = [] ∷ []
-lines (c ∷ s) = pick (eqb c LF) ([] ∷ lines s) (onFirst c (lines s))
+lines (c ∷ s) = pick (eqb c LF) ([] ∷ lines s) (on_first c (lines s))
 
 -- whether a word starts here
 abbrev pub begins : List ℕ → Bool

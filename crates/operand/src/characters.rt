@@ -1,11 +1,11 @@
 // Characters, and the words that they make.
 ghost use Rattle.std.specs.Prelude.{◌≡◌, ◌+◌, ◌≤◌, length, get_or};
-ghost use Rattle.operand.specs.Text.{in_word, isDigit};
+ghost use Rattle.operand.specs.Text.{in_word, is_digit};
 ghost use Rattle.operand.specs.Words.{same};
-ghost use Rattle.operand.specs.Read.{pastSpaces, word_at};
+ghost use Rattle.operand.specs.Read.{past_spaces, word_at};
 
 pub(crate) fn is_digit(c: u8) -> bool
-    ensures { result ≡ isDigit c }
+    ensures { result ≡ is_digit c }
 {
     if c < b'0' {
         return false;
@@ -53,7 +53,7 @@ pub(crate) fn word_end(text: &[u8], at: usize) -> usize
 
 // Past the spaces that stand here.
 pub(crate) fn skip(text: &[u8], at: usize) -> usize
-    ensures { result ≡ pastSpaces text.now at }
+    ensures { result ≡ past_spaces text.now at }
 {
     let mut i = at;
     while i < text.len() {

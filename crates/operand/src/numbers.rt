@@ -1,15 +1,15 @@
 // Numbers: decimal, or hexadecimal ending in H, at most 65,535.
 ghost use Rattle.std.specs.Prelude.{◌≡◌, true, ◌+◌, ◌≤◌, ◌<◌, get_or, length};
 ghost use Rattle.std.proofs.Math.Seq.{slice};
-ghost use Rattle.operand.specs.Text.{isDigit};
-ghost use Rattle.operand.specs.Words.{digitValue, inBase, number_of};
+ghost use Rattle.operand.specs.Text.{is_digit};
+ghost use Rattle.operand.specs.Words.{digit_value, in_base, number_of};
 ghost use Rattle.operand.specs.Read.{counted, word_at};
 
 use crate::characters::is_digit;
 
 // A digit's value, 16 for no digit.
 fn digit_value(c: u8) -> u32
-    ensures { result ≡ digitValue c }
+    ensures { result ≡ digit_value c }
 {
     if is_digit(c) {
         return (c - b'0') as u32;
@@ -26,7 +26,7 @@ fn digit_value(c: u8) -> u32
 // The value of the digits between two places, 65,536 where it is more or one of them is none.
 fn digits(text: &[u8], from: usize, to: usize, base: u32) -> u32
     requires { (from ≤ to) × (to ≤ length text.now) × (1 ≤ base) × (base ≤ 16) }
-    ensures { result ≡ counted (inBase base 0 (slice from to text.now)) }
+    ensures { result ≡ counted (in_base base 0 (slice from to text.now)) }
 {
     let mut value = 0;
     let mut i = from;
@@ -47,7 +47,7 @@ fn digits(text: &[u8], from: usize, to: usize, base: u32) -> u32
 // The value of a word that starts with a digit, 65,536 where it is no number.
 pub(crate) fn number(text: &[u8], start: usize, next: usize) -> u32
     requires next_value { (next ≡ start + length (word_at text.now start)) × (start < length text.now) }
-    requires start_value { isDigit (get_or text.now start 0) ≡ true }
+    requires start_value { is_digit (get_or text.now start 0) ≡ true }
     ensures { result ≡ counted (number_of (word_at text.now start)) }
 {
     if text[next - 1] == b'H' {

@@ -1,7 +1,7 @@
 // Words and signs. A token is told by one number, its kind: words that are fixed and signs by their own, labels and numbers by one each.
 ghost use Rattle.std.specs.Prelude.{◌≡◌, true, ◌+◌, ◌≤◌, ◌<◌, get_or, length};
 ghost use Rattle.operand.specs.Text.{in_word};
-ghost use Rattle.operand.specs.Read.{lexemeAt, packedWords, packing, place_of, signKind, word_at, wordKind};
+ghost use Rattle.operand.specs.Read.{lexeme_at, packed_words, packing, place_of, sign_kind, word_at, word_kind};
 
 use crate::characters::{character, in_word, is_digit, skip, word_end};
 
@@ -68,7 +68,7 @@ fn packed(text: &[u8], start: usize, next: usize) -> u64
 
 // The place of a word in the list of fixed words.
 fn fixed(word: u64) -> usize
-    ensures { result ≡ place_of packedWords word }
+    ensures { result ≡ place_of packed_words word }
 {
     let list = [
         0x444441, // ADD
@@ -140,7 +140,7 @@ fn fixed(word: u64) -> usize
 fn word_kind(text: &[u8], start: usize, next: usize) -> u8
     requires next_value { (next ≡ start + length (word_at text.now start)) × (start < length text.now) }
     requires start_value { in_word (get_or text.now start 0) ≡ true }
-    ensures { result ≡ wordKind (word_at text.now start) }
+    ensures { result ≡ word_kind (word_at text.now start) }
 {
     if is_digit(character(text, start)) {
         return NUMBER;
@@ -154,7 +154,7 @@ fn word_kind(text: &[u8], start: usize, next: usize) -> u8
 
 // The kind of a sign.
 fn sign_kind(c: u8) -> u8
-    ensures { result ≡ signKind c }
+    ensures { result ≡ sign_kind c }
 {
     if c <= b' ' {
         return OTHER;
@@ -167,7 +167,7 @@ fn sign_kind(c: u8) -> u8
 
 // The next token of a line. Past the end of the text a line ends.
 pub fn token(text: &[u8], at: usize) -> Lexeme
-    ensures { result ≡ lexemeAt text.now at }
+    ensures { result ≡ lexeme_at text.now at }
 {
     let start = skip(text, at);
     if start >= text.len() {

@@ -20,11 +20,11 @@ unfolding zeros
 zeros-replicate zero = refl
 zeros-replicate (suc n) = ap suc (zeros-replicate n)
 
-pub getD-zeros : (n k : ℕ) → ◌≡◌ {A = ℕ} (get_or (replicate n 0) k 0) 0
-getD-zeros zero zero = refl
-getD-zeros zero (suc k) = refl
-getD-zeros (suc n) zero = refl
-getD-zeros (suc n) (suc k) = getD-zeros n k
+pub get_d-zeros : (n k : ℕ) → ◌≡◌ {A = ℕ} (get_or (replicate n 0) k 0) 0
+get_d-zeros zero zero = refl
+get_d-zeros zero (suc k) = refl
+get_d-zeros (suc n) zero = refl
+get_d-zeros (suc n) (suc k) = get_d-zeros n k
 
 pub zeros-set : (xs : List ℕ) (i : ℕ) → i < length xs → get_or xs i 0 ≡ 0 → zeros xs ≡ suc (zeros (set xs i 1))
 unfolding zeros

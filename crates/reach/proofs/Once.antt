@@ -9,7 +9,7 @@ use lib.Seq.{get_or-set_other}
 use Rattle.reach.specs.Chains.{Member, here, there, Chain, one, more, Shortest}
 use Rattle.reach.specs.Walk.{All, Small, zeros}
 use Rattle.reach.proofs.Chains.{all-member, all_of}
-use Rattle.reach.proofs.Count.{zeros-set, zeros-replicate, getD-zeros}
+use Rattle.reach.proofs.Count.{zeros-set, zeros-replicate, get_d-zeros}
 
 -- ---- each once
 module _ {A : Type 0} where
@@ -53,7 +53,7 @@ at_most n ks o s =
     subst (λ (m : ℕ). length ks ≤ m) (zeros-replicate n)
     (few ks (replicate n 0) o
     (all_of (λ (k : ℕ). (k < length (replicate n 0)) × (get_or (replicate n 0) k 0 ≡ 0)) ks
-    (λ k m. (rw (length-replicate {A = ℕ} n 0) (all-member (λ (k : ℕ). k < n) m s), getD-zeros n k))))
+    (λ k m. (rw (length-replicate {A = ℕ} n 0) (all-member (λ (k : ℕ). k < n) m s), get_d-zeros n k))))
 
 -- ---- a shortest chain of codes below n
 module _ (n : ℕ) (next : ℕ → List ℕ) (small : (k : ℕ) → Small n (next k)) where

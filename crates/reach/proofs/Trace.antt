@@ -8,10 +8,10 @@ use mathlib.Core.List.{List}
 use lib.ListN.{length, get_or, set, replicate, length-set, length-replicate}
 use lib.Seq.{get_or-set_same, get_or-set_other}
 use Rattle.reach.specs.Chains.{Member}
-use Rattle.reach.specs.Walk.{Small, Work, work, pushedAll, zeros}
+use Rattle.reach.specs.Walk.{Small, Work, work, pushed_all, zeros}
 use Rattle.reach.specs.Trail.{Near, Trail, Traced}
 use Rattle.reach.proofs.Chains.{all-member}
-use Rattle.reach.proofs.Count.{zeros-replicate, getD-zeros, after-set}
+use Rattle.reach.proofs.Count.{zeros-replicate, get_d-zeros, after-set}
 use Rattle.reach.proofs.Turn.{Walking, Pushed, first, pushes, turn}
 
 module _ (n : ℕ) (next : ℕ → List ℕ) where
@@ -48,7 +48,7 @@ module _ (n : ℕ) (next : ℕ → List ℕ) where
         size l e = ap length e ∙ length-replicate {A = ℕ} n 0
 
         each : (l : List ℕ) → l ≡ replicate n 0 → (k : ℕ) → get_or l k 0 ≡ 0
-        each l e k = ap (λ (l : List ℕ). get_or l k 0) e ∙ getD-zeros n k
+        each l e k = ap (λ (l : List ℕ). get_or l k 0) e ∙ get_d-zeros n k
 
     module _ (small : (k : ℕ) → Small n (next k)) where
       module _ (w v : Work) (b : List ℕ) (head : ℕ) (t : Tracing w b head) (below : head < w.tail)
@@ -120,7 +120,7 @@ module _ (n : ℕ) (next : ℕ → List ℕ) where
               near = near;
             }
 
-      pub trace-turn : (w v : Work) (b : List ℕ) (head : ℕ) → v ≡ pushedAll w (next (get_or w.queue head 0)) → Tracing w b head → head < w.tail
+      pub trace-turn : (w v : Work) (b : List ℕ) (head : ℕ) → v ≡ pushed_all w (next (get_or w.queue head 0)) → Tracing w b head → head < w.tail
           → Tracing v (set b head w.tail) (head + 1)
       trace-turn w v b head e t l =
           let d = subst (Pushed n next w (next (get_or w.queue head 0))) (sym e) (pushes n next some small w head t.walking l) in
@@ -132,7 +132,7 @@ module _ (n : ℕ) (next : ℕ → List ℕ) where
           }
 
       -- what stood before a turn stands after it
-      pub turn-same : (w v : Work) (b : List ℕ) (head : ℕ) → v ≡ pushedAll w (next (get_or w.queue head 0)) → Tracing w b head → head < w.tail
+      pub turn-same : (w v : Work) (b : List ℕ) (head : ℕ) → v ≡ pushed_all w (next (get_or w.queue head 0)) → Tracing w b head → head < w.tail
           → (j : ℕ) → j < head + 1 → get_or v.queue j 0 ≡ get_or w.queue j 0
       turn-same w v b head e t l j h =
           (subst (Pushed n next w (next (get_or w.queue head 0))) (sym e) (pushes n next some small w head t.walking l)).grows.queue j (omega arith)

@@ -11,7 +11,7 @@ use lib.ListN.{length, get_or, set, length-set}
 use lib.Seq.{get_or-set_same, get_or-set_other}
 use Rattle.reach.specs.Chains.{Member, here, there, Reaches}
 use Rattle.reach.specs.Trail.{Stands}
-use Rattle.reach.specs.Walk.{All, Small, Work, work, pushed, pushedAll, zeros, Room, Found}
+use Rattle.reach.specs.Walk.{All, Small, Work, work, pushed, pushed_all, zeros, Room, Found}
 use Rattle.reach.proofs.Chains.{all-member, all_of, reached-start, reached-next, reached-all}
 use Rattle.reach.proofs.Count.{zeros-set, after-set, found-also, push-cases, room-left, room-new}
 
@@ -118,8 +118,8 @@ module _ (n : ℕ) (next : ℕ → List ℕ) where
     pub all : All (λ (c : ℕ). get_or w.seen c 0 ≡ 1) cs
     pub fresh : (j : ℕ) → v.tail ≤ j → j < w.tail → Member (get_or w.queue j 0) cs
 
-  push-list : (w : Work) (cs : List ℕ) → Core w → All Next cs → Pushed w cs (pushedAll w cs)
-  unfolding pushedAll
+  push-list : (w : Work) (cs : List ℕ) → Core w → All Next cs → Pushed w cs (pushed_all w cs)
+  unfolding pushed_all
   push-list w [] k h = record { core = k; grows = grows_same w; all = tt; fresh = λ j l b. absurd (omega arith) }
   push-list w (c ∷ cs) k h =
       let d = push-list (pushed w c) cs (push-core w c k h.0.0 h.0.1) h.1 in
@@ -127,7 +127,7 @@ module _ (n : ℕ) (next : ℕ → List ℕ) where
         core = d.core;
         grows = grows-on (push-grows w c k h.0.0) d.grows;
         all = (d.grows.seen c (push-found w c k h.0.0), d.all);
-        fresh = λ j l b. go (pushedAll (pushed w c) cs) d j l b (dec_lt j (pushed w c).tail);
+        fresh = λ j l b. go (pushed_all (pushed w c) cs) d j l b (dec_lt j (pushed w c).tail);
       }
     where
       go : (v : Work) → Pushed (pushed w c) cs v → (j : ℕ) → w.tail ≤ j → j < v.tail → Dec (j < (pushed w c).tail) → Member (get_or v.queue j 0) (c ∷ cs)
@@ -165,12 +165,12 @@ module _ (n : ℕ) (next : ℕ → List ℕ) where
 
     module _ (small : (k : ℕ) → Small n (next k)) where
       -- the pushes of a turn
-      pub pushes : (w : Work) (head : ℕ) → Walking w head → head < w.tail → Pushed w (next (get_or w.queue head 0)) (pushedAll w (next (get_or w.queue head 0)))
+      pub pushes : (w : Work) (head : ℕ) → Walking w head → head < w.tail → Pushed w (next (get_or w.queue head 0)) (pushed_all w (next (get_or w.queue head 0)))
       pushes w head i h =
           let c = get_or w.queue head 0 in
           push-list w (next c) i.core (all_of Next (next c) (λ q m. (all-member (λ (k : ℕ). k < n) m (small c), reached-next (i.core.held head h) m)))
 
-      pub turn : (w : Work) (head : ℕ) → Walking w head → head < w.tail → Walking (pushedAll w (next (get_or w.queue head 0))) (head + 1)
+      pub turn : (w : Work) (head : ℕ) → Walking w head → head < w.tail → Walking (pushed_all w (next (get_or w.queue head 0))) (head + 1)
       turn w head i h =
           let c = get_or w.queue head 0 in
           let d = pushes w head i h in
@@ -178,7 +178,7 @@ module _ (n : ℕ) (next : ℕ → List ℕ) where
             core = d.core;
             before = omega (arith, d.grows.tail);
             start = d.grows.seen 0 i.start;
-            done = λ j l. go (pushedAll w (next c)) d j (ℕ_discrete j head) l;
+            done = λ j l. go (pushed_all w (next c)) d j (ℕ_discrete j head) l;
           }
         where
           go : (v : Work) → Pushed w (next (get_or w.queue head 0)) v → (j : ℕ) → Dec (j ≡ head) → j < head + 1 → (q : ℕ)

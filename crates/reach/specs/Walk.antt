@@ -28,9 +28,9 @@ unfoldable pub pushed : Work → ℕ → Work
 pushed w c =
     pick (eqb (get_or w.seen c 0) 0) (work (set w.seen c 1) (set w.queue w.tail c) (w.tail + 1)) w
 
-unfoldable pub pushedAll : Work → List ℕ → Work
-pushedAll w [] = w
-pushedAll w (c ∷ cs) = pushedAll (pushed w c) cs
+unfoldable pub pushed_all : Work → List ℕ → Work
+pushed_all w [] = w
+pushed_all w (c ∷ cs) = pushed_all (pushed w c) cs
 
 -- how many codes are not found yet
 unfoldable pub zeros : List ℕ → ℕ

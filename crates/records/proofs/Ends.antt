@@ -4,7 +4,7 @@ use native.Mathlib.Omega.{arith}
 use mathlib.Core.Path.{◌≡◌, ap₂}
 use mathlib.Core.List.{List}
 use lib.ListN.{length, get_or, get_or-eq_default}
-use Rattle.records.specs.Records.{word_at, kind_at, payloadAt}
+use Rattle.records.specs.Records.{word_at, kind_at, payload_at}
 
 module _ (s : List ℕ) (at : ℕ) (h : length s ≤ at) where
   byte_past : (k : ℕ) → at ≤ k → get_or s k 0 ≡ 0
@@ -19,5 +19,5 @@ module _ (s : List ℕ) (at : ℕ) (h : length s ≤ at) where
   pub kind-past : kind_at s at ≡ 0
   kind-past = word-at-past (at + 2) (omega arith)
 
-  pub payload-past : (k : ℕ) → payloadAt s at k ≡ 0
+  pub payload-past : (k : ℕ) → payload_at s at k ≡ 0
   payload-past k = byte_past (at + 4 + k) (omega arith)

@@ -8,19 +8,19 @@ use lib.Dec.{eqb}
 use lib.ListN.{length}
 use borrow.Author.Tests.{lt-ltb, ltb-false, eqb-true}
 use Rattle.isa.specs.Choice.{pick}
-use Rattle.records.specs.Records.{size_at, cutOff, sizeRefusal, formatBy}
+use Rattle.records.specs.Records.{size_at, cut_off, size_refusal, format_by}
 use Rattle.records.specs.declared.Size.{Size}
 use Rattle.records.specs.declared.Size.TheVariants.{Of, UnknownKind}
 
 -- where fewer than 4 bytes are left
-pub no-head : (s : List ℕ) (at : ℕ) → length s < at + 4 → cutOff s at ≡ true
+pub no-head : (s : List ℕ) (at : ℕ) → length s < at + 4 → cut_off s at ≡ true
 no-head s at h = lt-ltb (length s) (at + 4 + size_at s at) (omega arith)
 
 module _ (size : Size) (s : List ℕ) (at : ℕ) where
-  pub format-cut : cutOff s at ≡ true → 6 ≡ formatBy size s at
+  pub format-cut : cut_off s at ≡ true → 6 ≡ format_by size s at
   format-cut h = rw h refl
 
-  pub format-whole : cutOff s at ≡ false → sizeRefusal size (size_at s at) ≡ formatBy size s at
+  pub format-whole : cut_off s at ≡ false → size_refusal size (size_at s at) ≡ format_by size s at
   format-whole h = rw h refl
 
 -- a record that is not cut off, of a known kind and of its length
@@ -43,7 +43,7 @@ unknown-size e = subst known (sym e) tt
     known (Of k) = Unit {0}
     known UnknownKind = ⊥
 
-right : (size : Size) (n : ℕ) → sizeRefusal size n ≡ 0 → size ≡ Of n
+right : (size : Size) (n : ℕ) → size_refusal size n ≡ 0 → size ≡ Of n
 right (Of m) n e = go (eqb n m) refl e
   where
     go : (t : Bool) → eqb n m ≡ t → ◌≡◌ {A = ℕ} (pick t 0 6) 0 → Of m ≡ Of n
@@ -51,10 +51,10 @@ right (Of m) n e = go (eqb n m) refl e
     go false p e = absurd (omega arith)
 right UnknownKind n e = absurd (omega arith)
 
-pub whole : (size : Size) (s : List ℕ) (at : ℕ) → formatBy size s at ≡ 0 → Whole size s at
-whole size s at e = go (cutOff s at) refl e
+pub whole : (size : Size) (s : List ℕ) (at : ℕ) → format_by size s at ≡ 0 → Whole size s at
+whole size s at e = go (cut_off s at) refl e
   where
-    go : (t : Bool) → cutOff s at ≡ t → ◌≡◌ {A = ℕ} (pick t 6 (sizeRefusal size (size_at s at))) 0 → Whole size s at
+    go : (t : Bool) → cut_off s at ≡ t → ◌≡◌ {A = ℕ} (pick t 6 (size_refusal size (size_at s at))) 0 → Whole size s at
     go true p e = absurd (omega arith)
     go false p e = record {
       inside = ltb-false (length s) (at + 4 + size_at s at) p;
@@ -62,14 +62,14 @@ whole size s at e = go (cutOff s at) refl e
     }
 
 -- no other numbers
-pub format-numbers : (P : ℕ → Type 0) → P 0 → P 6 → P 7 → (size : Size) (s : List ℕ) (at : ℕ) → P (formatBy size s at)
-format-numbers P z p q size s at = go (cutOff s at) size
+pub format-numbers : (P : ℕ → Type 0) → P 0 → P 6 → P 7 → (size : Size) (s : List ℕ) (at : ℕ) → P (format_by size s at)
+format-numbers P z p q size s at = go (cut_off s at) size
   where
     of : (t : Bool) → P (pick t 0 6)
     of true = z
     of false = p
 
-    go : (t : Bool) (size : Size) → P (pick t 6 (sizeRefusal size (size_at s at)))
+    go : (t : Bool) (size : Size) → P (pick t 6 (size_refusal size (size_at s at)))
     go true size = p
     go false (Of m) = of (eqb (size_at s at) m)
     go false UnknownKind = q

@@ -5,10 +5,10 @@ use native.Mathlib.Omega.{arith}
 use mathlib.Core.Path.{◌≡◌, sym, ap, ap₂, ◌∙◌}
 use mathlib.Core.List.{List, [], ◌∷◌, ◌++◌}
 use lib.ListN.{get_or}
-use Rattle.records.specs.Records.{word_at, size_at, kind_at, payloadAt, twoBytes}
+use Rattle.records.specs.Records.{word_at, size_at, kind_at, payload_at, two_bytes}
 
 -- a number of two bytes, written
-pub two_back : (x y : ℕ) → x < 256 → twoBytes (x + 256 * y) ≡ x ∷ y ∷ []
+pub two_back : (x y : ℕ) → x < 256 → two_bytes (x + 256 * y) ≡ x ∷ y ∷ []
 two_back x y h = ap₂ (λ (a b : ℕ). a ∷ b ∷ []) (low x y h) (high x y h)
   where
     low : (x y : ℕ) → x < 256 → (x + 256 * y) % 256 ≡ x
@@ -32,12 +32,12 @@ module _ (s : List ℕ) (at : ℕ) where
   at_5 : get_or s (at + 4 + 1) 0 ≡ byte 5
   at_5 = ap (λ (i : ℕ). get_or s i 0) (omega arith)
 
-  pub load : (k j : ℕ) → 4 + k ≡ j → payloadAt s at k ≡ byte j
+  pub load : (k j : ℕ) → 4 + k ≡ j → payload_at s at k ≡ byte j
   load k j e = ap (λ (i : ℕ). get_or s i 0) (omega arith)
 
   -- the payload's word is its first two bytes
-  pub payload-word : payloadAt s at 0 + 256 * payloadAt s at 1 ≡ word_at s (at + 4)
-  payload-word = ap (λ (i : ℕ). get_or s i 0 + 256 * payloadAt s at 1) start
+  pub payload-word : payload_at s at 0 + 256 * payload_at s at 1 ≡ word_at s (at + 4)
+  payload-word = ap (λ (i : ℕ). get_or s i 0 + 256 * payload_at s at 1) start
     where
       start : at + 4 + 0 ≡ at + 4
       start = omega arith
@@ -45,12 +45,12 @@ module _ (s : List ℕ) (at : ℕ) where
   module _ (b : (i : ℕ) → get_or s i 0 < 256) where
     -- length and kind
     pub head : {size kind : ℕ} (tail : List ℕ) → size_at s at ≡ size → kind_at s at ≡ kind
-        → twoBytes size ++ (twoBytes kind ++ tail) ≡ byte 0 ∷ byte 1 ∷ byte 2 ∷ byte 3 ∷ tail
+        → two_bytes size ++ (two_bytes kind ++ tail) ≡ byte 0 ∷ byte 1 ∷ byte 2 ∷ byte 3 ∷ tail
     head tail p q =
-        ap₂ (λ (x y : ℕ). twoBytes x ++ (twoBytes y ++ tail)) (sym p) (sym q)
+        ap₂ (λ (x y : ℕ). two_bytes x ++ (two_bytes y ++ tail)) (sym p) (sym q)
         ∙ ap₂ (λ (x y : List ℕ). x ++ (y ++ tail)) (two_back (get_or s at 0) (byte 1) (b at)) (two_back (byte 2) (get_or s (at + 2 + 1) 0) (b (at + 2)))
         ∙ ap₂ (λ (x y : ℕ). x ∷ byte 1 ∷ byte 2 ∷ y ∷ tail) at-0 at-3
 
     -- a payload of two bytes
-    pub two : twoBytes (word_at s (at + 4)) ≡ byte 4 ∷ byte 5 ∷ []
+    pub two : two_bytes (word_at s (at + 4)) ≡ byte 4 ∷ byte 5 ∷ []
     two = two_back (byte 4) (get_or s (at + 4 + 1) 0) (b (at + 4)) ∙ ap (λ (x : ℕ). byte 4 ∷ x ∷ []) at_5

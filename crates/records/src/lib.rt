@@ -1,6 +1,6 @@
 // Records on bytes, whatever their kinds mean: payload length, kind, payload, and where each record starts. Past the end every byte reads as 0.
 ghost use Rattle.std.specs.Prelude.{◌≡◌, ◌≤◌, get_or, length};
-ghost use Rattle.records.specs.Records.{cutOff, kind_at, offsets, payloadAt, size_at, sizeRefusal, word_at};
+ghost use Rattle.records.specs.Records.{cut_off, kind_at, offsets, payload_at, size_at, size_refusal, word_at};
 
 // What a record's kind says of its payload: how many bytes it has; or the kind is unknown. Whose records they are decides it.
 #[derive(Drop)]
@@ -48,7 +48,7 @@ pub fn kind_at(s: &[u8], at: usize) -> u16
 
 // Byte `k` of its payload.
 pub fn payload_at(s: &[u8], at: usize, k: u16) -> u8
-    ensures { result ≡ payloadAt s.now at k }
+    ensures { result ≡ payload_at s.now at k }
 {
     if s.len() <= at {
         return 0;
@@ -58,7 +58,7 @@ pub fn payload_at(s: &[u8], at: usize, k: u16) -> u8
 
 // Whether fewer than 4 bytes are left at an offset, or fewer than the record's payload.
 pub fn cut_off(s: &[u8], at: usize) -> bool
-    ensures { result ≡ cutOff s.now at }
+    ensures { result ≡ cut_off s.now at }
 {
     if s.len() <= at {
         return true;
@@ -71,7 +71,7 @@ pub fn cut_off(s: &[u8], at: usize) -> bool
 
 // Refusal 6 or 7 of a record that is not cut off, 0 for none: `size` is its kind's, `n` its own payload length.
 pub fn size_refusal(size: Size, n: usize) -> u8
-    ensures { result ≡ sizeRefusal size n }
+    ensures { result ≡ size_refusal size n }
 {
     match size {
         Size::Of(right) => {

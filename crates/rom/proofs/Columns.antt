@@ -9,7 +9,7 @@ use types.Run.{OneOf}
 use denote.Enum.Declared.{tag_of}
 use Rattle.isa.proofs.Exact.{and_left, and_right}
 use Rattle.isa.specs.contracts.Instruction.{the_type}
-use Rattle.isa.specs.Timing.{Columns, columns, columnsOf}
+use Rattle.isa.specs.Timing.{Columns, columns, columns_of}
 use Rattle.isa.specs.declared.Instruction.{Instruction}
 use Rattle.isa.specs.declared.Instruction.TheVariants as I
 
@@ -18,14 +18,14 @@ times zero c rest = rest
 times (suc n) c rest = c ∷ times n c rest
 
 -- the summary's columns in its order
-abbrev pub inOrder : List Columns
-inOrder =
+abbrev pub in_order : List Columns
+in_order =
     times 4 (columns 1 1) (times 2 (columns 2 2) (times 7 (columns 1 1) (times 3 (columns 2 2) (times 11 (columns 1 1) (
     times 2 (columns 2 2) (times 6 (columns 1 1) (times 3 (columns 2 2) (times 7 (columns 1 1) (times 1 (columns 2 2) (
     times 6 (columns 1 1) (times 2 (columns 1 2) (times 1 (columns 2 2) (times 4 (columns 1 1) (times 1 (columns 2 2) []))))))))))))))
 
-pub by_place : (i : Instruction) → columnsOf i ≡ get_or inOrder (tag_of the_type i) (columns 0 0)
-unfolding columnsOf
+pub by_place : (i : Instruction) → columns_of i ≡ get_or in_order (tag_of the_type i) (columns 0 0)
+unfolding columns_of
 by_place I.AddAM = refl
 by_place I.AdcAM = refl
 by_place I.SubAM = refl

@@ -8,13 +8,13 @@ use borrow.Author.Tests.{eq-eqb}
 use lib.ListN.{length, get_or}
 use Rattle.isa.specs.Code.{addresses, in_range}
 use Rattle.isa.specs.Reading.{Reading, decoded}
-use Rattle.isa.specs.Timing.{Columns, columnsAt, columnsOf, cyclesOf, entries, length_of}
+use Rattle.isa.specs.Timing.{Columns, columns_at, columns_of, cycles_of, entries, length_of}
 use Rattle.isa.proofs.Exact.{reading, sound, timed}
 use Rattle.isa.proofs.List.{length-at, cycles-at}
 use Rattle.isa.specs.declared.Instruction.{Instruction}
 use Rattle.isa.specs.declared.decoder.Decoded.{Decoded}
 use Rattle.isa.specs.declared.decoder.Decoded.TheVariants.{Read}
-use Rattle.rom.specs.Fetching.{sized, Bytes, byteAt, code_at, readAt, length_at, cyclesAt}
+use Rattle.rom.specs.Fetching.{sized, Bytes, byte_at, code_at, read_at, length_at, cycles_at}
 use Rattle.rom.specs.declared.reader.Code.{Code}
 
 -- 4,096 bytes are a mask
@@ -23,7 +23,7 @@ unfolding sized
 full mask e = eq-eqb (length mask) addresses e
 
 module _ (mask : List ℕ) (a : ℕ) where
-  pub byte_small : Bytes mask → byteAt mask a < 256
+  pub byte_small : Bytes mask → byte_at mask a < 256
   byte_small bytes = bytes (a % addresses)
 
   -- ---- what a code reads as
@@ -31,55 +31,55 @@ module _ (mask : List ℕ) (a : ℕ) where
   unfolding code_at
   code-small bytes = bytes ((a + 1) % addresses)
 
-  pub read-code : decoded (code_at mask a).first (code_at mask a).second ≡ readAt mask a
-  unfolding readAt
+  pub read-code : decoded (code_at mask a).first (code_at mask a).second ≡ read_at mask a
+  unfolding read_at
   read-code = refl
 
   pub length-code : length_of (code_at mask a).first ≡ length_at mask a
   unfolding length_at
   length-code = refl
 
-  pub cycles-code : cyclesOf (code_at mask a).first ≡ cyclesAt mask a
-  unfolding cyclesAt
+  pub cycles-code : cycles_of (code_at mask a).first ≡ cycles_at mask a
+  unfolding cycles_at
   cycles-code = refl
 
   -- ---- the same by the byte at the address and the next one
-  pub code-bytes : code_at mask a ≡ record { first = byteAt mask a; second = byteAt mask (a + 1) }
+  pub code-bytes : code_at mask a ≡ record { first = byte_at mask a; second = byte_at mask (a + 1) }
   unfolding code_at
   code-bytes = refl
 
-  pub read-bytes : readAt mask a ≡ decoded (byteAt mask a) (byteAt mask (a + 1))
+  pub read-bytes : read_at mask a ≡ decoded (byte_at mask a) (byte_at mask (a + 1))
   read-bytes = sym read-code ∙ ap (λ (k : Code). decoded k.first k.second) code-bytes
 
-  pub length-bytes : length_at mask a ≡ length_of (byteAt mask a)
+  pub length-bytes : length_at mask a ≡ length_of (byte_at mask a)
   length-bytes = sym length-code ∙ ap (λ (k : Code). length_of k.first) code-bytes
 
-  pub cycles-bytes : cyclesAt mask a ≡ cyclesOf (byteAt mask a)
-  cycles-bytes = sym cycles-code ∙ ap (λ (k : Code). cyclesOf k.first) code-bytes
+  pub cycles-bytes : cycles_at mask a ≡ cycles_of (byte_at mask a)
+  cycles-bytes = sym cycles-code ∙ ap (λ (k : Code). cycles_of k.first) code-bytes
 
   -- ---- what stands there
   -- the list's entry has both numbers
   pub length-entry : get_or entries (code_at mask a).first 0 / 16 ≡ length_at mask a
   length-entry = length-at (code_at mask a).first ∙ length-code
 
-  pub cycles-entry : get_or entries (code_at mask a).first 0 % 16 ≡ cyclesAt mask a
+  pub cycles-entry : get_or entries (code_at mask a).first 0 % 16 ≡ cycles_at mask a
   cycles-entry = cycles-at (code_at mask a).first ∙ cycles-code
 
   -- what the decoder answers for the code is what stands there
   module _ (c : Code) (at : c ≡ code_at mask a) (h : c.second < 256) (d : Decoded) (r : Reading c.first c.second d) where
-    pub read-there : d ≡ readAt mask a
+    pub read-there : d ≡ read_at mask a
     read-there = reading c.first c.second d h r ∙ ap (λ (k : Code). decoded k.first k.second) at ∙ read-code
 
   -- an instruction that stands there is in range, and takes the cycles of its columns
-  module _ (bytes : Bytes mask) (i : Instruction) (e : readAt mask a ≡ Read i) where
+  module _ (bytes : Bytes mask) (i : Instruction) (e : read_at mask a ≡ Read i) where
     stands : Reading (code_at mask a).first (code_at mask a).second (Read i)
     stands = sound (code_at mask a).first (code_at mask a).second i (code-small bytes) (read-code ∙ e)
 
     pub read-fields : in_range i ≡ true
     read-fields = stands.fields
 
-    columns-there : columnsAt (code_at mask a).first ≡ columnsOf i
+    columns-there : columns_at (code_at mask a).first ≡ columns_of i
     columns-there = (timed (code_at mask a).first).read (code_at mask a).second i (code-small bytes) stands
 
-    pub read-cycles : cyclesAt mask a ≡ (columnsOf i).cycles
+    pub read-cycles : cycles_at mask a ≡ (columns_of i).cycles
     read-cycles = sym cycles-code ∙ ap (λ (c : Columns). c.cycles) columns-there

@@ -7,7 +7,7 @@ use mathlib.Core.Path.{◌≡◌, refl, sym, ap, ◌∙◌}
 use mathlib.Core.List.{List, [], ◌∷◌}
 use lib.ListN.{get_or}
 use Rattle.isa.specs.Reading.{opcodes}
-use Rattle.isa.specs.Timing.{columnsOf, entries}
+use Rattle.isa.specs.Timing.{columns_of, entries}
 
 -- so many first bytes in a row that have one entry
 pub record Run : Type 0 where
@@ -39,7 +39,7 @@ listed [] = []
 listed (r ∷ rs) = repeated r.count r.entry (listed rs)
 
 tested : listed runs ≡ entries
-unfolding entries columnsOf opcodes
+unfolding entries columns_of opcodes
 tested = refl
 
 -- run k, and where it starts

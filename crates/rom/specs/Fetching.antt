@@ -2,8 +2,8 @@
 use Rattle.std.specs.Prelude.{ℕ, ◌+◌, ◌*◌, ◌/◌, ◌%◌, ◌<◌, Bool, true, false, List, ltb, eqb, length, get_or}
 use Rattle.isa.specs.Choice.{pick}
 use Rattle.isa.specs.Code.{addresses}
-use Rattle.isa.specs.Reading.{faultNumber, decoded}
-use Rattle.isa.specs.Timing.{length_of, cyclesOf}
+use Rattle.isa.specs.Reading.{fault_number, decoded}
+use Rattle.isa.specs.Timing.{length_of, cycles_of}
 use Rattle.isa.specs.declared.Instruction.{Instruction}
 use Rattle.isa.specs.declared.ProgramAddress.{ProgramAddress}
 use Rattle.isa.specs.declared.decoder.Decoded.{Decoded}
@@ -17,8 +17,8 @@ unfoldable pub sized : List ℕ → Bool
 sized mask = eqb (length mask) addresses
 
 -- "The byte after FFFh is the one at 0"
-abbrev pub byteAt : List ℕ → ℕ → ℕ
-byteAt mask a = get_or mask (a % addresses) 0
+abbrev pub byte_at : List ℕ → ℕ → ℕ
+byte_at mask a = get_or mask (a % addresses) 0
 
 -- a list of bytes, as every lent slice is
 abbrev pub Bytes : List ℕ → Type 0
@@ -26,29 +26,29 @@ Bytes mask = (k : ℕ) → get_or mask k 0 < 256
 
 -- the code at an address: the byte there and the next one, which a code of one byte does not look at
 unfoldable pub code_at : List ℕ → ℕ → Code
-code_at mask a = record { first = byteAt mask a; second = byteAt mask (a + 1) }
+code_at mask a = record { first = byte_at mask a; second = byte_at mask (a + 1) }
 
 -- what stands at an address, for the engine, the checker and the reader alike
-unfoldable pub readAt : List ℕ → ℕ → Decoded
-readAt mask a = decoded (code_at mask a).first (code_at mask a).second
+unfoldable pub read_at : List ℕ → ℕ → Decoded
+read_at mask a = decoded (code_at mask a).first (code_at mask a).second
 
 -- its length and cycles, by the list's entry for its first byte
 unfoldable pub length_at : List ℕ → ℕ → ℕ
 length_at mask a = length_of (code_at mask a).first
 
-unfoldable pub cyclesAt : List ℕ → ℕ → ℕ
-cyclesAt mask a = cyclesOf (code_at mask a).first
+unfoldable pub cycles_at : List ℕ → ℕ → ℕ
+cycles_at mask a = cycles_of (code_at mask a).first
 
 -- "PC moves on by the length, modulo 4,096": the moved address
-abbrev pub movedBy : ℕ → ℕ → ℕ
-movedBy size a = (a + size) % addresses
+abbrev pub moved_by : ℕ → ℕ → ℕ
+moved_by size a = (a + size) % addresses
 
-abbrev pub movedFrom : List ℕ → ℕ → ℕ
-movedFrom mask a = movedBy (length_at mask a) a
+abbrev pub moved_from : List ℕ → ℕ → ℕ
+moved_from mask a = moved_by (length_at mask a) a
 
 -- "A conditional branch keeps bit 11 of that moved PC": bits 0 to 10 are the target's
-abbrev pub branchTo : ℕ → ProgramAddress → ℕ
-branchTo moved t = moved / 2048 * 2048 + t.0 % 2048
+abbrev pub branch_to : ℕ → ProgramAddress → ℕ
+branch_to moved t = moved / 2048 * 2048 + t.0 % 2048
 
 -- what stands at an address: refused with a number, a fault, or an instruction with its length and cycles
 pub data Answer : Type 0 where
@@ -61,16 +61,16 @@ pub data Answer : Type 0 where
 abbrev pub answer_of : Fetched → Answer
 answer_of BadMask = refused 1
 answer_of BadAddress = refused 5
-answer_of Unread = faulted (faultNumber Unreadable)
+answer_of Unread = faulted (fault_number Unreadable)
 answer_of (Fetch i l c) = instruction i l c
 
 -- a reading with its length and cycles
-abbrev pub withTiming : ℕ → ℕ → Decoded → Answer
-withTiming size cycles (Read i) = instruction i size cycles
-withTiming size cycles Unreadable = faulted (faultNumber Unreadable)
+abbrev pub with_timing : ℕ → ℕ → Decoded → Answer
+with_timing size cycles (Read i) = instruction i size cycles
+with_timing size cycles Unreadable = faulted (fault_number Unreadable)
 
 abbrev pub standing : List ℕ → ℕ → Answer
-standing mask a = withTiming (length_at mask a) (cyclesAt mask a) (readAt mask a)
+standing mask a = with_timing (length_at mask a) (cycles_at mask a) (read_at mask a)
 
 -- "Checked in this order; the lowest number wins"
 abbrev pub fetching : List ℕ → ℕ → Answer

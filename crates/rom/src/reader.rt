@@ -1,6 +1,6 @@
 // Reading at an address of a mask (document 01's word for the 4,096 bytes of a panel's ROM).
 ghost use Rattle.std.specs.Prelude.{◌≡◌};
-ghost use Rattle.rom.specs.Fetching.{answer_of, byteAt, code_at, fetching, movedBy, sized};
+ghost use Rattle.rom.specs.Fetching.{answer_of, byte_at, code_at, fetching, moved_by, sized};
 
 use crate::timing::{cycles, length};
 use isa::decoder::{Decoded, decode};
@@ -38,7 +38,7 @@ pub fn mask_ok(mask: &[u8]) -> bool
 
 // The byte at an address: the one after FFFh is the one at 0. A byte past the end of a mask reads 0.
 pub fn byte_at(mask: &[u8], at: u16) -> u8
-    ensures { result ≡ byteAt mask.now at }
+    ensures { result ≡ byte_at mask.now at }
 {
     let i = (at % ADDRESSES) as usize;
     if i < mask.len() {
@@ -60,7 +60,7 @@ pub fn code_at(mask: &[u8], at: u16) -> Code
 
 // The moved address. One out of range counts as what is left of it modulo 4,096.
 pub fn moved_by(at: u16, length: u8) -> u16
-    ensures { result ≡ movedBy length at }
+    ensures { result ≡ moved_by length at }
 {
     (at % ADDRESSES + length as u16) % ADDRESSES
 }

@@ -1,7 +1,7 @@
 // Lengths and cycles by a rule on the first byte: no list of 256 entries for a linker to place (document 02, wish 3). The engine asks by the
 // instruction: there the compiler knows it, and the answer is a constant.
 ghost use Rattle.std.specs.Prelude.{◌≡◌, get_or};
-ghost use Rattle.isa.specs.Timing.{columnsOf, cyclesOf, entries, length_of};
+ghost use Rattle.isa.specs.Timing.{columns_of, cycles_of, entries, length_of};
 
 use isa::Instruction;
 
@@ -60,14 +60,14 @@ pub fn length(first: u8) -> u8
 
 // How many cycles it takes.
 pub fn cycles(first: u8) -> u8
-    ensures { result ≡ cyclesOf first }
+    ensures { result ≡ cycles_of first }
 {
     entry(first) % 16
 }
 
 // How many bytes an instruction has.
 pub fn length_of(instruction: Instruction) -> u8
-    ensures { result ≡ (columnsOf instruction).bytes }
+    ensures { result ≡ (columns_of instruction).bytes }
 {
     match instruction {
         Instruction::AddAX(_) => 2,
@@ -89,7 +89,7 @@ pub fn length_of(instruction: Instruction) -> u8
 
 // How many cycles it takes: the table reads take two with one byte.
 pub fn cycles_of(instruction: Instruction) -> u8
-    ensures { result ≡ (columnsOf instruction).cycles }
+    ensures { result ≡ (columns_of instruction).cycles }
 {
     match instruction {
         Instruction::AddAX(_) => 2,

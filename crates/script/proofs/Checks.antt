@@ -10,23 +10,23 @@ use lib.ListN.{length}
 use borrow.Author.Tests.{eq-eqb, ne_eqb, le-leb, lt-leb, eqb-true, eqb-false, leb-true}
 use Rattle.rom.specs.Fetching.{sized}
 use Rattle.isa.specs.Choice.{pick}
-use Rattle.records.specs.Records.{size_at, kind_at, offsetsFrom, offsets}
-use Rattle.script.specs.Check.{refused, fine, unless, firstRefused, first, ruled, checked}
+use Rattle.records.specs.Records.{size_at, kind_at, offsets_from, offsets}
+use Rattle.script.specs.Check.{refused, fine, unless, first_refused, first, ruled, checked}
 use Rattle.script.specs.declared.Checked.{Checked}
 use Rattle.script.specs.declared.check.Rule.TheVariants.{Format, Values, Choices}
 use Rattle.records.proofs.Offsets.{from_end, from_next}
 
 -- ---- the first offset at which a rule gives a number
 module _ (rule : ℕ → ℕ) (s : List ℕ) (at : ℕ) where
-  pub first-end : length s ≤ at → first rule (offsetsFrom s at) ≡ fine
+  pub first-end : length s ≤ at → first rule (offsets_from s at) ≡ fine
   unfolding first
   first-end h = rw (from_end s at h) refl
 
-  pub first-bad : at < length s → (rule at ≡ 0 → ⊥) → first rule (offsetsFrom s at) ≡ refused (rule at) at
+  pub first-bad : at < length s → (rule at ≡ 0 → ⊥) → first rule (offsets_from s at) ≡ refused (rule at) at
   unfolding first
   first-bad h z = rw (from_next s at h, ne_eqb (rule at) 0 z) refl
 
-  pub first_good : at < length s → rule at ≡ 0 → first rule (offsetsFrom s at) ≡ first rule (offsetsFrom s (at + 4 + size_at s at))
+  pub first_good : at < length s → rule at ≡ 0 → first rule (offsets_from s at) ≡ first rule (offsets_from s (at + 4 + size_at s at))
   unfolding first
   first_good h z = rw (from_next s at h, eq-eqb (rule at) 0 z) refl
 
@@ -34,10 +34,10 @@ module _ (rule : ℕ → ℕ) (s : List ℕ) (at : ℕ) where
 number : {a b : Checked} → a ≡ b → a.number ≡ b.number
 number e = ap (λ (k : Checked). k.number) e
 
-stop : (a b : Checked) → (a.number ≡ 0 → ⊥) → firstRefused a b ≡ a
+stop : (a b : Checked) → (a.number ≡ 0 → ⊥) → first_refused a b ≡ a
 stop a b h = rw (ne_eqb a.number 0 h) refl
 
-pass : (a b : Checked) → a.number ≡ 0 → firstRefused a b ≡ b
+pass : (a b : Checked) → a.number ≡ 0 → first_refused a b ≡ b
 pass a b h = rw (eq-eqb a.number 0 h) refl
 
 module _ (mask s : List ℕ) (room : ℕ) where
@@ -45,19 +45,19 @@ module _ (mask s : List ℕ) (room : ℕ) where
   after4 = unless (leb (48 * length (offsets s)) room) 9
 
   abbrev pub after3 : Checked
-  after3 = firstRefused (first (ruled Choices s) (offsets s)) after4
+  after3 = first_refused (first (ruled Choices s) (offsets s)) after4
 
   abbrev pub after8 : Checked
-  after8 = firstRefused (first (ruled Values s) (offsets s)) after3
+  after8 = first_refused (first (ruled Values s) (offsets s)) after3
 
   abbrev pub after7 : Checked
-  after7 = firstRefused (unless (eqb (kind_at s 0) 1) 8) after8
+  after7 = first_refused (unless (eqb (kind_at s 0) 1) 8) after8
 
   abbrev pub after6 : Checked
-  after6 = firstRefused (first (ruled Format s) (offsets s)) after7
+  after6 = first_refused (first (ruled Format s) (offsets s)) after7
 
   abbrev pub after1 : Checked
-  after1 = firstRefused (unless (leb (length s) 65535) 6) after6
+  after1 = first_refused (unless (leb (length s) 65535) 6) after6
 
   pub stop1 : sized mask ≡ false → checked mask s room ≡ refused 1 0
   unfolding checked
@@ -113,7 +113,7 @@ pub record Accepted (mask s : List ℕ) (room : ℕ) : Type 0 where
   pub choices : (first (ruled Choices s) (offsets s)).number ≡ 0
   pub fits : 48 * length (offsets s) ≤ room
 
-both : (a b : Checked) → (firstRefused a b).number ≡ 0 → (a.number ≡ 0) × (b.number ≡ 0)
+both : (a b : Checked) → (first_refused a b).number ≡ 0 → (a.number ≡ 0) × (b.number ≡ 0)
 both a b h = go (eqb a.number 0) refl h
   where
     go : (t : Bool) → eqb a.number 0 ≡ t → (pick t b a).number ≡ 0 → (a.number ≡ 0) × (b.number ≡ 0)

@@ -10,12 +10,12 @@ use lib.Seq.{drop-cons}
 use borrow.Author.Tests.{ne_eqb}
 use Rattle.isa.specs.Choice.{pick}
 use Rattle.rom.specs.Fetching.{Bytes}
-use Rattle.machine.specs.Events.{Input, power, named, eventOf}
+use Rattle.machine.specs.Events.{Input, power, named, event_of}
 use Rattle.machine.specs.Report.{places}
-use Rattle.records.specs.Records.{word_at, size_at, kind_at, payloadAt, offsetsFrom, offsets}
+use Rattle.records.specs.Records.{word_at, size_at, kind_at, payload_at, offsets_from, offsets}
 use Rattle.records.specs.declared.Size.TheVariants.{Of, UnknownKind}
-use Rattle.script.specs.Format.{size_of, optionsAt, filled, input_at, inputs, written, writtenAll}
-use Rattle.script.specs.Check.{formatAt, first, ruled, checked}
+use Rattle.script.specs.Format.{size_of, options_at, filled, input_at, inputs, written, written_all}
+use Rattle.script.specs.Check.{format_at, first, ruled, checked}
 use Rattle.script.specs.Whole.{ParsesBack}
 use Rattle.script.specs.declared.check.Rule.TheVariants.{Format}
 use Rattle.records.proofs.Offsets.{each}
@@ -49,11 +49,11 @@ module _ (s : List ℕ) (at : ℕ) where
     -- what a kind names here
     abbrev by_kind : ℕ → Input
     by_kind kind =
-        pick (eqb kind 1) (power (optionsAt s at) (filled (payloadAt s at 5)))
-        (named (eventOf kind (word_at s (at + 4)) (payloadAt s at 0) (payloadAt s at 1) (payloadAt s at 2)))
+        pick (eqb kind 1) (power (options_at s at) (filled (payload_at s at 5)))
+        (named (event_of kind (word_at s (at + 4)) (payload_at s at 0) (payload_at s at 1) (payload_at s at 2)))
 
     over : (kind : ℕ) → 6 < kind → size_of (by_kind kind) ≡ UnknownKind
-    unfolding eventOf
+    unfolding event_of
     over kind h =
         rw (
           ne_eqb kind 1 (λ e. omega arith),
@@ -70,7 +70,7 @@ module _ (s : List ℕ) (at : ℕ) where
 
     -- it is written as the bytes that it stands in, if the record has its size
     back : (kind : ℕ) → kind_at s at ≡ kind → size_of (by_kind kind) ≡ Of (size_at s at) → written (by_kind kind) ≡ places (4 + size_at s at) here 0
-    unfolding eventOf written
+    unfolding event_of written
     back zero k e = absurd (unknown-size e)
     back (suc zero) k e =
         by_size 6 e
@@ -108,21 +108,21 @@ module _ (s : List ℕ) (at : ℕ) where
 
 -- all records from an offset on
 module _ (s : List ℕ) (b : Bytes s) where
-  rest_back : (at : ℕ) → (first (ruled Format s) (offsetsFrom s at)).number ≡ 0 → writtenAll (map (input_at s) (offsetsFrom s at)) ≡ drop at s
-  unfolding writtenAll formatAt
+  rest_back : (at : ℕ) → (first (ruled Format s) (offsets_from s at)).number ≡ 0 → written_all (map (input_at s) (offsets_from s at)) ≡ drop at s
+  unfolding written_all format_at
   rest_back =
-      each s (λ (at : ℕ) (l : List ℕ). (first (ruled Format s) (offsetsFrom s at)).number ≡ 0 → writtenAll (map (input_at s) l) ≡ drop at s)
+      each s (λ (at : ℕ) (l : List ℕ). (first (ruled Format s) (offsets_from s at)).number ≡ 0 → written_all (map (input_at s) l) ≡ drop at s)
       (λ at h e. sym (drop_of_length-le s h))
       (λ at h back e.
       ap (λ (l : List ℕ). written (input_at s at) ++ l) (back (good-after (ruled Format s) s at h e))
       ∙ record-back s at b (whole (size_of (input_at s at)) s at (good-here (ruled Format s) s at h e)))
 
-  pub exact : (first (ruled Format s) (offsets s)).number ≡ 0 → writtenAll (inputs s) ≡ s
+  pub exact : (first (ruled Format s) (offsets s)).number ≡ 0 → written_all (inputs s) ≡ s
   unfolding inputs
   exact e = rest_back 0 e
 
   -- an accepted script is its inputs, written
-  pub written_back : (mask : List ℕ) (room : ℕ) → (checked mask s room).number ≡ 0 → writtenAll (inputs s) ≡ s
+  pub written_back : (mask : List ℕ) (room : ℕ) → (checked mask s room).number ≡ 0 → written_all (inputs s) ≡ s
   written_back mask room e = exact (accepted mask s room e).format
 
 pub parses-back : ParsesBack

@@ -6,15 +6,15 @@ use mathlib.Core.List.{List, [], ◌∷◌}
 use lib.Dec.{eqb}
 use lib.ListN.{length, get_or}
 use Rattle.isa.specs.Choice.{pick}
-use Rattle.script.specs.Hex.{digit, hexLine}
+use Rattle.script.specs.Hex.{digit, hex_line}
 
-pub line-length : (r : List ℕ) → length (hexLine r) ≡ 2 * length r + 1
-unfolding hexLine
+pub line-length : (r : List ℕ) → length (hex_line r) ≡ 2 * length r + 1
+unfolding hex_line
 line-length [] = refl
 line-length (x ∷ r) = let h = line-length r in omega arith
 
-pub newline : (r : List ℕ) (i : ℕ) → i ≡ 2 * length r → get_or (hexLine r) i 0 ≡ 10
-unfolding hexLine
+pub newline : (r : List ℕ) (i : ℕ) → i ≡ 2 * length r → get_or (hex_line r) i 0 ≡ 10
+unfolding hex_line
 newline [] i e = ap (λ (k : ℕ). get_or (10 ∷ []) k 0) e
 newline (x ∷ r) zero e = absurd (omega arith)
 newline (x ∷ r) (suc zero) e = absurd (omega arith)
@@ -24,8 +24,8 @@ newline (x ∷ r) (suc (suc i)) e = newline r i (omega arith)
 abbrev pub half : ℕ → ℕ → ℕ
 half i x = pick (eqb (i % 2) 0) (x / 16) (x % 16)
 
-pub character : (r : List ℕ) (i : ℕ) → i < 2 * length r → get_or (hexLine r) i 0 ≡ digit (half i (get_or r (i / 2) 0))
-unfolding hexLine
+pub character : (r : List ℕ) (i : ℕ) → i < 2 * length r → get_or (hex_line r) i 0 ≡ digit (half i (get_or r (i / 2) 0))
+unfolding hex_line
 character [] i h = absurd (omega arith)
 character (x ∷ r) zero h = refl
 character (x ∷ r) (suc zero) h = refl

@@ -17,18 +17,18 @@ use Rattle.machine.specs.Events.{Input}
 use Rattle.machine.specs.Report.{reported, reporting, report}
 use Rattle.machine.specs.declared.Machine.{Machine}
 use Rattle.machine.proofs.Reports.{report-length}
-use Rattle.records.specs.Records.{size_at, offsetsFrom}
+use Rattle.records.specs.Records.{size_at, offsets_from}
 use Rattle.script.specs.Format.{input_at, inputs}
-use Rattle.script.specs.Check.{formatAt}
-use Rattle.script.specs.Reports.{next, reports, reportsOf, progress, passed, stepped}
+use Rattle.script.specs.Check.{format_at}
+use Rattle.script.specs.Reports.{next, reports, reports_of, progress, passed, stepped}
 use Rattle.script.specs.declared.Progress.{Progress}
 use Rattle.records.proofs.Offsets.{from_end, from_next}
 
 -- the reports of the records from an offset on
 abbrev pub rest : List ℕ → List ℕ → ℕ → Machine → List ℕ
-rest mask s at m = reports mask (map (input_at s) (offsetsFrom s at)) m
+rest mask s at m = reports mask (map (input_at s) (offsets_from s at)) m
 
-pub rest_all : (mask s : List ℕ) → rest mask s 0 blank ≡ reportsOf mask s
+pub rest_all : (mask s : List ℕ) → rest mask s 0 blank ≡ reports_of mask s
 unfolding inputs
 rest_all mask s = refl
 
@@ -42,13 +42,13 @@ module _ (mask s : List ℕ) (at : ℕ) (m : Machine) where
   rest-next h = rw (from_next s at h) refl
 
   -- a step at a record that is well formed, at another one, and past the script's end
-  pub stepped-in : at < length s → formatAt s at ≡ 0 → stepped mask s at m ≡ passed mask s at m
+  pub stepped-in : at < length s → format_at s at ≡ 0 → stepped mask s at m ≡ passed mask s at m
   unfolding stepped
   stepped-in h e = rw (lt-ltb at (length s) h, e) refl
 
-  pub stepped-bad : at < length s → (formatAt s at ≡ 0 → ⊥) → stepped mask s at m ≡ progress (formatAt s at) at m
+  pub stepped-bad : at < length s → (format_at s at ≡ 0 → ⊥) → stepped mask s at m ≡ progress (format_at s at) at m
   unfolding stepped
-  stepped-bad h n = rw (lt-ltb at (length s) h, ne_eqb (formatAt s at) 0 n) refl
+  stepped-bad h n = rw (lt-ltb at (length s) h, ne_eqb (format_at s at) 0 n) refl
 
   pub stepped-end : length s ≤ at → stepped mask s at m ≡ progress 0 at m
   unfolding stepped
@@ -56,9 +56,9 @@ module _ (mask s : List ℕ) (at : ℕ) (m : Machine) where
 
   -- a record that is not refused is passed
   pub stepped-on : at < length s → (stepped mask s at m).refusal ≡ 0 → (stepped mask s at m).at ≡ at + 4 + size_at s at
-  stepped-on h z = go (eqb (formatAt s at) 0) (eqb-true (formatAt s at) 0) (eqb-false (formatAt s at) 0)
+  stepped-on h z = go (eqb (format_at s at) 0) (eqb-true (format_at s at) 0) (eqb-false (format_at s at) 0)
     where
-      go : (t : Bool) → (t ≡ true → formatAt s at ≡ 0) → (t ≡ false → formatAt s at ≡ 0 → ⊥) → (stepped mask s at m).at ≡ at + 4 + size_at s at
+      go : (t : Bool) → (t ≡ true → format_at s at ≡ 0) → (t ≡ false → format_at s at ≡ 0 → ⊥) → (stepped mask s at m).at ≡ at + 4 + size_at s at
       go true f g = ap (λ (p : Progress). p.at) (stepped-in h (f refl))
       go false f g = absurd (g refl (ap (λ (p : Progress). p.refusal) (sym (stepped-bad h (g refl))) ∙ z))
 
@@ -72,8 +72,8 @@ reports-length mask (i ∷ is) m =
     let r = reports-length mask is (next mask i m) in
     omega arith
 
-pub rest-length : (mask s : List ℕ) (at : ℕ) (m : Machine) → length (rest mask s at m) ≡ 48 * length (offsetsFrom s at)
-rest-length mask s at m = reports-length mask (map (input_at s) (offsetsFrom s at)) m ∙ ap (λ (n : ℕ). 48 * n) (length-map (offsetsFrom s at) (input_at s))
+pub rest-length : (mask s : List ℕ) (at : ℕ) (m : Machine) → length (rest mask s at m) ≡ 48 * length (offsets_from s at)
+rest-length mask s at m = reports-length mask (map (input_at s) (offsets_from s at)) m ∙ ap (λ (n : ℕ). 48 * n) (length-map (offsets_from s at) (input_at s))
 
 -- what a query leaves where nothing is refused
 pub report-good : (m : Machine) (out : List ℕ) → length out ≡ 48 → valid (state_of m) ≡ true → report m out ≡ reporting 0 (reported m)

@@ -10,12 +10,12 @@ use lib.ListN.{length}
 use borrow.Author.Tests.{leb-true}
 use Rattle.rom.specs.Fetching.{sized}
 use Rattle.isa.specs.Choice.{pick}
-use Rattle.cpu.specs.Range.{nibble, nibbles, optionsOk}
-use Rattle.machine.specs.Events.{Input, power, named, valuesOk}
+use Rattle.cpu.specs.Range.{nibble, nibbles, options_ok}
+use Rattle.machine.specs.Events.{Input, power, named, values_ok}
 use Rattle.machine.specs.declared.events.Named.TheVariants.{Known, Unknown}
 use Rattle.records.specs.Records.{kind_at, offsets}
 use Rattle.script.specs.Format.{size_of, input_at}
-use Rattle.script.specs.Check.{refused, unless, firstRefused, first, formatAt, value_of, choice_of, ruled, checked}
+use Rattle.script.specs.Check.{refused, unless, first_refused, first, format_at, value_of, choice_of, ruled, checked}
 use Rattle.script.specs.declared.Checked.{Checked}
 use Rattle.script.specs.declared.check.Rule.TheVariants.{Format, Values, Choices}
 use Rattle.script.proofs.Checks.{after1, after3, after4, after6, after7, after8, pass9}
@@ -30,7 +30,7 @@ either : (t : Bool) (x y : ℕ) → Other x → Other y → Other (pick t x y)
 either true x y p q = p
 either false x y p q = q
 
-or_else : (a b : Checked) → Other a.number → Other b.number → Other (firstRefused a b).number
+or_else : (a b : Checked) → Other a.number → Other b.number → Other (first_refused a b).number
 or_else a b p q = go (eqb a.number 0)
   where
     go : (t : Bool) → Other (pick t b a).number
@@ -51,19 +51,19 @@ first-other rule p (at ∷ l) = go (eqb (rule at) 0) (first-other rule p l)
     go false q = p at
 
 -- the three rules
-format-other : (s : List ℕ) (at : ℕ) → Other (formatAt s at)
-unfolding formatAt
+format-other : (s : List ℕ) (at : ℕ) → Other (format_at s at)
+unfolding format_at
 format-other s at = format-numbers Other (λ e. omega arith) (λ e. omega arith) (λ e. omega arith) (size_of (input_at s at)) s at
 
 value-other : (i : Input) → Other (value_of i)
 unfolding value_of
 value-other (power o image) = either (nibbles image) 0 3 (λ e. omega arith) (λ e. omega arith)
-value-other (named (Known e)) = either (valuesOk e) 0 3 (λ e. omega arith) (λ e. omega arith)
+value-other (named (Known e)) = either (values_ok e) 0 3 (λ e. omega arith) (λ e. omega arith)
 value-other (named Unknown) = λ e. omega arith
 
 choice-other : (i : Input) → Other (choice_of i)
 unfolding choice_of
-choice-other (power o image) = either (optionsOk o) 0 4 (λ e. omega arith) (λ e. omega arith)
+choice-other (power o image) = either (options_ok o) 0 4 (λ e. omega arith) (λ e. omega arith)
 choice-other (named n) = λ e. omega arith
 
 pub never-nine : (mask s : List ℕ) (room : ℕ) → 48 * 65535 ≤ room → (checked mask s room).number ≡ 9 → ⊥
@@ -75,7 +75,7 @@ never-nine mask s room h =
     last : leb (length s) 65535 ≡ true → Other (after4 mask s room).number
     last e n = omega (arith, sym (ap (λ (k : Checked). k.number) (pass9 mask s room (omega (arith, few s 0, leb-true (length s) 65535 e)))) ∙ n)
 
-    go : (t : Bool) → leb (length s) 65535 ≡ t → Other (firstRefused (unless t 6) (after6 mask s room)).number
+    go : (t : Bool) → leb (length s) 65535 ≡ t → Other (first_refused (unless t 6) (after6 mask s room)).number
     go false e = λ n. omega arith
     go true e =
         or_else (first (ruled Format s) (offsets s)) (after7 mask s room) (first-other (ruled Format s) (format-other s) (offsets s))

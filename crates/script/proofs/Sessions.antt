@@ -12,10 +12,10 @@ use Rattle.machine.specs.Power.{blank}
 use Rattle.machine.specs.Report.{Reporting, reporting, report, reported}
 use Rattle.machine.specs.declared.Machine.{Machine}
 use Rattle.machine.proofs.Lists.{input-valid}
-use Rattle.records.specs.Records.{offsetsFrom}
+use Rattle.records.specs.Records.{offsets_from}
 use Rattle.script.specs.Format.{input_at}
 use Rattle.script.specs.Check.{first, ruled, checked}
-use Rattle.script.specs.Reports.{next, reportsOf, stepped}
+use Rattle.script.specs.Reports.{next, reports_of, stepped}
 use Rattle.script.specs.declared.Progress.{Progress}
 use Rattle.script.specs.declared.check.Rule.TheVariants.{Format}
 use Rattle.script.specs.Whole.{Printing, ended, going, RecordByRecord}
@@ -24,19 +24,19 @@ use Rattle.script.proofs.Accepts.{first-valid, good-here, good-after}
 use Rattle.script.proofs.Rests.{rest, rest_all, rest_end, rest-next, stepped-in, report-good}
 
 module _ (mask s : List ℕ) (b : Bytes mask) where
-  from-here : {at : ℕ} {m : Machine} {bytes : List ℕ} → Printing mask s at m bytes → (first (ruled Format s) (offsetsFrom s at)).number ≡ 0
+  from-here : {at : ℕ} {m : Machine} {bytes : List ℕ} → Printing mask s at m bytes → (first (ruled Format s) (offsets_from s at)).number ≡ 0
       → valid (state_of (next mask (input_at s at) m)) ≡ true → bytes ≡ rest mask s at m
   from-here {at} {m} (ended h) f v = sym (rest_end mask s at m h)
   from-here {at} {m} (going {more = more} p n buffer bytes h e l r k) f v =
       let q = e ∙ stepped-in mask s at m h (good-here (ruled Format s) s at h f) in
-      let g = subst (λ (p : Progress). (first (ruled Format s) (offsetsFrom s p.at)).number ≡ 0) (sym q) (good-after (ruled Format s) s at h f) in
+      let g = subst (λ (p : Progress). (first (ruled Format s) (offsets_from s p.at)).number ≡ 0) (sym q) (good-after (ruled Format s) s at h f) in
       let w = ap (λ (p : Progress). valid (state_of p.machine)) q ∙ v in
       ap₂ ◌++◌ (ap (λ (r : Reporting). r.bytes) (r ∙ report-good p.machine buffer l w))
       (from-here k g (input-valid mask b (input_at s p.at) p.machine w))
       ∙ ap (λ (p : Progress). reported p.machine ++ rest mask s p.at p.machine) q
       ∙ sym (rest-next mask s at m h)
 
-  same-reports : (room : ℕ) (bytes : List ℕ) → (checked mask s room).number ≡ 0 → Printing mask s 0 blank bytes → bytes ≡ reportsOf mask s
+  same-reports : (room : ℕ) (bytes : List ℕ) → (checked mask s room).number ≡ 0 → Printing mask s 0 blank bytes → bytes ≡ reports_of mask s
   same-reports room bytes e k = from-here k (accepted mask s room e).format (first-valid mask s room e) ∙ rest_all mask s
 
 pub record-by-record : RecordByRecord

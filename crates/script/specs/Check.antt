@@ -4,10 +4,10 @@
 use Rattle.std.specs.Prelude.{ℕ, ◌*◌, Bool, List, [], ◌∷◌, leb, eqb, length}
 use Rattle.isa.specs.Choice.{pick}
 use Rattle.rom.specs.Fetching.{sized}
-use Rattle.cpu.specs.Range.{nibbles, optionsOk}
-use Rattle.machine.specs.Events.{Input, power, named, valuesOk}
+use Rattle.cpu.specs.Range.{nibbles, options_ok}
+use Rattle.machine.specs.Events.{Input, power, named, values_ok}
 use Rattle.machine.specs.declared.events.Named.TheVariants.{Known, Unknown}
-use Rattle.records.specs.Records.{kind_at, formatBy, offsets}
+use Rattle.records.specs.Records.{kind_at, format_by, offsets}
 use Rattle.script.specs.Format.{size_of, input_at}
 use Rattle.script.specs.declared.Checked.{Checked}
 use Rattle.script.specs.declared.check.Rule.{Rule}
@@ -25,8 +25,8 @@ abbrev pub unless : Bool → ℕ → Checked
 unless t n = pick t fine (refused n 0)
 
 -- "Checked in this order"
-abbrev pub firstRefused : Checked → Checked → Checked
-firstRefused a b = pick (eqb a.number 0) b a
+abbrev pub first_refused : Checked → Checked → Checked
+first_refused a b = pick (eqb a.number 0) b a
 
 -- the first offset at which a rule gives a number
 unfoldable pub first : (ℕ → ℕ) → List ℕ → Checked
@@ -34,23 +34,23 @@ first rule [] = fine
 first rule (at ∷ rest) = pick (eqb (rule at) 0) (first rule rest) (refused (rule at) at)
 
 -- "6: .. record cut off or payload length wrong"; "7: unknown kind"; "6 first in a record cut off": the kind is the one that the record names
-unfoldable pub formatAt : List ℕ → ℕ → ℕ
-formatAt s at = formatBy (size_of (input_at s at)) s at
+unfoldable pub format_at : List ℕ → ℕ → ℕ
+format_at s at = format_by (size_of (input_at s at)) s at
 
 -- "3: in an image, event or record: nibble other than an option over 15, INT over 1"
 unfoldable pub value_of : Input → ℕ
 value_of (power o image) = pick (nibbles image) 0 3
-value_of (named (Known e)) = pick (valuesOk e) 0 3
+value_of (named (Known e)) = pick (values_ok e) 0 3
 value_of (named Unknown) = 0
 
 -- "4: option handed in at power-on, wake nibbles too, outside its list"
 unfoldable pub choice_of : Input → ℕ
-choice_of (power o image) = pick (optionsOk o) 0 4
+choice_of (power o image) = pick (options_ok o) 0 4
 choice_of (named n) = 0
 
 -- the three rules that are judged record by record
 abbrev pub ruled : Rule → List ℕ → ℕ → ℕ
-ruled Format s at = formatAt s at
+ruled Format s at = format_at s at
 ruled Values s at = value_of (input_at s at)
 ruled Choices s at = choice_of (input_at s at)
 
@@ -58,10 +58,10 @@ ruled Choices s at = choice_of (input_at s at)
 -- the kind reads as 0); "9: report buffer under 48 times the records"
 unfoldable pub checked : List ℕ → List ℕ → ℕ → Checked
 checked mask s room =
-    firstRefused (unless (sized mask) 1)
-    (firstRefused (unless (leb (length s) 65535) 6)
-    (firstRefused (first (ruled Format s) (offsets s))
-    (firstRefused (unless (eqb (kind_at s 0) 1) 8)
-    (firstRefused (first (ruled Values s) (offsets s))
-    (firstRefused (first (ruled Choices s) (offsets s))
+    first_refused (unless (sized mask) 1)
+    (first_refused (unless (leb (length s) 65535) 6)
+    (first_refused (first (ruled Format s) (offsets s))
+    (first_refused (unless (eqb (kind_at s 0) 1) 8)
+    (first_refused (first (ruled Values s) (offsets s))
+    (first_refused (first (ruled Choices s) (offsets s))
     (unless (leb (48 * length (offsets s)) room) 9))))))

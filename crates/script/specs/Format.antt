@@ -3,17 +3,17 @@
 use Rattle.std.specs.Prelude.{ℕ, ◌+◌, List, [], ◌∷◌, ◌++◌, map, eqb, get_or, replicate}
 use Rattle.isa.specs.Choice.{pick}
 use Rattle.cpu.specs.declared.Options.{Options}
-use Rattle.machine.specs.Events.{Input, power, named, eventOf}
+use Rattle.machine.specs.Events.{Input, power, named, event_of}
 use Rattle.machine.specs.declared.events.Event.TheVariants.{Run, Pins, Int, Tmclk, Res}
 use Rattle.machine.specs.declared.events.Named.TheVariants.{Known, Unknown}
-use Rattle.records.specs.Records.{word_at, kind_at, payloadAt, offsets, twoBytes}
+use Rattle.records.specs.Records.{word_at, kind_at, payload_at, offsets, two_bytes}
 use Rattle.records.specs.declared.Size.{Size}
 use Rattle.records.specs.declared.Size.TheVariants.{Of, UnknownKind}
 use Rattle.script.specs.declared.Record.{Record}
 use Rattle.script.specs.declared.Record.TheVariants.{Power, Other}
 
-abbrev pub optionsAt : List ℕ → ℕ → Options
-optionsAt s at = record { rate = payloadAt s at 0; commons = payloadAt s at 1; pm = payloadAt s at 2; ps = payloadAt s at 3; pp = payloadAt s at 4 }
+abbrev pub options_at : List ℕ → ℕ → Options
+options_at s at = record { rate = payload_at s at 0; commons = payload_at s at 1; pm = payload_at s at 2; ps = payload_at s at 3; pp = payload_at s at 4 }
 
 -- "one nibble that fills the image", which has 166
 abbrev pub filled : ℕ → List ℕ
@@ -22,8 +22,8 @@ filled x = replicate 166 x
 -- a power-on, or what the kind names with a payload of a word or of up to three bytes
 unfoldable pub input_at : List ℕ → ℕ → Input
 input_at s at =
-    pick (eqb (kind_at s at) 1) (power (optionsAt s at) (filled (payloadAt s at 5)))
-    (named (eventOf (kind_at s at) (word_at s (at + 4)) (payloadAt s at 0) (payloadAt s at 1) (payloadAt s at 2)))
+    pick (eqb (kind_at s at) 1) (power (options_at s at) (filled (payload_at s at 5)))
+    (named (event_of (kind_at s at) (word_at s (at + 4)) (payload_at s at 0) (payload_at s at 1) (payload_at s at 2)))
 
 -- kinds 1 to 6 by what they name, and the payload length of each: "1 power-on: rate, commons, wake PM, PS, PP, one nibble", "2 Run: two-byte step
 -- count", "3 pins: PM, PS, PP. 4 INT: 0 or 1. 6 RES: empty", "5 TMCLK: two-byte count"
@@ -47,14 +47,14 @@ input_of (Other n) = named n
 -- ---- records written
 -- an input as a record's bytes; an unknown kind has no record
 unfoldable pub written : Input → List ℕ
-written (power o image) = twoBytes 6 ++ (twoBytes 1 ++ (o.rate ∷ o.commons ∷ o.pm ∷ o.ps ∷ o.pp ∷ get_or image 0 0 ∷ []))
-written (named (Known (Run n))) = twoBytes 2 ++ (twoBytes 2 ++ twoBytes n)
-written (named (Known (Pins pm ps pp))) = twoBytes 3 ++ (twoBytes 3 ++ (pm ∷ ps ∷ pp ∷ []))
-written (named (Known (Int level))) = twoBytes 1 ++ (twoBytes 4 ++ (level ∷ []))
-written (named (Known (Tmclk n))) = twoBytes 2 ++ (twoBytes 5 ++ twoBytes n)
-written (named (Known Res)) = twoBytes 0 ++ twoBytes 6
+written (power o image) = two_bytes 6 ++ (two_bytes 1 ++ (o.rate ∷ o.commons ∷ o.pm ∷ o.ps ∷ o.pp ∷ get_or image 0 0 ∷ []))
+written (named (Known (Run n))) = two_bytes 2 ++ (two_bytes 2 ++ two_bytes n)
+written (named (Known (Pins pm ps pp))) = two_bytes 3 ++ (two_bytes 3 ++ (pm ∷ ps ∷ pp ∷ []))
+written (named (Known (Int level))) = two_bytes 1 ++ (two_bytes 4 ++ (level ∷ []))
+written (named (Known (Tmclk n))) = two_bytes 2 ++ (two_bytes 5 ++ two_bytes n)
+written (named (Known Res)) = two_bytes 0 ++ two_bytes 6
 written (named Unknown) = []
 
-unfoldable pub writtenAll : List Input → List ℕ
-writtenAll [] = []
-writtenAll (i ∷ is) = written i ++ writtenAll is
+unfoldable pub written_all : List Input → List ℕ
+written_all [] = []
+written_all (i ∷ is) = written i ++ written_all is

@@ -7,6 +7,6 @@ abbrev pub digit : ℕ → ℕ
 digit d = pick (ltb d 10) (48 + d) (55 + d)
 
 -- two digits a byte, and a newline
-unfoldable pub hexLine : List ℕ → List ℕ
-hexLine [] = 10 ∷ []
-hexLine (x ∷ xs) = digit (x / 16) ∷ digit (x % 16) ∷ hexLine xs
+unfoldable pub hex_line : List ℕ → List ℕ
+hex_line [] = 10 ∷ []
+hex_line (x ∷ xs) = digit (x / 16) ∷ digit (x % 16) ∷ hex_line xs

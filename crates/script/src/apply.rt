@@ -1,13 +1,13 @@
 // Applying a script's records to a machine, each with its report.
 ghost use Rattle.std.specs.Prelude.{◌≡◌, ◌++◌, ◌+◌, ◌≤◌, drop, length, take};
 ghost use Rattle.cpu.specs.State.{state};
-ghost use Rattle.machine.specs.Machine.{machine_of, traceOf};
+ghost use Rattle.machine.specs.Machine.{machine_of, trace_of};
 ghost use Rattle.machine.specs.declared.Trace.{Trace};
-ghost use Rattle.machine.specs.Events.{answerTo, namedAnswer};
+ghost use Rattle.machine.specs.Events.{answer_to, named_answer};
 ghost use Rattle.machine.specs.Report.{reported};
 ghost use Rattle.script.specs.Check.{checked};
 ghost use Rattle.script.specs.Format.{input_of};
-ghost use Rattle.script.specs.Reports.{applied, fronted, leaving, next, reportsOf, stepped};
+ghost use Rattle.script.specs.Reports.{applied, fronted, leaving, next, reports_of, stepped};
 
 use crate::check::check_script;
 use crate::format::{format_at, record_at};
@@ -22,7 +22,7 @@ use records::size_at;
 
 // What a machine answers to a record.
 fn answer_to(input: Record, mask: &[u8], machine: Machine) -> Answer
-    ensures { result ≡ answerTo mask.now (input_of input) machine }
+    ensures { result ≡ answer_to mask.now (input_of input) machine }
 {
     match input {
         Record::Power(options, fill) => {
@@ -66,8 +66,8 @@ pub fn step_record(mask: &[u8], script: &[u8], at: usize, machine: Machine) -> P
 
 // What a kind's name makes of a machine whose parts are lent, where nothing is refused.
 fn pass_named(named: Named, cpu: Cpu, mask: &[u8], memory: &mut [u8; MEMORY], gap: &mut u16) -> Cpu
-    requires { (namedAnswer mask.now named (machine_of (state cpu memory.old) (traceOf gap.old))).refusal ≡ 0 }
-    ensures { machine_of (state result memory.new) (traceOf gap.new) ≡ (namedAnswer mask.now named (machine_of (state cpu memory.old) (traceOf gap.old))).machine }
+    requires { (named_answer mask.now named (machine_of (state cpu memory.old) (trace_of gap.old))).refusal ≡ 0 }
+    ensures { machine_of (state result memory.new) (trace_of gap.new) ≡ (named_answer mask.now named (machine_of (state cpu memory.old) (trace_of gap.old))).machine }
 {
     match named {
         Named::Known(event) => happened(cpu, event, mask, memory, gap),
@@ -77,8 +77,8 @@ fn pass_named(named: Named, cpu: Cpu, mask: &[u8], memory: &mut [u8; MEMORY], ga
 
 // What a record makes of it. No test is made again: an accepted script has none that a machine refuses.
 fn pass(input: Record, cpu: Cpu, mask: &[u8], memory: &mut [u8; MEMORY], gap: &mut u16) -> Cpu
-    requires { (answerTo mask.now (input_of input) (machine_of (state cpu memory.old) (traceOf gap.old))).refusal ≡ 0 }
-    ensures { machine_of (state result memory.new) (traceOf gap.new) ≡ next mask.now (input_of input) (machine_of (state cpu memory.old) (traceOf gap.old)) }
+    requires { (answer_to mask.now (input_of input) (machine_of (state cpu memory.old) (trace_of gap.old))).refusal ≡ 0 }
+    ensures { machine_of (state result memory.new) (trace_of gap.new) ≡ next mask.now (input_of input) (machine_of (state cpu memory.old) (trace_of gap.old)) }
 {
     match input {
         Record::Power(options, fill) => filled(options, fill, memory, gap),
@@ -98,7 +98,7 @@ fn put_report(cpu: Cpu, memory: &[u8; MEMORY], out: &mut [u8], at: usize)
 // The reports of an accepted script. The machine goes through it in parts: so no record copies it.
 fn put_reports(mask: &[u8], script: &[u8], out: &mut [u8])
     requires { (checked mask.now script.now (length out.old)).number ≡ 0 }
-    ensures { out.new ≡ fronted (reportsOf mask.now script.now) out.old }
+    ensures { out.new ≡ fronted (reports_of mask.now script.now) out.old }
 {
     let mut at = 0;
     let mut done = 0;

@@ -1,8 +1,8 @@
 // A script's records: the input at an offset, and the payload length of each kind.
 ghost use Rattle.std.specs.Prelude.{◌≡◌, List, ℕ};
 ghost use Rattle.records.specs.Records.{kind_at};
-ghost use Rattle.script.specs.Check.{formatAt};
-ghost use Rattle.script.specs.Format.{input_at, input_of, optionsAt, size_of};
+ghost use Rattle.script.specs.Check.{format_at};
+ghost use Rattle.script.specs.Format.{input_at, input_of, options_at, size_of};
 
 use crate::Record;
 use cpu::Options;
@@ -13,7 +13,7 @@ use records::{Size, cut_off, kind_at, payload_at, size_at, size_refusal};
 pub(crate) const POWER_ON: u16 = 1;
 
 fn options_at(s: &[u8], at: usize) -> Options
-    ensures { result ≡ optionsAt s.now at }
+    ensures { result ≡ options_at s.now at }
 {
     let rate = payload_at(s, at, 0);
     let commons = payload_at(s, at, 1);
@@ -80,7 +80,7 @@ fn size_of(kind: u16) -> Size
 
 // Refusal 6 or 7 of the record at an offset, 0 for none.
 pub(crate) fn format_at(s: &[u8], at: usize) -> u8
-    ensures { result ≡ formatAt s.now at }
+    ensures { result ≡ format_at s.now at }
 {
     if cut_off(s, at) {
         return 6;

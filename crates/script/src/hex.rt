@@ -1,6 +1,6 @@
 // A report as a line of text: 96 upper-case hexadecimal digits and a newline.
 ghost use Rattle.std.specs.Prelude.{◌≡◌, ◌<◌, get_or, length};
-ghost use Rattle.script.specs.Hex.{digit, hexLine};
+ghost use Rattle.script.specs.Hex.{digit, hex_line};
 
 fn digit(d: u8) -> u8
     requires { d < 16 }
@@ -15,7 +15,7 @@ fn digit(d: u8) -> u8
 // Character `i` of the line.
 fn line_byte(report: &[u8], i: usize) -> u8
     requires { (length report.now ≡ 48) × (i < 97) }
-    ensures { result ≡ get_or (hexLine report.now) i 0 }
+    ensures { result ≡ get_or (hex_line report.now) i 0 }
 {
     if i == 96 {
         return 10;
@@ -28,7 +28,7 @@ fn line_byte(report: &[u8], i: usize) -> u8
 }
 
 pub fn hex_line(report: [u8; 48]) -> [u8; 97]
-    ensures { result ≡ hexLine report }
+    ensures { result ≡ hex_line report }
 {
     let mut line = [0u8; 97];
     let mut i = 0;

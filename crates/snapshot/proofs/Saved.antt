@@ -5,11 +5,11 @@ use mathlib.Core.List.{List, ◌++◌, append_assoc}
 use native.Mathlib.Omega.{arith}
 use lib.ListN.{length, take, drop, length-append}
 use lib.Seq.{paste, take-length, take-append_seam, drop-append-add, drop-drop}
-use Rattle.datapath.specs.Memory.{memorySize}
+use Rattle.datapath.specs.Memory.{memory_size}
 use Rattle.cpu.specs.declared.Cpu.{Cpu}
 use Rattle.machine.specs.declared.Machine.{Machine}
-use Rattle.records.specs.Records.{twoBytes}
-use Rattle.snapshot.specs.Snapshot.{savedKind, payloadSize, registerBytes, processorBytes, payload, saved}
+use Rattle.records.specs.Records.{two_bytes}
+use Rattle.snapshot.specs.Snapshot.{saved_kind, payload_size, register_bytes, processor_bytes, payload, saved}
 
 -- the first bytes of a buffer
 pub put_first : (s out : List ℕ) → paste out 0 s (length s) ≡ s ++ drop (length s) out
@@ -26,14 +26,14 @@ put_next front s out =
     ∙ ap (λ (x : List ℕ). (front ++ x) ++ drop (n + length s) out) (take-length s)
 
 -- length and kind, then ACC and R0 to R4; and all after the data memory
-abbrev pub frontOf : Cpu → List ℕ
-frontOf c = twoBytes payloadSize ++ (twoBytes savedKind ++ registerBytes c.registers)
+abbrev pub front_of : Cpu → List ℕ
+front_of c = two_bytes payload_size ++ (two_bytes saved_kind ++ register_bytes c.registers)
 
 abbrev pub rest_of : Machine → List ℕ
-rest_of m = processorBytes m.cpu ++ twoBytes m.trace.gap
+rest_of m = processor_bytes m.cpu ++ two_bytes m.trace.gap
 
 -- a front of ten bytes, a memory and the rest, put one after the other
-pub put_all : (front memory rest out : List ℕ) {a b c : List ℕ} → length front ≡ 10 → length memory ≡ memorySize → length rest ≡ 32
+pub put_all : (front memory rest out : List ℕ) {a b c : List ℕ} → length front ≡ 10 → length memory ≡ memory_size → length rest ≡ 32
     → a ≡ paste out 0 front (length front) → b ≡ paste a 10 memory (length memory) → c ≡ paste b 170 rest (length rest)
     → c ≡ (front ++ (memory ++ rest)) ++ drop 202 out
 put_all front memory rest out {a} {b} {c} f m r p q t =
@@ -48,9 +48,9 @@ put_all front memory rest out {a} {b} {c} f m r p q t =
     next front s n k e h =
         subst (λ (n : ℕ). paste (front ++ drop n out) n s (length s) ≡ (front ++ s) ++ drop (n + length s) out) e (put_next front s out) ∙ ap (λ (k : ℕ). (front ++ s) ++ drop k out) h
 
-module _ (m : Machine) (whole : length m.memory ≡ memorySize) where
-  payload-size : length (payload m) ≡ payloadSize
+module _ (m : Machine) (whole : length m.memory ≡ memory_size) where
+  payload-size : length (payload m) ≡ payload_size
   payload-size = omega (arith, whole, length-append m.memory (rest_of m))
 
-  pub saved-parts : saved m ≡ frontOf m.cpu ++ (m.memory ++ rest_of m)
-  saved-parts = ap (λ (n : ℕ). twoBytes n ++ (twoBytes savedKind ++ payload m)) payload-size
+  pub saved-parts : saved m ≡ front_of m.cpu ++ (m.memory ++ rest_of m)
+  saved-parts = ap (λ (n : ℕ). two_bytes n ++ (two_bytes saved_kind ++ payload m)) payload-size

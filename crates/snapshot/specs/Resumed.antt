@@ -3,7 +3,7 @@
 use Rattle.std.specs.Prelude.{ℕ, ◌≡◌, List, ◌++◌, take}
 use Rattle.rom.specs.Fetching.{Bytes}
 use Rattle.cpu.specs.declared.Options.{Options}
-use Rattle.machine.specs.Power.{powered, powerOn}
+use Rattle.machine.specs.Power.{powered, power_on}
 use Rattle.machine.specs.Events.{Call, Every, Session}
 use Rattle.machine.specs.Property2.{Ruled}
 use Rattle.machine.specs.Gap.{Strayed}
@@ -32,6 +32,6 @@ pub record RuledAsleep (options : Options) (image : List ℕ) (calls : List Call
 -- property 2 and the gap count from an accepted power-on, whatever machine was there before; each Run may have a mask of its own
 abbrev pub ResumedProperty2 : Type 0
 ResumedProperty2 =
-    (options : Options) (image : List ℕ) (before : Machine) (start : Answer) → start ≡ powerOn options image before → start.refusal ≡ 0
+    (options : Options) (image : List ℕ) (before : Machine) (start : Answer) → start ≡ power_on options image before → start.refusal ≡ 0
     → (calls : List Call) (last : Machine) → Every (λ (k : Call). Bytes k.mask) calls → Resumed Session Slept start.machine calls last
     → RuledAsleep options image calls last

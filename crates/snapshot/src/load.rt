@@ -1,9 +1,9 @@
 // A record read as a machine.
 ghost use Rattle.std.specs.Prelude.{◌≡◌, ◌≤◌, drop, length, take};
-ghost use Rattle.datapath.specs.Memory.{memorySize};
+ghost use Rattle.datapath.specs.Memory.{memory_size};
 ghost use Rattle.machine.specs.Power.{blank};
-ghost use Rattle.records.specs.Records.{longAt};
-ghost use Rattle.snapshot.specs.Snapshot.{isSaved, loading, machineFrom, savedSize};
+ghost use Rattle.records.specs.Records.{long_at};
+ghost use Rattle.snapshot.specs.Snapshot.{is_saved, loading, machine_from, saved_size};
 
 use crate::{KIND, PAYLOAD, SAVED};
 use cpu::{Control, Cpu, Interrupts, Options, Outputs, Pins, Registers, Stack, Status, Timer};
@@ -15,16 +15,16 @@ use records::{kind_at, size_at, word_at};
 
 // A number of four bytes, low byte first.
 fn long_at(s: &[u8], i: usize) -> u32
-    requires s_len { length s.now ≡ savedSize }
-    requires i_le_saved_size { i ≤ savedSize }
-    ensures { result ≡ longAt s.now i }
+    requires s_len { length s.now ≡ saved_size }
+    requires i_le_saved_size { i ≤ saved_size }
+    ensures { result ≡ long_at s.now i }
 {
     word_at(s, i) as u32 + 65536 * word_at(s, i + 2) as u32
 }
 
 // Whether length and kind are a saved machine's.
 fn is_saved(bytes: &[u8]) -> bool
-    ensures { result ≡ isSaved bytes.now }
+    ensures { result ≡ is_saved bytes.now }
 {
     if bytes.len() == SAVED {
         if size_at(bytes, 0) == PAYLOAD as usize {
@@ -35,8 +35,8 @@ fn is_saved(bytes: &[u8]) -> bool
 }
 
 fn memory_of(bytes: &[u8]) -> [u8; MEMORY]
-    requires { length bytes.now ≡ savedSize }
-    ensures { result ≡ take memorySize (drop 10 bytes.now) }
+    requires { length bytes.now ≡ saved_size }
+    ensures { result ≡ take memory_size (drop 10 bytes.now) }
 {
     let mut memory = [0u8; MEMORY];
     let mut i = 0;
@@ -48,8 +48,8 @@ fn memory_of(bytes: &[u8]) -> [u8; MEMORY]
 }
 
 fn cpu_of(s: &[u8]) -> Cpu
-    requires { length s.now ≡ savedSize }
-    ensures { result ≡ (machineFrom s.now).cpu }
+    requires { length s.now ≡ saved_size }
+    ensures { result ≡ (machine_from s.now).cpu }
 {
     let registers = Registers {
         acc: s[4],

@@ -1,11 +1,11 @@
 // A machine written as a record.
 ghost use Rattle.std.specs.Prelude.{◌≡◌, ◌++◌, ◌+◌, ◌≤◌, drop, length};
 ghost use Rattle.std.proofs.Math.Seq.{paste};
-ghost use Rattle.datapath.specs.Memory.{memorySize};
+ghost use Rattle.datapath.specs.Memory.{memory_size};
 ghost use Rattle.cpu.specs.State.{state};
-ghost use Rattle.machine.specs.Machine.{machine_of, traceOf};
-ghost use Rattle.records.specs.Records.{twoBytes};
-ghost use Rattle.snapshot.specs.Snapshot.{leaving, payloadSize, processorBytes, registerBytes, saved, savedKind, savedSize, saving};
+ghost use Rattle.machine.specs.Machine.{machine_of, trace_of};
+ghost use Rattle.records.specs.Records.{two_bytes};
+ghost use Rattle.snapshot.specs.Snapshot.{leaving, payload_size, processor_bytes, register_bytes, saved, saved_kind, saved_size, saving};
 
 use crate::{KIND, PAYLOAD, SAVED};
 use cpu::{Cpu, Registers};
@@ -21,14 +21,14 @@ pub struct Saved {
 
 // Before the data memory: length and kind, ACC, R0 to R4.
 fn front(r: Registers) -> [u8; 10]
-    ensures { result ≡ twoBytes payloadSize ++ (twoBytes savedKind ++ registerBytes r) }
+    ensures { result ≡ two_bytes payload_size ++ (two_bytes saved_kind ++ register_bytes r) }
 {
     [PAYLOAD, 0, KIND, 0, r.acc, r.r0, r.r1, r.r2, r.r3, r.r4]
 }
 
 // After the data memory: every other field, and the gap count.
 fn rest(c: Cpu, gap: u16) -> [u8; 32]
-    ensures { result ≡ processorBytes c ++ twoBytes gap }
+    ensures { result ≡ processor_bytes c ++ two_bytes gap }
 {
     let pc = c.control.pc.0;
     let address = c.stack.address.0;
@@ -85,9 +85,9 @@ fn put(bytes: &[u8], at: usize, out: &mut [u8])
 
 // Writes the record of a machine that is in range, from its parts: the memory is lent, not copied.
 fn write(cpu: Cpu, memory: &[u8], gap: u16, out: &mut [u8])
-    requires memory_len { length memory.now ≡ memorySize }
-    requires saved_size_in_bounds { savedSize ≤ length out.old }
-    ensures { out.new ≡ saved (machine_of (state cpu memory.now) (traceOf gap)) ++ drop savedSize out.old }
+    requires memory_len { length memory.now ≡ memory_size }
+    requires saved_size_in_bounds { saved_size ≤ length out.old }
+    ensures { out.new ≡ saved (machine_of (state cpu memory.now) (trace_of gap)) ++ drop saved_size out.old }
 {
     let first = front(cpu.registers);
     let last = rest(cpu, gap);

@@ -4,18 +4,18 @@ use mathlib.Core.Path.{◌≡◌, sym, ap, ◌∙◌}
 use Rattle.rom.specs.Fetching.{Answer, answer_of}
 use Rattle.rom.specs.declared.reader.Fetched.{Fetched}
 use Rattle.abi.specs.Forms.{Named}
-use Rattle.abi.specs.Answers.{packedNamed, readNumber}
+use Rattle.abi.specs.Answers.{packed_named, read_number}
 use borrow.Author.Rules.{rules}
 use Rattle.abi.proofs.read.Statement.{statement}
 use Rattle.abi.proofs.read.Tie as tie
 
 -- the number of the reader's answer, at the answer that an arm knows
-met : (f g : Fetched) (x : Answer) → f ≡ g → answer_of f ≡ x → readNumber (answer_of g) ≡ readNumber x
-met f g x e p = ap (λ (f : Fetched). readNumber (answer_of f)) (sym e) ∙ ap readNumber p
+met : (f g : Fetched) (x : Answer) → f ≡ g → answer_of f ≡ x → read_number (answer_of g) ≡ read_number x
+met f g x e p = ap (λ (f : Fetched). read_number (answer_of f)) (sym e) ∙ ap read_number p
 
 -- the code's three numbers are the definition's
-packs : (n : Named) (m : Named) (size cycles : ℕ) → n ≡ m → packedNamed n size cycles ≡ packedNamed m size cycles
-packs n m size cycles e = ap (λ (n : Named). packedNamed n size cycles) e
+packs : (n : Named) (m : Named) (size cycles : ℕ) → n ≡ m → packed_named n size cycles ≡ packed_named m size cycles
+packs n m size cycles e = ap (λ (n : Named). packed_named n size cycles) e
 
 pub read_spec : {M : Type 1} → statement M
 read_spec =

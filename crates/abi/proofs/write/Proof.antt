@@ -2,14 +2,14 @@
 use mathlib.Core.Path.{◌≡◌, sym, ap, ◌∙◌}
 use Rattle.rom.specs.Writing.{Answer, answer_of}
 use Rattle.rom.specs.declared.encoder.Written.{Written}
-use Rattle.abi.specs.Answers.{writeNumber}
+use Rattle.abi.specs.Answers.{write_number}
 use borrow.Author.Rules.{rules}
 use Rattle.abi.proofs.write.Statement.{statement}
 use Rattle.abi.proofs.write.Tie as tie
 
 -- the number of the encoder's answer, at the answer that an arm knows
-met : (w v : Written) (x : Answer) → w ≡ v → answer_of w ≡ x → writeNumber (answer_of v) ≡ writeNumber x
-met w v x e p = ap (λ (w : Written). writeNumber (answer_of w)) (sym e) ∙ ap writeNumber p
+met : (w v : Written) (x : Answer) → w ≡ v → answer_of w ≡ x → write_number (answer_of v) ≡ write_number x
+met w v x e p = ap (λ (w : Written). write_number (answer_of w)) (sym e) ∙ ap write_number p
 
 pub write_spec : {M : Type 1} → statement M
 write_spec =

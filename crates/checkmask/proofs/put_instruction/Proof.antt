@@ -3,14 +3,14 @@ use Prim.Native.Nat.{◌≤◌}
 use mathlib.Core.Path.{sym}
 use lib.ListN.{length}
 use lib.Seq.{length-take-le}
-use Rattle.mnemonic.specs.Line.{textOf}
+use Rattle.mnemonic.specs.Line.{text_of}
 use Rattle.mnemonic.proofs.Padding.{inside}
 use borrow.Author.Rules.{rules}
 use Rattle.checkmask.proofs.put_instruction.Statement.{statement}
 use Rattle.checkmask.proofs.put_instruction.Tie as tie
 
 room : (c : tie.After-text-of) → c.text_of.result.length ≤ length c.text_of.result.bytes
-room c = inside c.text_of.result (textOf c.before.args.instruction) c.text_of.ensures
+room c = inside c.text_of.result (text_of c.before.args.instruction) c.text_of.ensures
 
 slice-aggregate-put : tie.Need-slice-aggregate-put
 slice-aggregate-put c = let t = c.before.before in sym (length-take-le t.text_of.result.length t.text_of.result.bytes (room t))

@@ -2,11 +2,11 @@
 use Prim.Native.Nat.{◌<◌}
 use native.Mathlib.Omega.{arith}
 use borrow.Author.Rules.{rules}
-use Rattle.bound.specs.Lists.{boundsSize}
+use Rattle.bound.specs.Lists.{bounds_size}
 use Rattle.checkmask.proofs.put_wait.Statement.{statement}
 use Rattle.checkmask.proofs.put_wait.Tie as tie
 
-within : (c : tie.After-largest) → c.largest.result < boundsSize
+within : (c : tie.After-largest) → c.largest.result < bounds_size
 within c = let e = c.before.before.requires in let h = c.largest.ensures.below (omega arith) in omega arith
 
 pub put-wait-spec : {M : Type 1} → statement M

@@ -3,13 +3,13 @@ use Prim.Native.Nat.{ℕ, ◌+◌, ◌-◌}
 use mathlib.Core.Path.{◌≡◌, ap}
 use native.Mathlib.Omega.{arith}
 use lib.ListN.{length}
-use Rattle.records.specs.Records.{offsetsFrom, offsets}
+use Rattle.records.specs.Records.{offsets_from, offsets}
 use Rattle.records.proofs.Offsets.{from_end, from_next, few}
 use Rattle.records.proofs.count.Statement.{statement}
 use Rattle.records.proofs.count.Tie as tie
 
 abbrev invariant-loop : tie.invariant-loop
-invariant-loop s at₀ n₀ at n = n + length (offsetsFrom s at) ≡ length (offsets s)
+invariant-loop s at₀ n₀ at n = n + length (offsets_from s at) ≡ length (offsets s)
 
 abbrev decreases-loop : tie.decreases-loop
 decreases-loop s at₀ n₀ at n = length s - at
@@ -22,7 +22,7 @@ loop-again c =
     let l = c.before.before in
     let s = l.before.before.args.s.now in
     let e = ap length (from_next s l.loop.at c.before.loop-test.true) in
-    let n = ap (λ (n : ℕ). length (offsetsFrom s (l.loop.at + 4 + n))) c.size-at.ensures.0 in
+    let n = ap (λ (n : ℕ). length (offsets_from s (l.loop.at + 4 + n))) c.size-at.ensures.0 in
     omega arith
 
 returns : tie.Need-returns invariant-loop decreases-loop

@@ -2,7 +2,7 @@
 -- Assumes nothing.
 use mathlib.Core.Path.{ap, ◌∙◌}
 use Rattle.isa.specs.declared.Instruction.TheVariants as I
-use Rattle.abi.specs.Answers.{writingBy}
+use Rattle.abi.specs.Answers.{writing_by}
 use Rattle.abi.specs.Forms.{forms, named}
 use Rattle.abi.proofs.Arms.{at, at_both, past, no_pointer, no-port, no-page, no-form}
 use borrow.Author.Rules.{rules}
@@ -58,7 +58,7 @@ instruction-of-spec =
     -- INC [R3R2]
     (λ c. at_both _ 18 _ 1 _ c.before.match.keys19 c.match2.keys2)
     -- no such pair
-    (λ c. c.unnamed.ensures ∙ ap writingBy (no_pointer I.IncM _ (past 2 _ c.before.match2.rest)) ∙ at _ 18 _ _ c.before.before.match.keys19)
+    (λ c. c.unnamed.ensures ∙ ap writing_by (no_pointer I.IncM _ (past 2 _ c.before.match2.rest)) ∙ at _ 18 _ _ c.before.before.match.keys19)
     -- DEC A
     (λ c. at _ 19 _ _ c.match.keys20)
     -- DEC Rn
@@ -68,7 +68,7 @@ instruction-of-spec =
     -- DEC [R3R2]
     (λ c. at_both _ 21 _ 1 _ c.before.match.keys22 c.match3.keys2)
     -- no such pair
-    (λ c. c.unnamed2.ensures ∙ ap writingBy (no_pointer I.DecM _ (past 2 _ c.before.match3.rest)) ∙ at _ 21 _ _ c.before.before.match.keys22)
+    (λ c. c.unnamed2.ensures ∙ ap writing_by (no_pointer I.DecM _ (past 2 _ c.before.match3.rest)) ∙ at _ 21 _ _ c.before.before.match.keys22)
     -- MOV A,Rn
     (λ c. at _ 22 _ _ c.match.keys23)
     -- MOV Rn,A
@@ -78,13 +78,13 @@ instruction-of-spec =
     -- MOV A,[R3R2]
     (λ c. at_both _ 24 _ 1 _ c.before.match.keys25 c.match4.keys2)
     -- no such pair
-    (λ c. c.unnamed3.ensures ∙ ap writingBy (no_pointer I.MovAM _ (past 2 _ c.before.match4.rest)) ∙ at _ 24 _ _ c.before.before.match.keys25)
+    (λ c. c.unnamed3.ensures ∙ ap writing_by (no_pointer I.MovAM _ (past 2 _ c.before.match4.rest)) ∙ at _ 24 _ _ c.before.before.match.keys25)
     -- MOV [R1R0],A
     (λ c. at_both _ 25 _ 0 _ c.before.match.keys26 c.match5.keys1)
     -- MOV [R3R2],A
     (λ c. at_both _ 25 _ 1 _ c.before.match.keys26 c.match5.keys2)
     -- no such pair
-    (λ c. c.unnamed4.ensures ∙ ap writingBy (no_pointer I.MovMA _ (past 2 _ c.before.match5.rest)) ∙ at _ 25 _ _ c.before.before.match.keys26)
+    (λ c. c.unnamed4.ensures ∙ ap writing_by (no_pointer I.MovMA _ (past 2 _ c.before.match5.rest)) ∙ at _ 25 _ _ c.before.before.match.keys26)
     -- MOV A,XH
     (λ c. at _ 26 _ _ c.match.keys27)
     -- MOV pair,XXH
@@ -106,7 +106,7 @@ instruction-of-spec =
     -- IN A,PP
     (λ c. at_both _ 33 _ 2 _ c.before.match.keys34 c.match6.keys3)
     -- no such port
-    (λ c. c.unnamed5.ensures ∙ ap writingBy (no-port I.InA _ (past 3 _ c.before.match6.rest)) ∙ at _ 33 _ _ c.before.before.match.keys34)
+    (λ c. c.unnamed5.ensures ∙ ap writing_by (no-port I.InA _ (past 3 _ c.before.match6.rest)) ∙ at _ 33 _ _ c.before.before.match.keys34)
     -- OUT PA,A
     (λ c. at _ 34 _ _ c.match.keys35)
     -- JMP
@@ -148,13 +148,13 @@ instruction-of-spec =
     -- READF R4A
     (λ c. at_both _ 52 _ 1 _ c.before.match.keys53 c.match7.keys2)
     -- no such page
-    (λ c. c.unnamed6.ensures ∙ ap writingBy (no-page I.ReadR4A _ (past 2 _ c.before.match7.rest)) ∙ at _ 52 _ _ c.before.before.match.keys53)
+    (λ c. c.unnamed6.ensures ∙ ap writing_by (no-page I.ReadR4A _ (past 2 _ c.before.match7.rest)) ∙ at _ 52 _ _ c.before.before.match.keys53)
     -- READ MR0A
     (λ c. at_both _ 53 _ 0 _ c.before.match.keys54 c.match8.keys1)
     -- READF MR0A
     (λ c. at_both _ 53 _ 1 _ c.before.match.keys54 c.match8.keys2)
     -- no such page
-    (λ c. c.unnamed7.ensures ∙ ap writingBy (no-page I.ReadMr0A _ (past 2 _ c.before.match8.rest)) ∙ at _ 53 _ _ c.before.before.match.keys54)
+    (λ c. c.unnamed7.ensures ∙ ap writing_by (no-page I.ReadMr0A _ (past 2 _ c.before.match8.rest)) ∙ at _ 53 _ _ c.before.before.match.keys54)
     -- SOUND n
     (λ c. at _ 54 _ _ c.match.keys55)
     -- SOUND A
@@ -168,4 +168,4 @@ instruction-of-spec =
     -- HALT
     (λ c. at _ 59 _ _ c.match.keys60)
     -- no such form
-    (λ c. c.unnamed8.ensures ∙ ap writingBy (no-form _ _ _ (past 60 _ c.before.match.rest))))
+    (λ c. c.unnamed8.ensures ∙ ap writing_by (no-form _ _ _ (past 60 _ c.before.match.rest))))

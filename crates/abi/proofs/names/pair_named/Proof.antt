@@ -5,15 +5,15 @@ use native.Mathlib.Omega.{arith}
 use borrow.Author.Tests.{lt-ltb, le-ltb}
 use Rattle.isa.specs.declared.Pointer.{Pointer}
 use Rattle.isa.specs.declared.Instruction.TheVariants as I
-use Rattle.abi.specs.Forms.{pairNamed}
-use Rattle.abi.specs.Answers.{writingBy}
+use Rattle.abi.specs.Forms.{pair_named}
+use Rattle.abi.specs.Answers.{writing_by}
 use Rattle.abi.proofs.Arms.{past, no_pointer}
 use borrow.Author.Rules.{rules}
 use Rattle.abi.proofs.names.pair_named.Statement.{statement}
 use Rattle.abi.proofs.names.pair_named.Tie as tie
 
 pub pair-named-spec : {M : Type 1} → statement M
-unfolding pairNamed
+unfolding pair_named
 pair-named-spec =
     tie.close
     (tie.spec
@@ -29,4 +29,4 @@ pair-named-spec =
     (λ c.
     let b = c.before.before.before.args.b in
     c.unnamed2.ensures
-    ∙ rw (lt-ltb b 256 (omega arith)) (ap writingBy (no_pointer (λ (p : Pointer). I.MovPairXX p (b % 16) (b / 16)) _ (past 2 _ c.before.match.rest)))))
+    ∙ rw (lt-ltb b 256 (omega arith)) (ap writing_by (no_pointer (λ (p : Pointer). I.MovPairXX p (b % 16) (b / 16)) _ (past 2 _ c.before.match.rest)))))

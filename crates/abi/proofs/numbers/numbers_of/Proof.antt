@@ -2,18 +2,18 @@
 use Prim.Native.Nat.{ℕ, ◌+◌, ◌*◌}
 use mathlib.Core.Path.{◌≡◌, sym, ap, ◌∙◌}
 use Rattle.isa.specs.declared.Instruction.{Instruction}
-use Rattle.abi.specs.Forms.{numbers, numbersOf}
+use Rattle.abi.specs.Forms.{numbers, numbers_of}
 use borrow.Author.Rules.{rules}
 use Rattle.abi.proofs.numbers.numbers_of.Statement.{statement}
 use Rattle.abi.proofs.numbers.numbers_of.Tie as tie
 
 -- an arm knows the instruction
-arm : {i j : Instruction} → i ≡ j → numbersOf j ≡ numbersOf i
-arm e = sym (ap numbersOf e)
+arm : {i j : Instruction} → i ≡ j → numbers_of j ≡ numbers_of i
+arm e = sym (ap numbers_of e)
 
 -- the needs in the order of the code: first what is known of each arm and each call, then the arms' answers
 pub numbers-of-spec : {M : Type 1} → statement M
-unfolding numbersOf
+unfolding numbers_of
 numbers-of-spec =
     tie.close
     (tie.spec

@@ -1,15 +1,15 @@
 -- `assembler::forms::form_of` meets its contract: its list is the forms' keys, which antt computes. Assumes nothing.
 use borrow.Author.Rules.{rules}
 use Rattle.mnemonic.specs.Line.{line_of}
-use Rattle.operand.specs.Words.{fixedWords, isFixed}
-use Rattle.operand.specs.Read.{signKind, wordKind}
+use Rattle.operand.specs.Words.{fixed_words, is_fixed}
+use Rattle.operand.specs.Read.{sign_kind, word_kind}
 use Rattle.assembler.specs.Forms.{forms}
-use Rattle.assembler.specs.Shapes.{formKeys}
+use Rattle.assembler.specs.Shapes.{form_keys}
 use Rattle.assembler.proofs.forms.form_of.Statement.{statement}
 use Rattle.assembler.proofs.forms.form_of.Tie as tie
 
 returns : tie.Need-returns
-unfolding formKeys forms line_of wordKind signKind isFixed fixedWords
+unfolding form_keys forms line_of word_kind sign_kind is_fixed fixed_words
 returns c = c.place.ensures
 
 pub form-of-spec : {M : Type 1} → statement M

@@ -3,10 +3,10 @@ use Prim.Native.Nat.{ℕ}
 use mathlib.Core.Path.{refl, sym, ap, subst, ◌∙◌}
 use native.Mathlib.Omega.{arith}
 use borrow.Author.Rules.{rules}
-use Rattle.operand.specs.Read.{names_at, tokensAt}
+use Rattle.operand.specs.Read.{names_at, tokens_at}
 use Rattle.operand.proofs.Lexing.{lexed}
 use Rattle.assembler.specs.Statement.{Statement}
-use Rattle.assembler.specs.Read.{Shows, bodied, empty, labelIn}
+use Rattle.assembler.specs.Read.{Shows, bodied, empty, label_in}
 use Rattle.assembler.proofs.Keys.{keys-most}
 use Rattle.assembler.proofs.Lining.{blank-line, headed-within, line-body, not-nothing}
 use Rattle.assembler.proofs.lines.read_line.Statement.{statement}
@@ -30,10 +30,10 @@ returns-2 c = let s = c.before.before.before.before.before.before.before.before.
     let text = s.args.text.now in
     let name = c.before.before.before.labelling in
     let h = c.before.before.heading in
-    let e = line-body text (tokensAt text s.args.at) name.result h.result
+    let e = line-body text (tokens_at text s.args.at) name.result h.result
     (not-nothing (lexed text _ s.requires.0 c.before.before.before.before.before.token.ensures).next c.before.before.before.before.if1.false) name.ensures
     h.ensures
-    ∙ ap (λ (n : ℕ). bodied n (labelIn text name.result.present name.result.start) (tokensAt text h.result.next))
+    ∙ ap (λ (n : ℕ). bodied n (label_in text name.result.present name.result.start) (tokens_at text h.result.next))
     (sym c.before.form_of.ensures) in
     subst (λ (st : Statement). Shows text (names_at s.args.text.now s.args.starts.now s.args.above)
     (names_at s.args.text.now s.args.starts.now s.args.all) s.args.addresses.now st c.body.result) (sym e)

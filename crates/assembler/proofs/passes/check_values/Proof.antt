@@ -4,10 +4,10 @@ use mathlib.Core.Path.{refl, sym, ap, ◌∙◌}
 use native.Mathlib.Omega.{arith}
 use borrow.Author.Rules.{rules}
 use lib.ListN.{length}
-use Rattle.operand.specs.Read.{tokensAt}
+use Rattle.operand.specs.Read.{tokens_at}
 use Rattle.assembler.specs.Statement as Statement
 use Rattle.assembler.specs.Program.{end, misfit, next, program, start}
-use Rattle.assembler.specs.Shapes.{sizeIn}
+use Rattle.assembler.specs.Shapes.{size_in}
 use Rattle.assembler.proofs.Settling.{Valuing, goes, going-most, going_on, misfit-is}
 use Rattle.assembler.proofs.Splitting.{end-within}
 use Rattle.assembler.proofs.Walking.{walk-clear, walk-few, walk-found, walk-past}
@@ -31,7 +31,7 @@ read-line-requires c κs = let s = c.before.before.before.before in
 misfits-requires : tie.Need-misfits-requires invariant-loop decreases-loop
 misfits-requires c κs = let s = c.before.before.before.before.before.before.before.before in let m = going-most s.requires
     c.before.before.before.before.loop.invariant.going c.before.before.before.read-line.ensures c.before.before.address-of.result
-    c.type_size.result c.before.before.address-of.ensures (c.type_size.ensures ∙ ap sizeIn c.before.shape_of.ensures) in (m.0, m.1)
+    c.type_size.result c.before.before.address-of.ensures (c.type_size.ensures ∙ ap size_in c.before.shape_of.ensures) in (m.0, m.1)
 
 returns : tie.Need-returns invariant-loop decreases-loop
 returns c = let s = c.before.before.before.before.before.before.before.before.before.before in
@@ -40,7 +40,7 @@ returns c = let s = c.before.before.before.before.before.before.before.before.be
     (misfit-is s.requires c.before.before.before.before.before.before.loop.invariant.going
     c.before.before.before.before.before.read-line.ensures c.before.before.before.before.address-of.result
     c.before.before.type_size.result c.before.before.before.before.address-of.ensures
-    (c.before.before.type_size.ensures ∙ ap sizeIn c.before.before.before.shape_of.ensures) c.before.before.before.shape_of.result
+    (c.before.before.type_size.ensures ∙ ap size_in c.before.before.before.shape_of.ensures) c.before.before.before.shape_of.result
     c.before.before.before.shape_of.ensures ∙ sym c.before.misfits.ensures ∙ c.if1.true)
 
 counted-requires : tie.Need-counted-requires invariant-loop decreases-loop
@@ -59,7 +59,7 @@ add-address c = let s = c.before.before.before.before.before.before.before.befor
   (going-most s.requires c.before.before.before.before.before.before.before.loop.invariant.going
       c.before.before.before.before.before.before.read-line.ensures c.before.before.before.before.before.address-of.result
       c.before.before.before.type_size.result c.before.before.before.before.before.address-of.ensures
-      (c.before.before.before.type_size.ensures ∙ ap sizeIn c.before.before.before.before.shape_of.ensures)).2,
+      (c.before.before.before.type_size.ensures ∙ ap size_in c.before.before.before.before.shape_of.ensures)).2,
 )
 
 returns-2 : tie.Need-returns-2 invariant-loop decreases-loop
@@ -70,7 +70,7 @@ returns-2 c = let s = c.before.before.before.before.before.before.before.before.
     c.before.before.before.before.before.before.before.before.read-line.ensures
     c.before.before.before.before.before.before.before.address-of.result c.before.before.before.before.before.type_size.result
     c.before.before.before.before.before.before.before.address-of.ensures
-    (c.before.before.before.before.before.type_size.ensures ∙ ap sizeIn
+    (c.before.before.before.before.before.type_size.ensures ∙ ap size_in
     c.before.before.before.before.before.before.shape_of.ensures) c.before.before.before.before.before.before.shape_of.result
     c.before.before.before.before.before.before.shape_of.ensures ∙ sym c.before.before.before.before.misfits.ensures
     ∙ c.before.before.before.if1.false)
@@ -108,12 +108,12 @@ loop-again c = let s = c.before.before.before.before.before.before.before.before
     v.going.walk.within in
     record {
       s = next v.s (Statement.statement
-          (tokensAt s.args.text.now c.before.before.before.before.before.before.before.before.before.loop.at));
+          (tokens_at s.args.text.now c.before.before.before.before.before.before.before.before.before.loop.at));
       going = going_on s.requires c.before.before.before.before.before.before.before.before.before.loop.invariant.going
           c.before.before.before.before.before.before.before.before.read-line.ensures
           c.before.before.before.before.before.before.before.address-of.result c.before.before.before.before.before.type_size.result
           c.before.before.before.before.before.before.before.address-of.ensures
-          (c.before.before.before.before.before.type_size.ensures ∙ ap sizeIn
+          (c.before.before.before.before.before.type_size.ensures ∙ ap size_in
           c.before.before.before.before.before.before.shape_of.ensures) c.before.before.counted.result e.result
           c.before.before.counted.ensures e.ensures (omega (arith, e.ensures));
       found = walk-past v.going.walk (misfit (end start (program s.args.text.now))) v.found
@@ -121,7 +121,7 @@ loop-again c = let s = c.before.before.before.before.before.before.before.before
           c.before.before.before.before.before.before.before.before.read-line.ensures
           c.before.before.before.before.before.before.before.address-of.result c.before.before.before.before.before.type_size.result
           c.before.before.before.before.before.before.before.address-of.ensures
-          (c.before.before.before.before.before.type_size.ensures ∙ ap sizeIn
+          (c.before.before.before.before.before.type_size.ensures ∙ ap size_in
           c.before.before.before.before.before.before.shape_of.ensures)
           c.before.before.before.before.before.before.shape_of.result c.before.before.before.before.before.before.shape_of.ensures
           ∙ sym c.before.before.before.before.misfits.ensures ∙ c.before.before.before.if1.false)

@@ -4,13 +4,13 @@ use mathlib.Core.Path.{◌≡◌, refl, sym, ◌∙◌}
 use native.Mathlib.Numerals.{add-one}
 use native.Mathlib.Omega.{arith}
 use lib.ListN.{length}
-use Rattle.assembler.specs.Passing.{lineEnd}
+use Rattle.assembler.specs.Passing.{line_end}
 use Rattle.assembler.proofs.Splitting.{end-here, end_on, end-past}
 use Rattle.assembler.proofs.passes.line_end.Statement.{statement}
 use Rattle.assembler.proofs.passes.line_end.Tie as tie
 
 abbrev invariant-loop : tie.invariant-loop
-invariant-loop text at i₀ i = (at ≤ i) × (i ≤ length text) × (lineEnd text i ≡ lineEnd text at)
+invariant-loop text at i₀ i = (at ≤ i) × (i ≤ length text) × (line_end text i ≡ line_end text at)
 
 abbrev decreases-loop : tie.decreases-loop
 decreases-loop text at i₀ i = length text - i

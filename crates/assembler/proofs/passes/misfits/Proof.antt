@@ -7,11 +7,11 @@ use borrow.Author.Rules.{rules}
 use borrow.Author.Tests.{eq-eqb, le-leb, le-ltb, lt-leb, lt-ltb, ne_eqb}
 use lib.Dec.{eqb, ltb}
 use Rattle.operand.proofs.Texts.{case}
-use Rattle.assembler.specs.Shapes.{digitsIn}
+use Rattle.assembler.specs.Shapes.{digits_in}
 use Rattle.assembler.proofs.passes.misfits.Statement.{statement}
 use Rattle.assembler.proofs.passes.misfits.Tie as tie
 
-few-digits : (s : ℕ) → digitsIn s < 4
+few-digits : (s : ℕ) → digits_in s < 4
 few-digits s = case (ltb s 3)
     (λ a. rw a (omega arith))
     (λ a. rw a (case (ltb s 5) (λ b. rw b (omega arith)) (λ b. rw b (case (ltb s 7) (λ d. rw d (omega arith)) (λ d. rw d (omega arith))))))
@@ -32,7 +32,7 @@ returns-3 c = let a = c.before.before.before.before.before.args in
       lt-ltb 0 a.size (omega arith),
       le-leb a.minus a.plus c.before.before.before.if2.false,
       le-ltb (a.plus - a.minus)
-          (16 ^ digitsIn a.shape) (omega (arith, v)),
+          (16 ^ digits_in a.shape) (omega (arith, v)),
     ) refl
 
 returns-4 : tie.Need-returns-4
@@ -41,7 +41,7 @@ returns-4 c = let a = c.before.before.before.before.before.before.args in
     rw (
       lt-ltb 0 a.size (omega arith),
       le-leb a.minus a.plus c.before.before.before.before.if2.false,
-      lt-ltb (a.plus - a.minus) (16 ^ digitsIn a.shape) (omega (arith, v)),
+      lt-ltb (a.plus - a.minus) (16 ^ digits_in a.shape) (omega (arith, v)),
       ne_eqb a.shape 7 c.if4.true,
     ) refl
 
@@ -52,7 +52,7 @@ returns-5 c = let a = c.before.before.before.before.before.before.before.args in
     ∙ rw (
       lt-ltb 0 a.size (omega arith),
       le-leb a.minus a.plus c.before.before.before.before.before.if2.false,
-      lt-ltb (a.plus - a.minus) (16 ^ digitsIn a.shape) (omega (arith, v)),
+      lt-ltb (a.plus - a.minus) (16 ^ digits_in a.shape) (omega (arith, v)),
       eq-eqb a.shape 7 c.before.if4.false,
     ) refl
 

@@ -5,8 +5,8 @@ use native.Mathlib.Omega.{arith}
 use borrow.Author.Rules.{rules}
 use borrow.Author.Tests.{not-false, not-true}
 use lib.ListN.{length, length-replicate}
-use Rattle.assembler.specs.Forms.{romSize}
-use Rattle.assembler.specs.Shapes.{sizeIn}
+use Rattle.assembler.specs.Forms.{rom_size}
+use Rattle.assembler.specs.Shapes.{size_in}
 use Rattle.assembler.proofs.Placing.{Placing, crowded, end-most, here-most, label-room, place-on, placed, places, same-room, stray}
 use Rattle.assembler.proofs.Splitting.{end-within}
 use Rattle.assembler.proofs.Walking.{walk-few}
@@ -32,7 +32,7 @@ same_length c = c.before.before.before.before.loop.invariant.1
 
 same-length-2 : tie.Need-same-length-2 invariant-loop decreases-loop
 same-length-2 c = c.before.before.before.before.loop.invariant.0.flag-count ∙ sym
-    (ap length c.before.before.before.before.before.before.before.before.before.requires.1 ∙ length-replicate {A = ℕ} romSize 0)
+    (ap length c.before.before.before.before.before.before.before.before.before.requires.1 ∙ length-replicate {A = ℕ} rom_size 0)
 
 returns : tie.Need-returns invariant-loop decreases-loop
 returns c = (
@@ -48,7 +48,7 @@ free-requires c κs =
     c.before.before.before.before.before.before.read-line.ensures
     (sym c.before.before.before.before.before.strays.ensures ∙ c.before.before.before.before.if1.false)
     c.before.before.before.address-of.result c.before.type_size.result c.before.before.before.address-of.ensures
-    (c.before.type_size.ensures ∙ ap sizeIn c.before.before.shape_of.ensures)
+    (c.before.type_size.ensures ∙ ap size_in c.before.before.shape_of.ensures)
 
 same-length-3 : tie.Need-same-length-3 invariant-loop decreases-loop
 same-length-3 c = c.before.before.before.before.before.before.before.before.before.before.loop.invariant.1
@@ -56,7 +56,7 @@ same-length-3 c = c.before.before.before.before.before.before.before.before.befo
 same-length-4 : tie.Need-same-length-4 invariant-loop decreases-loop
 same-length-4 c = c.before.before.before.before.before.before.before.before.before.before.loop.invariant.0.flag-count ∙ sym
     (ap length c.before.before.before.before.before.before.before.before.before.before.before.before.before.before.before.requires.1
-    ∙ length-replicate {A = ℕ} romSize 0)
+    ∙ length-replicate {A = ℕ} rom_size 0)
 
 returns-2 : tie.Need-returns-2 invariant-loop decreases-loop
 returns-2 c = (
@@ -65,7 +65,7 @@ returns-2 c = (
       (sym c.before.before.before.before.before.before.before.strays.ensures
       ∙ c.before.before.before.before.before.before.if1.false) c.before.before.before.before.before.address-of.result
       c.before.before.before.type_size.result c.before.before.before.before.before.address-of.ensures
-      (c.before.before.before.type_size.ensures ∙ ap sizeIn c.before.before.before.before.shape_of.ensures)
+      (c.before.before.before.type_size.ensures ∙ ap size_in c.before.before.before.before.shape_of.ensures)
       (sym c.before.free.ensures ∙ not-true _ c.if2.true),
   λ z. absurd (omega (arith, c.before.before.before.before.before.before.before.before.before.before.loop.invariant.0.walk.some_number)),
 )
@@ -76,7 +76,7 @@ note-requires c κs =
     let room =
     label-room g c.before.before.before.before.before.before.before.before.before.read-line.ensures (sym c.before.before.before.before.before.before.before.before.strays.ensures ∙ c.before.before.before.before.before.before.before.if1.false)
     c.before.before.before.before.before.before.address-of.result c.before.before.before.before.type_size.result c.before.before.before.before.before.before.address-of.ensures
-    (c.before.before.before.before.type_size.ensures ∙ ap sizeIn c.before.before.before.before.before.shape_of.ensures)
+    (c.before.before.before.before.type_size.ensures ∙ ap size_in c.before.before.before.before.before.shape_of.ensures)
     (sym c.before.before.free.ensures ∙ not-false _ c.before.if2.false) in
     (room, omega (arith, walk-few g.walk g.settled, g.settled.room, g.settled.most))
 
@@ -84,12 +84,12 @@ add-store : tie.Need-overflow-add-store invariant-loop decreases-loop
 add-store c = omega (
   arith,
   end-most
-      c.before.before.before.before.before.before.before.before.before.before.before.before.before.before.before.before.before.before.before.loop.invariant.0 c.before.before.before.before.before.before.before.before.before.before.before.before.before.before.before.before.before.read-line.ensures (sym c.before.before.before.before.before.before.before.before.before.before.before.before.before.before.before.before.strays.ensures ∙ c.before.before.before.before.before.before.before.before.before.before.before.before.before.before.before.if1.false) c.before.before.before.before.before.before.before.before.before.before.before.before.before.before.address-of.result c.before.before.before.before.before.before.before.before.before.before.before.before.type_size.result c.before.before.before.before.before.before.before.before.before.before.before.before.before.before.address-of.ensures (c.before.before.before.before.before.before.before.before.before.before.before.before.type_size.ensures ∙ ap sizeIn c.before.before.before.before.before.before.before.before.before.before.before.before.before.shape_of.ensures) (sym c.before.before.before.before.before.before.before.before.before.before.free.ensures ∙ not-false _ c.before.before.before.before.before.before.before.before.before.if2.false),
+      c.before.before.before.before.before.before.before.before.before.before.before.before.before.before.before.before.before.before.before.loop.invariant.0 c.before.before.before.before.before.before.before.before.before.before.before.before.before.before.before.before.before.read-line.ensures (sym c.before.before.before.before.before.before.before.before.before.before.before.before.before.before.before.before.strays.ensures ∙ c.before.before.before.before.before.before.before.before.before.before.before.before.before.before.before.if1.false) c.before.before.before.before.before.before.before.before.before.before.before.before.before.before.address-of.result c.before.before.before.before.before.before.before.before.before.before.before.before.type_size.result c.before.before.before.before.before.before.before.before.before.before.before.before.before.before.address-of.ensures (c.before.before.before.before.before.before.before.before.before.before.before.before.type_size.ensures ∙ ap size_in c.before.before.before.before.before.before.before.before.before.before.before.before.before.shape_of.ensures) (sym c.before.before.before.before.before.before.before.before.before.before.free.ensures ∙ not-false _ c.before.before.before.before.before.before.before.before.before.if2.false),
 )
 
 add-address : tie.Need-overflow-add-address invariant-loop decreases-loop
 add-address c = omega
-    (arith, end-most c.before.before.before.before.before.before.before.before.before.before.before.before.before.before.before.before.before.before.before.before.before.before.loop.invariant.0 c.before.before.before.before.before.before.before.before.before.before.before.before.before.before.before.before.before.before.before.before.read-line.ensures (sym c.before.before.before.before.before.before.before.before.before.before.before.before.before.before.before.before.before.before.before.strays.ensures ∙ c.before.before.before.before.before.before.before.before.before.before.before.before.before.before.before.before.before.before.if1.false) c.before.before.before.before.before.before.before.before.before.before.before.before.before.before.before.before.before.address-of.result c.before.before.before.before.before.before.before.before.before.before.before.before.before.before.before.type_size.result c.before.before.before.before.before.before.before.before.before.before.before.before.before.before.before.before.before.address-of.ensures (c.before.before.before.before.before.before.before.before.before.before.before.before.before.before.before.type_size.ensures ∙ ap sizeIn c.before.before.before.before.before.before.before.before.before.before.before.before.before.before.before.before.shape_of.ensures) (sym c.before.before.before.before.before.before.before.before.before.before.before.before.before.free.ensures ∙ not-false _ c.before.before.before.before.before.before.before.before.before.before.before.before.if2.false))
+    (arith, end-most c.before.before.before.before.before.before.before.before.before.before.before.before.before.before.before.before.before.before.before.before.before.before.loop.invariant.0 c.before.before.before.before.before.before.before.before.before.before.before.before.before.before.before.before.before.before.before.before.read-line.ensures (sym c.before.before.before.before.before.before.before.before.before.before.before.before.before.before.before.before.before.before.before.strays.ensures ∙ c.before.before.before.before.before.before.before.before.before.before.before.before.before.before.before.before.before.before.if1.false) c.before.before.before.before.before.before.before.before.before.before.before.before.before.before.before.before.before.address-of.result c.before.before.before.before.before.before.before.before.before.before.before.before.before.before.before.type_size.result c.before.before.before.before.before.before.before.before.before.before.before.before.before.before.before.before.before.address-of.ensures (c.before.before.before.before.before.before.before.before.before.before.before.before.before.before.before.type_size.ensures ∙ ap size_in c.before.before.before.before.before.before.before.before.before.before.before.before.before.before.before.before.shape_of.ensures) (sym c.before.before.before.before.before.before.before.before.before.before.before.before.before.free.ensures ∙ not-false _ c.before.before.before.before.before.before.before.before.before.before.before.before.if2.false))
 
 same-length-5 : tie.Need-same-length-5 invariant-loop decreases-loop
 same-length-5 c = c.before.before.before.before.before.before.before.before.before.before.before.before.note.auto.0
@@ -99,10 +99,10 @@ same-length-6 : tie.Need-same-length-6 invariant-loop decreases-loop
 same-length-6 c = c.before.before.before.before.store2.auto.0
     ∙ c.before.before.before.before.before.before.before.before.store.auto.0
     ∙ c.before.before.before.before.before.before.before.before.before.before.before.before.before.before.before.before.before.before.before.before.before.before.before.before.loop.invariant.0.flag-count
-    ∙ sym (ap length c.before.before.before.before.before.before.before.before.before.before.before.before.before.before.before.before.before.before.before.before.before.before.before.before.before.before.before.before.before.requires.1 ∙ length-replicate {A = ℕ} romSize 0)
+    ∙ sym (ap length c.before.before.before.before.before.before.before.before.before.before.before.before.before.before.before.before.before.before.before.before.before.before.before.before.before.before.before.before.before.requires.1 ∙ length-replicate {A = ℕ} rom_size 0)
 
 returns-3 : tie.Need-returns-3 invariant-loop decreases-loop
-returns-3 c = placed c.before.before.before.before.before.before.before.before.before.before.before.before.before.before.before.before.before.before.before.before.before.before.before.before.loop.invariant.0 c.before.before.before.before.before.before.before.before.before.before.before.before.before.before.before.before.before.before.before.before.before.before.read-line.ensures (sym c.before.before.before.before.before.before.before.before.before.before.before.before.before.before.before.before.before.before.before.before.before.strays.ensures ∙ c.before.before.before.before.before.before.before.before.before.before.before.before.before.before.before.before.before.before.before.before.if1.false) c.before.before.before.before.before.before.before.before.before.before.before.before.before.before.before.before.before.before.before.address-of.result c.before.before.before.before.before.before.before.before.before.before.before.before.before.before.before.before.before.type_size.result c.before.before.before.before.before.before.before.before.before.before.before.before.before.before.before.before.before.before.before.address-of.ensures (c.before.before.before.before.before.before.before.before.before.before.before.before.before.before.before.before.before.type_size.ensures ∙ ap sizeIn c.before.before.before.before.before.before.before.before.before.before.before.before.before.before.before.before.before.before.shape_of.ensures) (sym c.before.before.before.before.before.before.before.before.before.before.before.before.before.before.before.free.ensures ∙ not-false _ c.before.before.before.before.before.before.before.before.before.before.before.before.before.before.if2.false) _ _ _ c.before.before.before.before.before.before.before.before.before.before.before.before.note.result c.before.line-end.result c.before.before.before.before.before.before.before.before.before.before.before.before.note.ensures.0 c.before.before.before.before.before.before.before.before.before.before.before.before.note.ensures.1 c.before.before.before.before.before.before.before.before.store.ensures c.before.before.before.before.store2.ensures c.before.line-end.ensures c.if3.true
+returns-3 c = placed c.before.before.before.before.before.before.before.before.before.before.before.before.before.before.before.before.before.before.before.before.before.before.before.before.loop.invariant.0 c.before.before.before.before.before.before.before.before.before.before.before.before.before.before.before.before.before.before.before.before.before.before.read-line.ensures (sym c.before.before.before.before.before.before.before.before.before.before.before.before.before.before.before.before.before.before.before.before.before.strays.ensures ∙ c.before.before.before.before.before.before.before.before.before.before.before.before.before.before.before.before.before.before.before.before.if1.false) c.before.before.before.before.before.before.before.before.before.before.before.before.before.before.before.before.before.before.before.address-of.result c.before.before.before.before.before.before.before.before.before.before.before.before.before.before.before.before.before.type_size.result c.before.before.before.before.before.before.before.before.before.before.before.before.before.before.before.before.before.before.before.address-of.ensures (c.before.before.before.before.before.before.before.before.before.before.before.before.before.before.before.before.before.type_size.ensures ∙ ap size_in c.before.before.before.before.before.before.before.before.before.before.before.before.before.before.before.before.before.before.shape_of.ensures) (sym c.before.before.before.before.before.before.before.before.before.before.before.before.before.before.before.free.ensures ∙ not-false _ c.before.before.before.before.before.before.before.before.before.before.before.before.before.before.if2.false) _ _ _ c.before.before.before.before.before.before.before.before.before.before.before.before.note.result c.before.line-end.result c.before.before.before.before.before.before.before.before.before.before.before.before.note.ensures.0 c.before.before.before.before.before.before.before.before.before.before.before.before.note.ensures.1 c.before.before.before.before.before.before.before.before.store.ensures c.before.before.before.before.store2.ensures c.before.line-end.ensures c.if3.true
 
 add_at : tie.Need-overflow-add-at invariant-loop decreases-loop
 add_at c = let g = c.before.before.before.before.before.before.before.before.before.before.before.before.before.before.before.before.before.before.before.before.before.before.before.before.loop.invariant.0 in omega (arith, c.before.line-end.ensures, end-within c.before.before.before.before.before.before.before.before.before.before.before.before.before.before.before.before.before.before.before.before.before.before.before.before.before.before.before.before.before.args.text.now c.before.before.before.before.before.before.before.before.before.before.before.before.before.before.before.before.before.before.before.before.before.before.before.before.loop.at g.walk.within)
@@ -117,8 +117,8 @@ loop-again : tie.Need-loop-preserved invariant-loop decreases-loop
 loop-again c = let g = c.before.before.before.before.before.before.before.before.before.before.before.before.before.before.before.before.before.before.before.before.before.before.before.before.loop.invariant.0 in
     let inside = end-within
     c.before.before.before.before.before.before.before.before.before.before.before.before.before.before.before.before.before.before.before.before.before.before.before.before.before.before.before.before.before.args.text.now c.before.before.before.before.before.before.before.before.before.before.before.before.before.before.before.before.before.before.before.before.before.before.before.before.loop.at g.walk.within in (
-      place-on c.before.before.before.before.before.before.before.before.before.before.before.before.before.before.before.before.before.before.before.before.before.before.before.before.loop.invariant.0 c.before.before.before.before.before.before.before.before.before.before.before.before.before.before.before.before.before.before.before.before.before.before.read-line.ensures (sym c.before.before.before.before.before.before.before.before.before.before.before.before.before.before.before.before.before.before.before.before.before.strays.ensures ∙ c.before.before.before.before.before.before.before.before.before.before.before.before.before.before.before.before.before.before.before.before.if1.false) c.before.before.before.before.before.before.before.before.before.before.before.before.before.before.before.before.before.before.before.address-of.result c.before.before.before.before.before.before.before.before.before.before.before.before.before.before.before.before.before.type_size.result c.before.before.before.before.before.before.before.before.before.before.before.before.before.before.before.before.before.before.before.address-of.ensures (c.before.before.before.before.before.before.before.before.before.before.before.before.before.before.before.before.before.type_size.ensures ∙ ap sizeIn c.before.before.before.before.before.before.before.before.before.before.before.before.before.before.before.before.before.before.shape_of.ensures) (sym c.before.before.before.before.before.before.before.before.before.before.before.before.before.before.before.free.ensures ∙ not-false _ c.before.before.before.before.before.before.before.before.before.before.before.before.before.before.if2.false) _ _ _ c.before.before.before.before.before.before.before.before.before.before.before.before.note.result c.before.line-end.result c.before.before.before.before.before.before.before.before.before.before.before.before.note.ensures.0 c.before.before.before.before.before.before.before.before.before.before.before.before.note.ensures.1 c.before.before.before.before.before.before.before.before.store.ensures c.before.before.before.before.store2.ensures c.before.line-end.ensures (omega (arith, c.before.line-end.ensures, c.if3.false)),
-      same-room c.before.before.before.before.before.before.before.before.before.before.before.before.before.before.before.before.before.before.before.before.before.before.before.before.loop.invariant.0 c.before.before.before.before.before.before.before.before.before.before.before.before.before.before.before.before.before.before.before.before.before.before.read-line.ensures (sym c.before.before.before.before.before.before.before.before.before.before.before.before.before.before.before.before.before.before.before.before.before.strays.ensures ∙ c.before.before.before.before.before.before.before.before.before.before.before.before.before.before.before.before.before.before.before.before.if1.false) c.before.before.before.before.before.before.before.before.before.before.before.before.before.before.before.before.before.before.before.address-of.result c.before.before.before.before.before.before.before.before.before.before.before.before.before.before.before.before.before.type_size.result c.before.before.before.before.before.before.before.before.before.before.before.before.before.before.before.before.before.before.before.address-of.ensures (c.before.before.before.before.before.before.before.before.before.before.before.before.before.before.before.before.before.type_size.ensures ∙ ap sizeIn c.before.before.before.before.before.before.before.before.before.before.before.before.before.before.before.before.before.before.shape_of.ensures) (sym c.before.before.before.before.before.before.before.before.before.before.before.before.before.before.before.free.ensures ∙ not-false _ c.before.before.before.before.before.before.before.before.before.before.before.before.before.before.if2.false) _ _ _ c.before.before.before.before.before.before.before.before.before.before.before.before.note.result c.before.line-end.result c.before.before.before.before.before.before.before.before.before.before.before.before.note.ensures.0 c.before.before.before.before.before.before.before.before.before.before.before.before.note.ensures.1 c.before.before.before.before.before.before.before.before.store.ensures c.before.before.before.before.store2.ensures c.before.line-end.ensures ∙ c.before.before.before.before.before.before.before.before.before.before.before.before.before.before.before.before.before.before.before.before.before.before.before.before.loop.invariant.1,
+      place-on c.before.before.before.before.before.before.before.before.before.before.before.before.before.before.before.before.before.before.before.before.before.before.before.before.loop.invariant.0 c.before.before.before.before.before.before.before.before.before.before.before.before.before.before.before.before.before.before.before.before.before.before.read-line.ensures (sym c.before.before.before.before.before.before.before.before.before.before.before.before.before.before.before.before.before.before.before.before.before.strays.ensures ∙ c.before.before.before.before.before.before.before.before.before.before.before.before.before.before.before.before.before.before.before.before.if1.false) c.before.before.before.before.before.before.before.before.before.before.before.before.before.before.before.before.before.before.before.address-of.result c.before.before.before.before.before.before.before.before.before.before.before.before.before.before.before.before.before.type_size.result c.before.before.before.before.before.before.before.before.before.before.before.before.before.before.before.before.before.before.before.address-of.ensures (c.before.before.before.before.before.before.before.before.before.before.before.before.before.before.before.before.before.type_size.ensures ∙ ap size_in c.before.before.before.before.before.before.before.before.before.before.before.before.before.before.before.before.before.before.shape_of.ensures) (sym c.before.before.before.before.before.before.before.before.before.before.before.before.before.before.before.free.ensures ∙ not-false _ c.before.before.before.before.before.before.before.before.before.before.before.before.before.before.if2.false) _ _ _ c.before.before.before.before.before.before.before.before.before.before.before.before.note.result c.before.line-end.result c.before.before.before.before.before.before.before.before.before.before.before.before.note.ensures.0 c.before.before.before.before.before.before.before.before.before.before.before.before.note.ensures.1 c.before.before.before.before.before.before.before.before.store.ensures c.before.before.before.before.store2.ensures c.before.line-end.ensures (omega (arith, c.before.line-end.ensures, c.if3.false)),
+      same-room c.before.before.before.before.before.before.before.before.before.before.before.before.before.before.before.before.before.before.before.before.before.before.before.before.loop.invariant.0 c.before.before.before.before.before.before.before.before.before.before.before.before.before.before.before.before.before.before.before.before.before.before.read-line.ensures (sym c.before.before.before.before.before.before.before.before.before.before.before.before.before.before.before.before.before.before.before.before.before.strays.ensures ∙ c.before.before.before.before.before.before.before.before.before.before.before.before.before.before.before.before.before.before.before.before.if1.false) c.before.before.before.before.before.before.before.before.before.before.before.before.before.before.before.before.before.before.before.address-of.result c.before.before.before.before.before.before.before.before.before.before.before.before.before.before.before.before.before.type_size.result c.before.before.before.before.before.before.before.before.before.before.before.before.before.before.before.before.before.before.before.address-of.ensures (c.before.before.before.before.before.before.before.before.before.before.before.before.before.before.before.before.before.type_size.ensures ∙ ap size_in c.before.before.before.before.before.before.before.before.before.before.before.before.before.before.before.before.before.before.shape_of.ensures) (sym c.before.before.before.before.before.before.before.before.before.before.before.before.before.before.before.free.ensures ∙ not-false _ c.before.before.before.before.before.before.before.before.before.before.before.before.before.before.if2.false) _ _ _ c.before.before.before.before.before.before.before.before.before.before.before.before.note.result c.before.line-end.result c.before.before.before.before.before.before.before.before.before.before.before.before.note.ensures.0 c.before.before.before.before.before.before.before.before.before.before.before.before.note.ensures.1 c.before.before.before.before.before.before.before.before.store.ensures c.before.before.before.before.store2.ensures c.before.line-end.ensures ∙ c.before.before.before.before.before.before.before.before.before.before.before.before.before.before.before.before.before.before.before.before.before.before.before.before.loop.invariant.1,
     )
 
 pub place-lines-spec : {M : Type 1} → statement M

@@ -5,14 +5,14 @@ use mathlib.Core.Bool.{not}
 use native.Mathlib.Omega.{arith}
 use borrow.Author.Tests.{eq-eqb, le-leb, le-ltb, lt-leb, lt-ltb, ltb-false, ltb-true, ne_eqb}
 use lib.Dec.{ltb}
-use Rattle.assembler.specs.Forms.{romSize}
+use Rattle.assembler.specs.Forms.{rom_size}
 use Rattle.operand.proofs.Texts.{case}
 use Rattle.assembler.proofs.passes.strays.Statement.{statement}
 use Rattle.assembler.proofs.passes.strays.Tie as tie
 
-over : (x : ℕ) → ltb (romSize - 1) x ≡ not (ltb x romSize)
-over x = case (ltb x romSize) (λ e. rw e (le-ltb (romSize - 1) x (omega (arith, ltb-true x romSize e))))
-    (λ e. rw e (lt-ltb (romSize - 1) x (omega (arith, ltb-false x romSize e))))
+over : (x : ℕ) → ltb (rom_size - 1) x ≡ not (ltb x rom_size)
+over x = case (ltb x rom_size) (λ e. rw e (le-ltb (rom_size - 1) x (omega (arith, ltb-true x rom_size e))))
+    (λ e. rw e (lt-ltb (rom_size - 1) x (omega (arith, ltb-false x rom_size e))))
 
 returns : tie.Need-returns
 returns c = rw (ne_eqb c.before.args.form 0 c.if1.true) refl

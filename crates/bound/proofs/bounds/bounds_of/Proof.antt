@@ -13,7 +13,7 @@ use Rattle.checker.specs.Verdicts.{Safe}
 use Rattle.checker.specs.declared.check.Verdict.{Verdict}
 use Rattle.checker.specs.declared.check.Verdict.TheVariants.{Passed}
 use Rattle.checker.specs.contracts.check.Verdict.{the_type}
-use Rattle.bound.specs.Lists.{boundsSize, Entries}
+use Rattle.bound.specs.Lists.{bounds_size, Entries}
 use Rattle.bound.proofs.Answers.{fails, passes}
 use Rattle.bound.proofs.bounds.bounds_of.Statement.{statement}
 use Rattle.bound.proofs.bounds.bounds_of.Tie as tie
@@ -37,14 +37,14 @@ returns c = (λ e. true≢false (sym e ∙ sym c.before.mask-ok.ensures ∙ not-
 returns-2 : tie.Need-returns-2
 returns-2 c =
     let s = c.before.before.before.before.before.args in
-    let other : (sized s.mask.now ≡ true) × (length s.list.now ≡ boundsSize → ⊥) = (sym c.before.before.mask-ok.ensures ∙ not-false _ c.before.if1.false, c.if2.true) in
+    let other : (sized s.mask.now ≡ true) × (length s.list.now ≡ bounds_size → ⊥) = (sym c.before.before.mask-ok.ensures ∙ not-false _ c.before.if1.false, c.if2.true) in
     (other, refl)
 
 -- the mask fails
 returns-3 : tie.Need-returns-3
 returns-3 c =
     let v = c.before.before in
-    let failed : (sized (mask-of v) ≡ true) × (length (list_of v) ≡ boundsSize) × (Safe (mask-of v) → ⊥) = (
+    let failed : (sized (mask-of v) ≡ true) × (length (list_of v) ≡ bounds_size) × (Safe (mask-of v) → ⊥) = (
       full v,
       v.before.before.if2.false,
       fails (mask-of v) _ v.check.new.1.0 (full v) refl v.check.result v.check.ensures.0
@@ -66,7 +66,7 @@ returns-4 : tie.Need-returns-4
 returns-4 c =
     let v = c.before.before.before.before.before.before.before.before in
     let f = c.before.before.fill in
-    let filled : (length (list_of v) ≡ boundsSize) × (length f.new.1.1.0 ≡ boundsSize) × Entries (mask-of v) f.new.1.1.0 =
+    let filled : (length (list_of v) ≡ bounds_size) × (length f.new.1.1.0 ≡ bounds_size) × Entries (mask-of v) f.new.1.1.0 =
     (v.before.before.if2.false, f.ensures.0, f.ensures.1) in
     filled
 

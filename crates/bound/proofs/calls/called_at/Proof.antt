@@ -8,7 +8,7 @@ use denote.Enum.Declared.{tag_of}
 use borrow.Author.Rules.{rules}
 use borrow.Author.Tests.{not-false, not-true}
 use Rattle.isa.specs.Code.{addresses}
-use Rattle.checker.specs.Marks.{levels, flowAt}
+use Rattle.checker.specs.Marks.{levels, flow_at}
 use Rattle.checker.specs.declared.flow.Flow.{Flow}
 use Rattle.checker.specs.declared.flow.Flow.TheVariants.{Unread, On, Enable, Jump, To, Sub, Back}
 use Rattle.checker.specs.contracts.flow.Flow.{the_type}
@@ -40,7 +40,7 @@ returns c = rw (sym c.before.is-marked.ensures ∙ not-true _ c.if1.true) refl
 returns-2 : tie.Need-returns-2
 returns-2 c =
     let s = c.before.before.before.before.before.before.before in
-    let e = c.before.before.before.flow-at.ensures ∙ ap (flowAt s.args.mask.now) (third s.args.address) in
+    let e = c.before.before.before.flow-at.ensures ∙ ap (flow_at s.args.mask.now) (third s.args.address) in
     rw (sym c.before.before.before.before.before.is-marked.ensures ∙ not-false _ c.before.before.before.before.if1.false)
     (subst (λ (f : Flow). TargetOf f c.before.t.given.0.0.0) (sym c.before.t.given.1 ∙ e) refl)
 
@@ -48,7 +48,7 @@ returns-2 c =
 returns-3 : tie.Need-returns-3
 returns-3 c =
     let s = c.before.before.before.before.before in
-    let e = c.before.flow-at.ensures ∙ ap (flowAt s.args.mask.now) (third s.args.address) in
+    let e = c.before.flow-at.ensures ∙ ap (flow_at s.args.mask.now) (third s.args.address) in
     rw (sym c.before.before.before.is-marked.ensures ∙ not-false _ c.before.before.if1.false)
     (subst (λ (f : Flow). TargetOf f addresses) e (none c.before.flow-at.result c.match.keys2))
 

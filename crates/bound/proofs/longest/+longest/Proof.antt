@@ -11,11 +11,11 @@ use lib.Dec.{ltb}
 use lib.ListN.{get_or, set}
 use Rattle.isa.specs.Choice.{pick}
 use Rattle.isa.specs.Timing.{entries}
-use Rattle.rom.specs.Fetching.{Bytes, code_at, cyclesAt, movedBy, movedFrom}
+use Rattle.rom.specs.Fetching.{Bytes, code_at, cycles_at, moved_by, moved_from}
 use Rattle.rom.specs.declared.reader.Code.{Code}
 use Rattle.rom.proofs.Fetching.{length-entry, cycles-entry}
 use Rattle.bound.specs.Lists.{endless}
-use Rattle.bound.specs.Walk.{mostCycles, settled, StandsAt}
+use Rattle.bound.specs.Walk.{most_cycles, settled, StandsAt}
 use Rattle.bound.proofs.Addresses.{stands}
 use Rattle.bound.proofs.Turn.{Turned, told-small, known, some_left, begun, inside, given, after, halts}
 use Rattle.bound.proofs.Turn.{settles-none, one-first, settles-one, two-first, two-second, two-small, settles-two, known-second}
@@ -44,11 +44,11 @@ module _ (mask : List ℕ) (a : ℕ) (code : Code) (e : ℕ) (p : code ≡ code_
   entry-there : e ≡ get_or entries (code_at mask a).first 0
   entry-there = q ∙ ap (λ (c : Code). get_or entries c.first 0) p
 
-  timed : e % 16 ≡ cyclesAt mask a
+  timed : e % 16 ≡ cycles_at mask a
   timed = ap (λ (n : ℕ). n % 16) entry-there ∙ cycles-entry mask a
 
-  moves : movedBy (e / 16) a ≡ movedFrom mask a
-  moves = ap (λ (n : ℕ). movedBy n a) (ap (λ (n : ℕ). n / 16) entry-there ∙ length-entry mask a)
+  moves : moved_by (e / 16) a ≡ moved_from mask a
+  moves = ap (λ (n : ℕ). moved_by n a) (ap (λ (n : ℕ). n / 16) entry-there ∙ length-entry mask a)
 
 -- what is asked and learnt of each function that is called, itself where the measure falls
 abbrev claims : ℕ → lts.Claims
@@ -78,11 +78,11 @@ module _ (t : ℕ) (c : Here t) where
       let m = s.args.mask.now in
       let code = c.before.before.code-at in
       let entry = c.before.entry in
-      stands m s.args.address code.result (movedBy (entry.result / 16) s.args.address) c.ways-by.result code.ensures
+      stands m s.args.address code.result (moved_by (entry.result / 16) s.args.address) c.ways-by.result code.ensures
       (moves m s.args.address code.result entry.result code.ensures entry.ensures) c.ways-by.ensures
 
   spends-here : (w r : ℕ) → r ≡ settled w (c.before.entry.result % 16)
-      → let s = c.before.before.before.before.before.before in r ≡ settled w (cyclesAt s.args.mask.now s.args.address)
+      → let s = c.before.before.before.before.before.before in r ≡ settled w (cycles_at s.args.mask.now s.args.address)
   spends-here w r e =
       let s = c.before.before.before.before.before.before in
       let code = c.before.before.code-at in
@@ -180,7 +180,7 @@ pub +longest-spec : {M : Type 1} → statement M
     let x = c.before.before.before.before.longest2 in
     let w = after m b s.args.address s.args.left s.args.found.now s.requires.1.0.0 s.requires.1.0.1 s.requires.1.1 z (set s.args.found.now s.args.address endless) x.new.1.0 (begun m b s.args.address s.args.left s.args.found.now s.requires.1.0.0 s.requires.1.0.1 s.requires.1.1 z) x.ensures.1 in
     let u = known-second m b s.args.address s.args.left s.args.found.now s.requires.1.0.0 s.requires.1.0.1 s.requires.1.1 z q o e x.new.1.0 w c.before.before.if2.true in
-    (s.requires.1.0.0, subst (λ (n : ℕ). (n ≡ endless → ⊥) → n ≤ mostCycles) (sym c.larger.ensures) (two-small m b s.args.address s.args.left s.args.found.now s.requires.1.0.0 s.requires.1.0.1 s.requires.1.1 z q o e x.result _ x.ensures.0 u)))
+    (s.requires.1.0.0, subst (λ (n : ℕ). (n ≡ endless → ⊥) → n ≤ most_cycles) (sym c.larger.ensures) (two-small m b s.args.address s.args.left s.args.found.now s.requires.1.0.0 s.requires.1.0.1 s.requires.1.1 z q o e x.result _ x.ensures.0 u)))
     -- two ways, the second known
     (λ c.
     let s = c.before.before.before.before.before.before.before.before.before.before.before.before.before.before.before.before in
@@ -195,7 +195,7 @@ pub +longest-spec : {M : Type 1} → statement M
     let u = known-second m b s.args.address s.args.left s.args.found.now s.requires.1.0.0 s.requires.1.0.1 s.requires.1.1 z q o e x.new.1.0 w c.before.before.before.if2.true in
     subst (λ (new : List ℕ). Turned m s.args.address s.args.found.now new c.settle4.result) (sym c.settle4.ensures.1)
     (settles-two m b s.args.address s.args.left s.args.found.now s.requires.1.0.0 s.requires.1.0.1 s.requires.1.1 z q o e x.new.1.0 x.result (get_or x.new.1.0 o 0) c.settle4.result w x.ensures.0 u
-    ((spends-here t c.before.before.before.before.before.before.before.before.before.before c.before.larger.result c.settle4.result c.settle4.ensures.0) ∙ ap (λ (n : ℕ). settled n (cyclesAt m s.args.address)) c.before.larger.ensures)))
+    ((spends-here t c.before.before.before.before.before.before.before.before.before.before c.before.larger.result c.settle4.result c.settle4.ensures.0) ∙ ap (λ (n : ℕ). settled n (cycles_at m s.args.address)) c.before.larger.ensures)))
     (λ c.
     let s = c.before.before.before.before.before.before.before.before.before.before.before.before.before.before in
     let m = s.args.mask.now in
@@ -225,7 +225,7 @@ pub +longest-spec : {M : Type 1} → statement M
     let x = c.before.before.before.before.before.before.longest2 in
     let w = after m b s.args.address s.args.left s.args.found.now s.requires.1.0.0 s.requires.1.0.1 s.requires.1.1 z (set s.args.found.now s.args.address endless) x.new.1.0 (begun m b s.args.address s.args.left s.args.found.now s.requires.1.0.0 s.requires.1.0.1 s.requires.1.1 z) x.ensures.1 in
     let y = c.before.before.longest3 in
-    (s.requires.1.0.0, subst (λ (n : ℕ). (n ≡ endless → ⊥) → n ≤ mostCycles) (sym c.larger2.ensures) (two-small m b s.args.address s.args.left s.args.found.now s.requires.1.0.0 s.requires.1.0.1 s.requires.1.1 z q o e x.result y.result x.ensures.0 y.ensures.0)))
+    (s.requires.1.0.0, subst (λ (n : ℕ). (n ≡ endless → ⊥) → n ≤ most_cycles) (sym c.larger2.ensures) (two-small m b s.args.address s.args.left s.args.found.now s.requires.1.0.0 s.requires.1.0.1 s.requires.1.1 z q o e x.result y.result x.ensures.0 y.ensures.0)))
     -- HALT
     (λ c.
     let s = c.before.before.before.before.before.before.before.before.before.before in
@@ -271,4 +271,4 @@ pub +longest-spec : {M : Type 1} → statement M
     let v = after m b s.args.address s.args.left s.args.found.now s.requires.1.0.0 s.requires.1.0.1 s.requires.1.1 z x.new.1.0 y.new.1.0 w y.ensures.1 in
     subst (λ (new : List ℕ). Turned m s.args.address s.args.found.now new c.settle5.result) (sym c.settle5.ensures.1)
     (settles-two m b s.args.address s.args.left s.args.found.now s.requires.1.0.0 s.requires.1.0.1 s.requires.1.1 z q o e y.new.1.0 x.result y.result c.settle5.result v x.ensures.0 y.ensures.0
-    ((spends-here t c.before.before.before.before.before.before.before.before.before.before.before.before c.before.larger2.result c.settle5.result c.settle5.ensures.0) ∙ ap (λ (n : ℕ). settled n (cyclesAt m s.args.address)) c.before.larger2.ensures))))
+    ((spends-here t c.before.before.before.before.before.before.before.before.before.before.before.before c.before.larger2.result c.settle5.result c.settle5.ensures.0) ∙ ap (λ (n : ℕ). settled n (cycles_at m s.args.address)) c.before.larger2.ensures))))

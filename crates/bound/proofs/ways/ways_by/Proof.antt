@@ -9,12 +9,12 @@ use borrow.Author.Rules.{rules}
 use Rattle.isa.specs.Choice.{pick}
 use Rattle.isa.specs.Reading.{opcodes}
 use Rattle.isa.specs.Views.{view}
-use Rattle.rom.specs.Fetching.{movedBy}
+use Rattle.rom.specs.Fetching.{moved_by}
 use Rattle.checker.specs.Marks.{flow_of}
 use Rattle.checker.specs.declared.flow.Flow.{Flow}
 use Rattle.checker.specs.declared.flow.Flow.TheVariants.{Unread, On, Enable, Jump, To, Sub, Back}
 use Rattle.checker.proofs.Flows.{in-run, nibble-run, over-run, other-halt}
-use Rattle.bound.specs.Walk.{handedTo}
+use Rattle.bound.specs.Walk.{handed_to}
 use Rattle.bound.specs.declared.ways.Ways.TheVariants.{One, Two}
 use Rattle.bound.proofs.Runs.{halt, by-flow, goes_on, goes-out}
 use Rattle.bound.proofs.ways.ways_by.Statement.{statement}
@@ -32,7 +32,7 @@ unfolding opcodes flow_of view
 returns c =
     let a = c.before.before.before.args in
     let next = c.moved in
-    let m = movedBy (a.timing / 16) a.address in
+    let m = moved_by (a.timing / 16) a.address in
     let t = (a.first - 0x80) % 8 * 256 + a.second in
     let e : next.result / 2048 * 2048 + (a.first % 8 * 256 + a.second) ≡ m / 2048 * 2048 + t % 2048 = omega (arith, next.ensures) in
     by-flow a.first a.second m (Two next.result (next.result / 2048 * 2048 + (a.first % 8 * 256 + a.second))) (To (record { 0 = t })) (omega arith) (λ h. omega arith)
@@ -44,7 +44,7 @@ returns-2 : tie.Need-returns-2
 unfolding opcodes flow_of view
 returns-2 c =
     let a = c.before.before.before.args in
-    let m = movedBy (a.timing / 16) a.address in
+    let m = moved_by (a.timing / 16) a.address in
     let e : a.first % 16 ≡ a.first - 0xe0 = omega arith in
     by-flow a.first a.second m (One (a.first % 16 * 256 + a.second)) (Jump (record { 0 = (a.first - 0xe0) * 256 + a.second })) (omega arith) (λ h. omega arith)
     (in-run 0xe0 0x10 (λ (k : ℕ). Jump (record { 0 = k * 256 + a.second })) a.first a.second refl (omega arith) (omega arith))
@@ -55,7 +55,7 @@ returns-3 : tie.Need-returns-3
 unfolding opcodes flow_of view
 returns-3 c =
     let a = c.before.before.before.args in
-    goes-out a.first a.second (movedBy (a.timing / 16) a.address) (Sub (record { 0 = (a.first - 0xf0) * 256 + a.second })) (omega arith) (λ h. omega arith) refl
+    goes-out a.first a.second (moved_by (a.timing / 16) a.address) (Sub (record { 0 = (a.first - 0xf0) * 256 + a.second })) (omega arith) (λ h. omega arith) refl
     (in-run 0xf0 0x10 (λ (k : ℕ). Sub (record { 0 = k * 256 + a.second })) a.first a.second refl (omega arith) (omega arith))
 
 -- 00h to 2Dh: EI goes on too
@@ -63,11 +63,11 @@ returns-4 : tie.Need-returns-4
 unfolding opcodes flow_of view
 returns-4 c =
     let a = c.before.before.before.before.args in
-    by-flow a.first a.second (movedBy (a.timing / 16) a.address) (One c.moved2.result) (or-ei (a.first - 0)) (omega arith) (λ h. omega arith)
+    by-flow a.first a.second (moved_by (a.timing / 16) a.address) (One c.moved2.result) (or-ei (a.first - 0)) (omega arith) (λ h. omega arith)
     (in-run 0x00 0x2e or-ei a.first a.second refl (omega arith) (omega arith))
-    (ap (λ (q : ℕ). q ∷ []) c.moved2.ensures ∙ on (eqb (a.first - 0) 0x2c) (movedBy (a.timing / 16) a.address))
+    (ap (λ (q : ℕ). q ∷ []) c.moved2.ensures ∙ on (eqb (a.first - 0) 0x2c) (moved_by (a.timing / 16) a.address))
   where
-    on : (t : Bool) (m : ℕ) → m ∷ [] ≡ handedTo (pick t Enable On) m
+    on : (t : Bool) (m : ℕ) → m ∷ [] ≡ handed_to (pick t Enable On) m
     on true m = refl
     on false m = refl
 

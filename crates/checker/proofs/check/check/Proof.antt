@@ -3,7 +3,7 @@
 use mathlib.Core.Path.{refl, sym, ap, subst, ◌∙◌}
 use mathlib.Core.Bool.{true≢false}
 use borrow.Author.Tests.{eq-eqb, ne_eqb, not-true, not-false}
-use Rattle.checker.specs.Verdicts.{marksSize, Answers, number_of}
+use Rattle.checker.specs.Verdicts.{marks_size, Answers, number_of}
 use Rattle.checker.proofs.Answer.{answered, not-refused}
 use borrow.Author.Rules.{rules}
 use Rattle.checker.proofs.check.check.Statement.{statement}
@@ -17,7 +17,7 @@ returns c =
 returns-2 : tie.Need-returns-2
 returns-2 c =
     let full = sym c.before.before.mask-ok.ensures ∙ not-false _ c.before.if1.false in
-    (search (rules, full), rw (full, ne_eqb _ marksSize c.if2.true) refl)
+    (search (rules, full), rw (full, ne_eqb _ marks_size c.if2.true) refl)
 
 returns-3 : tie.Need-returns-3
 returns-3 c =
@@ -30,7 +30,7 @@ returns-3 c =
       subst (Answers a.mask.now a.marks.now c.before.before.before.pack.new.1.0) (sym r.ensures)
           (answered a.mask.now w.walk.new.1.0 w.walk.ensures.0 named w.walk.ensures.1.1 a.marks.now c.before.before.before.pack.new.1.0 full
           t.if2.false c.before.before.before.pack.ensures),
-      ap number_of r.ensures ∙ not-refused named ∙ rw (full, eq-eqb _ marksSize t.if2.false) refl,
+      ap number_of r.ensures ∙ not-refused named ∙ rw (full, eq-eqb _ marks_size t.if2.false) refl,
     )
 
 pub check-spec : {M : Type 1} → statement M

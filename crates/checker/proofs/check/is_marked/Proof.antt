@@ -11,15 +11,15 @@ use borrow.Author.Rules.{rules}
 use borrow.Author.Tests.{le-ltb}
 use Rattle.isa.specs.Code.{addresses}
 use Rattle.checker.specs.Marks.{levels}
-use Rattle.checker.specs.Verdicts.{isMarked}
+use Rattle.checker.specs.Verdicts.{is_marked}
 use Rattle.checker.proofs.Answer.{its-bit}
 use Rattle.checker.proofs.check.is_marked.Statement.{statement}
 use Rattle.checker.proofs.check.is_marked.Tie as tie
 
 -- the bit of a level that is known
-bit : (marks : List ℕ) (a l k y : ℕ) → y ≡ get_or marks a 0 / 2 ^ k % 2 → l ≡ k → a < addresses → k < levels → eqb y 1 ≡ isMarked marks a l
+bit : (marks : List ℕ) (a l k y : ℕ) → y ≡ get_or marks a 0 / 2 ^ k % 2 → l ≡ k → a < addresses → k < levels → eqb y 1 ≡ is_marked marks a l
 bit marks a l k y e f h s =
-    ap (λ (n : ℕ). eqb n 1) e ∙ sym (its-bit marks a k h s) ∙ ap (isMarked marks a) (sym f)
+    ap (λ (n : ℕ). eqb n 1) e ∙ sym (its-bit marks a k h s) ∙ ap (is_marked marks a) (sym f)
 
 neither : (b d : Bool) → false ≡ b && false && d
 neither true d = refl

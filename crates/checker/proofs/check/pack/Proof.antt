@@ -5,19 +5,19 @@ use mathlib.Core.List.{List}
 use native.Mathlib.Omega.{arith}
 use lib.ListN.{length, get_or, set, length-set}
 use Rattle.reach.proofs.Count.{after-set}
-use Rattle.checker.specs.Verdicts.{marksSize}
+use Rattle.checker.specs.Verdicts.{marks_size}
 use Rattle.checker.specs.Walk.{mark_of}
 use Rattle.checker.proofs.check.pack.Statement.{statement}
 use Rattle.checker.proofs.check.pack.Tie as tie
 
 abbrev invariant-loop : tie.invariant-loop
-invariant-loop seen marks₀ address₀ marks address = (address ≤ marksSize) × (length marks ≡ marksSize) × ((a : ℕ) → a < address → get_or marks a 0 ≡ mark_of seen a)
+invariant-loop seen marks₀ address₀ marks address = (address ≤ marks_size) × (length marks ≡ marks_size) × ((a : ℕ) → a < address → get_or marks a 0 ≡ mark_of seen a)
 
 abbrev decreases-loop : tie.decreases-loop
-decreases-loop seen marks₀ address₀ marks address = marksSize - address
+decreases-loop seen marks₀ address₀ marks address = marks_size - address
 
 -- one mark more
-more : (seen marks : List ℕ) (i : ℕ) → length marks ≡ marksSize → i < marksSize → ((a : ℕ) → a < i → get_or marks a 0 ≡ mark_of seen a)
+more : (seen marks : List ℕ) (i : ℕ) → length marks ≡ marks_size → i < marks_size → ((a : ℕ) → a < i → get_or marks a 0 ≡ mark_of seen a)
     → (a : ℕ) → a < i + 1 → get_or (set marks i (mark_of seen i)) a 0 ≡ mark_of seen a
 more seen marks i l h f a b =
     after-set (λ (n : ℕ). n ≡ mark_of seen a) marks i a (mark_of seen i) (omega arith) (λ e. ap (mark_of seen) (sym e)) (λ n. f a (less n))

@@ -10,14 +10,14 @@ use borrow.Author.Tests.{eq-eqb, ne_eqb}
 use Rattle.isa.specs.Choice.{pick}
 use Rattle.isa.specs.declared.ProgramAddress.{ProgramAddress}
 use Rattle.isa.specs.Timing.{length_of}
-use Rattle.rom.specs.Fetching.{movedBy, movedFrom}
+use Rattle.rom.specs.Fetching.{moved_by, moved_from}
 use Rattle.rom.specs.declared.reader.Code.{Code}
 use Rattle.rom.proofs.Fetching.{length-code}
 use Rattle.checker.specs.declared.flow.Flow.{Flow}
 use Rattle.checker.specs.declared.flow.Flow.TheVariants.{Unread, On, Enable, Jump, To, Sub, Back}
-use Rattle.checker.specs.Marks.{levels, flowAt, faultIn}
+use Rattle.checker.specs.Marks.{levels, flow_at, fault_in}
 use Rattle.checker.specs.Verdicts.{rank}
-use Rattle.checker.specs.Walk.{next_codes, faultAt}
+use Rattle.checker.specs.Walk.{next_codes, fault_at}
 use Rattle.checker.proofs.Reach.{Targets}
 use Rattle.checker.proofs.Successors.{flow-there, handed-on, fault-flow, next-flow, next-targets}
 use borrow.Author.Rules.{rules}
@@ -31,25 +31,25 @@ mask-of c = c.before.before.before.before.args.mask.now
 abbrev code_of : tie.After-flow-by → ℕ
 code_of c = c.before.before.before.before.args.code
 
-flow-is : (c : tie.After-flow-by) → c.flow-by.result ≡ flowAt (mask-of c) (code_of c / levels)
+flow-is : (c : tie.After-flow-by) → c.flow-by.result ≡ flow_at (mask-of c) (code_of c / levels)
 flow-is c =
     let code = c.before.before.code-at in c.flow-by.ensures ∙ flow-there (mask-of c) (code_of c / levels) code.result code.ensures
 
 -- an arm that goes on finds the moved address itself
-at-flow : (c : tie.After-flow-by) (g : Flow) → c.flow-by.result ≡ g → (m : ℕ) → m ≡ movedBy c.before.length.result (code_of c / levels)
+at-flow : (c : tie.After-flow-by) (g : Flow) → c.flow-by.result ≡ g → (m : ℕ) → m ≡ moved_by c.before.length.result (code_of c / levels)
     → handed-on g m (code_of c % levels) ≡ next_codes (mask-of c) (code_of c)
 at-flow c g e m p =
     let code = c.before.before.code-at in
     next-flow (mask-of c) (code_of c) c.flow-by.result g (flow-is c) e m
-    (p ∙ ap (λ (n : ℕ). movedBy n (code_of c / levels))
+    (p ∙ ap (λ (n : ℕ). moved_by n (code_of c / levels))
     (c.before.length.ensures ∙ ap (λ (k : Code). length_of k.first) code.ensures ∙ length-code (mask-of c) (code_of c / levels)))
 
 -- and one that does not needs none
 at-end : (c : tie.After-flow-by) (g : Flow) → c.flow-by.result ≡ g
-    → handed-on g (movedFrom (mask-of c) (code_of c / levels)) (code_of c % levels) ≡ next_codes (mask-of c) (code_of c)
-at-end c g e = next-flow (mask-of c) (code_of c) c.flow-by.result g (flow-is c) e (movedFrom (mask-of c) (code_of c / levels)) refl
+    → handed-on g (moved_from (mask-of c) (code_of c / levels)) (code_of c % levels) ≡ next_codes (mask-of c) (code_of c)
+at-end c g e = next-flow (mask-of c) (code_of c) c.flow-by.result g (flow-is c) e (moved_from (mask-of c) (code_of c / levels)) refl
 
-fault-at : (c : tie.After-flow-by) (g : Flow) → c.flow-by.result ≡ g → faultAt (mask-of c) (code_of c) ≡ faultIn g (code_of c % levels)
+fault-at : (c : tie.After-flow-by) (g : Flow) → c.flow-by.result ≡ g → fault_at (mask-of c) (code_of c) ≡ fault_in g (code_of c % levels)
 fault-at c g e = sym (fault-flow (mask-of c) (code_of c) c.flow-by.result g (flow-is c) e)
 
 -- a fault that is a number from 1 on
@@ -71,7 +71,7 @@ sub-other : (t : ProgramAddress) (moved l : ℕ) → (l ≡ 0 → ⊥) → [] �
 sub-other t moved l n = rw (ne_eqb l 0 n) refl
 
 back : (l : ℕ) → [] ≡ handed-on Back 0 l
-back l = go (eqb (faultIn Back l) 0)
+back l = go (eqb (fault_in Back l) 0)
   where
     go : (b : Bool) → [] ≡ map rank (pick b [] [])
     go true = refl

@@ -2,7 +2,7 @@
 use Prim.Native.Nat.{ℕ, ◌<◌}
 use mathlib.Core.Path.{◌≡◌, refl, sym, ap, subst, ◌∙◌}
 use mathlib.Core.List.{[]}
-use Rattle.reach.specs.Walk.{Work, work, pushed, pushedAll, Room, Small}
+use Rattle.reach.specs.Walk.{Work, work, pushed, pushed_all, Room, Small}
 use Rattle.reach.proofs.Count.{room-pushed}
 use Rattle.checker.specs.Walk.{pairs, codes_of}
 use Rattle.checker.specs.declared.next.Codes.{Codes}
@@ -20,22 +20,22 @@ room_after : (v w : Work) (c : ℕ) → w ≡ pushed v c → Room pairs v.seen v
 room_after v w c e r h = subst (λ (u : Work). Room pairs u.seen u.tail) (sym e) (room-pushed v c r h)
 
 -- pushes in a row
-none-pushed : (w : Work) (s d : Codes) → s ≡ d → codes_of d ≡ [] → w ≡ pushedAll w (codes_of s)
-unfolding pushedAll
-none-pushed w s d e f = sym (ap (λ (d : Codes). pushedAll w (codes_of d)) e ∙ ap (pushedAll w) f)
+none-pushed : (w : Work) (s d : Codes) → s ≡ d → codes_of d ≡ [] → w ≡ pushed_all w (codes_of s)
+unfolding pushed_all
+none-pushed w s d e f = sym (ap (λ (d : Codes). pushed_all w (codes_of d)) e ∙ ap (pushed_all w) f)
 
-one-pushed : (w u : Work) (s : Codes) (a : ℕ) → s ≡ One a → u ≡ pushed w a → u ≡ pushedAll w (codes_of s)
-unfolding pushedAll
-one-pushed w u s a e p = p ∙ ap (λ (d : Codes). pushedAll w (codes_of d)) (sym e)
+one-pushed : (w u : Work) (s : Codes) (a : ℕ) → s ≡ One a → u ≡ pushed w a → u ≡ pushed_all w (codes_of s)
+unfolding pushed_all
+one-pushed w u s a e p = p ∙ ap (λ (d : Codes). pushed_all w (codes_of d)) (sym e)
 
-two-pushed : (w u v : Work) (s : Codes) (a b : ℕ) → s ≡ Two a b → u ≡ pushed w a → v ≡ pushed u b → v ≡ pushedAll w (codes_of s)
-unfolding pushedAll
-two-pushed w u v s a b e p q = q ∙ ap (λ (x : Work). pushed x b) p ∙ ap (λ (d : Codes). pushedAll w (codes_of d)) (sym e)
+two-pushed : (w u v : Work) (s : Codes) (a b : ℕ) → s ≡ Two a b → u ≡ pushed w a → v ≡ pushed u b → v ≡ pushed_all w (codes_of s)
+unfolding pushed_all
+two-pushed w u v s a b e p q = q ∙ ap (λ (x : Work). pushed x b) p ∙ ap (λ (d : Codes). pushed_all w (codes_of d)) (sym e)
 
-three-pushed : (w u v x : Work) (s : Codes) (a b c : ℕ) → s ≡ Three a b c → u ≡ pushed w a → v ≡ pushed u b → x ≡ pushed v c → x ≡ pushedAll w (codes_of s)
-unfolding pushedAll
+three-pushed : (w u v x : Work) (s : Codes) (a b c : ℕ) → s ≡ Three a b c → u ≡ pushed w a → v ≡ pushed u b → x ≡ pushed v c → x ≡ pushed_all w (codes_of s)
+unfolding pushed_all
 three-pushed w u v x s a b c e p q r =
-    r ∙ ap (λ (x : Work). pushed x c) (q ∙ ap (λ (x : Work). pushed x b) p) ∙ ap (λ (d : Codes). pushedAll w (codes_of d)) (sym e)
+    r ∙ ap (λ (x : Work). pushed x c) (q ∙ ap (λ (x : Work). pushed x b) p) ∙ ap (λ (d : Codes). pushed_all w (codes_of d)) (sym e)
 
 push-requires : tie.Need-push-requires
 push-requires c κs =

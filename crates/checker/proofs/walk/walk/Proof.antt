@@ -5,11 +5,11 @@ use mathlib.Core.Path.{◌≡◌, sym, ap, subst, ◌∙◌}
 use native.Mathlib.Omega.{arith}
 use borrow.Author.Rules.{rules}
 use lib.ListN.{get_or}
-use Rattle.reach.specs.Walk.{work, pushedAll, Small}
+use Rattle.reach.specs.Walk.{work, pushed_all, Small}
 use Rattle.reach.proofs.Turn.{found}
 use Rattle.reach.proofs.Naming.{Naming, none_named, names}
 use Rattle.reach.proofs.Trace.{Tracing, begins, trace-turn, turn-same, all-traced}
-use Rattle.checker.specs.Walk.{pairs, next_codes, faultAt}
+use Rattle.checker.specs.Walk.{pairs, next_codes, fault_at}
 use Rattle.checker.specs.declared.walk.Named.{Named}
 use Rattle.checker.proofs.Reach.{codes-small}
 use Rattle.checker.proofs.Naming.{naming-turn}
@@ -18,7 +18,7 @@ use Rattle.checker.proofs.walk.walk.Tie as tie
 
 abbrev invariant-loop : tie.invariant-loop
 invariant-loop mask seen₀ queue₀ starts₀ head₀ tail₀ named₀ seen queue starts head tail named =
-    Tracing pairs (next_codes mask) (work seen queue tail) starts head × Naming pairs (next_codes mask) (faultAt mask) queue head named.code named.fault
+    Tracing pairs (next_codes mask) (work seen queue tail) starts head × Naming pairs (next_codes mask) (fault_at mask) queue head named.code named.fault
 
 abbrev decreases-loop : tie.decreases-loop
 decreases-loop mask seen₀ queue₀ starts₀ head₀ tail₀ named₀ seen queue starts head tail named = pairs - head
@@ -28,7 +28,7 @@ loop-holds c =
     let s = c.before in
     let a = s.args in (
       begins pairs (next_codes a.mask.now) (omega arith) a.seen.now a.queue.now a.starts.now s.requires.0 s.requires.1 s.requires.2,
-      none_named pairs (next_codes a.mask.now) (faultAt a.mask.now) a.queue.now,
+      none_named pairs (next_codes a.mask.now) (fault_at a.mask.now) a.queue.now,
     )
 
 cast-at : tie.Need-overflow-cast-at invariant-loop decreases-loop
@@ -67,13 +67,13 @@ loop-again c =
     let n = c.before.before.before.before.next-codes in
     let w = work l.loop.seen l.loop.queue l.loop.tail in
     let v = work p.new.0 p.new.1.0 p.result in
-    let e : v ≡ pushedAll w (next_codes mask (get_or l.loop.queue l.loop.head 0)) = p.ensures ∙ ap (pushedAll w) n.ensures.0 in
+    let e : v ≡ pushed_all w (next_codes mask (get_or l.loop.queue l.loop.head 0)) = p.ensures ∙ ap (pushed_all w) n.ensures.0 in
     let small = codes-small mask (λ k. omega (arith, l.before.shared-slice-known.given k)) in
     let t = l.loop.invariant.0 in
     let h = c.before.before.before.before.before.before.loop-test.true in (
       trace-turn pairs (next_codes mask) (omega arith) small w v l.loop.starts l.loop.head e t h,
-      subst (λ (m : Named). Naming pairs (next_codes mask) (faultAt mask) p.new.1.0 (l.loop.head + 1) m.code m.fault) (sym c.before.before.before.lower.ensures)
-          (naming-turn pairs (next_codes mask) (faultAt mask) l.loop.queue p.new.1.0 l.loop.head
+      subst (λ (m : Named). Naming pairs (next_codes mask) (fault_at mask) p.new.1.0 (l.loop.head + 1) m.code m.fault) (sym c.before.before.before.lower.ensures)
+          (naming-turn pairs (next_codes mask) (fault_at mask) l.loop.queue p.new.1.0 l.loop.head
           (turn-same pairs (next_codes mask) (omega arith) small w v l.loop.starts l.loop.head e t h) (t.walking.core.held l.loop.head h) l.loop.named l.loop.invariant.1
           n.result n.ensures.1),
     )
@@ -89,7 +89,7 @@ returns c =
       all,
       (
         all-traced pairs (next_codes mask) o.seen o.queue o.starts o.head o.tail t c.loop-test.false,
-        names pairs (next_codes mask) (faultAt mask) o.seen o.queue o.head o.tail o.named.code o.named.fault all
+        names pairs (next_codes mask) (fault_at mask) o.seen o.queue o.head o.tail o.named.code o.named.fault all
             t.walking.core.stands o.invariant.1 c.loop-test.false,
       ),
     )

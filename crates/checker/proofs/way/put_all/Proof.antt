@@ -10,7 +10,7 @@ use Rattle.reach.specs.Trail.{Counted, Up, stay, climb, Before}
 use Rattle.reach.proofs.Back.{counted-some, counted-origin, counted_back}
 use Rattle.checker.specs.Walk.{pair_of}
 use Rattle.checker.specs.Ways.{listed}
-use Rattle.checker.specs.Trail.{pairsAt, Listings}
+use Rattle.checker.specs.Trail.{pairs_at, Listings}
 use Rattle.checker.proofs.way.put_all.Statement.{statement}
 use Rattle.checker.proofs.way.put_all.Tie as tie
 
@@ -23,7 +23,7 @@ record Putting (old queue starts : List ℕ) (last count : ℕ) (list : List ℕ
   places : List ℕ
   up : Up starts place places last
   sum : length places + rest ≡ count + 1
-  bytes : drop left list ≡ listed (pairsAt queue places) ++ drop (3 * count) old
+  bytes : drop left list ≡ listed (pairs_at queue places) ++ drop (3 * count) old
 
 abbrev invariant-loop : tie.invariant-loop
 invariant-loop list₀ queue starts end count place₀ left₀ list place left = Putting list₀ queue starts end count list place left
@@ -93,7 +93,7 @@ all-put old old₀ queue starts last count list place left p z e =
       places = p.places;
       up = subst (λ (i : ℕ). Up starts i p.places last) z p.up;
       counted = omega (arith, p.sum);
-      bytes = sym (ap (λ (n : ℕ). drop n list) l) ∙ p.bytes ∙ ap (λ (r : List ℕ). listed (pairsAt queue p.places) ++ r) e;
+      bytes = sym (ap (λ (n : ℕ). drop n list) l) ∙ p.bytes ∙ ap (λ (r : List ℕ). listed (pairs_at queue p.places) ++ r) e;
     }
 
 sub-left : tie.Need-overflow-sub-left invariant-loop decreases-loop

@@ -3,7 +3,7 @@
 use Rattle.std.proofs.Common.{◌≡◌, ℕ, ◌+◌, ◌*◌, ◌/◌, ◌%◌, Bool, true, false, List, [], ◌∷◌, sym, refl, ap, ◌∙◌, ap₂, rules}
 use lib.Bits.{bit_and, bit_or, bit_xor}
 use Rattle.isa.specs.Choice.{pick}
-use Rattle.rom.specs.Fetching.{branchTo, byteAt}
+use Rattle.rom.specs.Fetching.{branch_to, byte_at}
 use Rattle.isa.specs.declared.ProgramAddress.{ProgramAddress}
 use Rattle.isa.specs.declared.Condition.{Condition}
 use Rattle.isa.specs.declared.Condition.TheVariants.{Ja, JnzR0, JnzR1, JnzR4, Jz, JnzA, Jc, Jnc, Jtmr}
@@ -16,8 +16,8 @@ use Rattle.datapath.specs.Memory.{strays, tallied}
 use Rattle.datapath.specs.declared.alu.Sum.{Sum}
 use Rattle.datapath.proofs.Tally.{tallied-append}
 use Rattle.cpu.specs.declared.Cpu.{Cpu}
-use Rattle.cpu.specs.State.{State, state, onCpu, address, withAcc, withR4, withPc}
-use Rattle.cpu.specs.Effect.{effect, branched, holds, place_of, taking, tested, withNibble, withRegister}
+use Rattle.cpu.specs.State.{State, state, on_cpu, address, with_acc, with_r4, with_pc}
+use Rattle.cpu.specs.Effect.{effect, branched, holds, place_of, taking, tested, with_nibble, with_register}
 use Rattle.cpu.proofs.Leaves.{Standing, tested-same}
 use Rattle.cpu.specs.Gap.{pointers, accesses}
 use Rattle.cpu.proofs.Cpu.effect.Statement.{statement}
@@ -52,32 +52,32 @@ on-cpu s e = ap (λ (k : Cpu). state k s.args.memory.now) e
 took : (s : tie.Start) {r : Cpu} {x y : Sum} → r ≡ taking x s.args.self → x ≡ y → r ≡ taking y s.args.self
 took s e p = e ∙ ap (λ (x : Sum). taking x s.args.self) p
 
-to-acc : (s : tie.Start) {r : Cpu} {x y : ℕ} → r ≡ withAcc x s.args.self → x ≡ y → r ≡ withAcc y s.args.self
-to-acc s e p = e ∙ ap (λ (x : ℕ). withAcc x s.args.self) p
+to-acc : (s : tie.Start) {r : Cpu} {x y : ℕ} → r ≡ with_acc x s.args.self → x ≡ y → r ≡ with_acc y s.args.self
+to-acc s e p = e ∙ ap (λ (x : ℕ). with_acc x s.args.self) p
 
-to-register : (s : tie.Start) (n : ℕ) {r : Cpu} {x y : ℕ} → r ≡ withRegister n x s.args.self → x ≡ y → r ≡ withRegister n y s.args.self
-to-register s n e p = e ∙ ap (λ (x : ℕ). withRegister n x s.args.self) p
+to-register : (s : tie.Start) (n : ℕ) {r : Cpu} {x y : ℕ} → r ≡ with_register n x s.args.self → x ≡ y → r ≡ with_register n y s.args.self
+to-register s n e p = e ∙ ap (λ (x : ℕ). with_register n x s.args.self) p
 
-to-memory : (s : tie.Start) (q : Pointer) {r : State} {x y : ℕ} → r ≡ withNibble q x (start s) → x ≡ y → r ≡ withNibble q y (start s)
-to-memory s q e p = e ∙ ap (λ (x : ℕ). withNibble q x (start s)) p
+to-memory : (s : tie.Start) (q : Pointer) {r : State} {x y : ℕ} → r ≡ with_nibble q x (start s) → x ≡ y → r ≡ with_nibble q y (start s)
+to-memory s q e p = e ∙ ap (λ (x : ℕ). with_nibble q x (start s)) p
 
 -- a branch, by its condition: the PC goes to the target or stays, and the test has been made
-went : (k : Condition) (t : ProgramAddress) (c : Cpu) (b : Bool) {pc : ℕ} → pc ≡ pick b (branchTo c.control.pc.0 t) c.control.pc.0 → b ≡ holds k c → withPc (address pc) (tested k c) ≡ branched k t c
+went : (k : Condition) (t : ProgramAddress) (c : Cpu) (b : Bool) {pc : ℕ} → pc ≡ pick b (branch_to c.control.pc.0 t) c.control.pc.0 → b ≡ holds k c → with_pc (address pc) (tested k c) ≡ branched k t c
 unfolding branched
 went k t c b p q =
-    ap (λ (n : ℕ). withPc (address n) (tested k c)) p ∙ go b
-    ∙ ap (λ (b : Bool). pick b (withPc (address (branchTo c.control.pc.0 t)) (tested k c)) (tested k c)) q
+    ap (λ (n : ℕ). with_pc (address n) (tested k c)) p ∙ go b
+    ∙ ap (λ (b : Bool). pick b (with_pc (address (branch_to c.control.pc.0 t)) (tested k c)) (tested k c)) q
   where
     stays : c.control.pc.0 ≡ (tested k c).control.pc.0
     stays = sym (ap (λ (s : Standing). s.pc) (tested-same k c))
 
-    go : (b : Bool) → withPc (address (pick b (branchTo c.control.pc.0 t) c.control.pc.0)) (tested k c) ≡ pick b (withPc (address (branchTo c.control.pc.0 t)) (tested k c)) (tested k c)
+    go : (b : Bool) → with_pc (address (pick b (branch_to c.control.pc.0 t) c.control.pc.0)) (tested k c) ≡ pick b (with_pc (address (branch_to c.control.pc.0 t)) (tested k c)) (tested k c)
     go true = refl
-    go false = ap (λ (n : ℕ). withPc (address n) (tested k c)) stays
+    go false = ap (λ (n : ℕ). with_pc (address n) (tested k c)) stays
 
 branches : (s : tie.Start) (k : Condition) {i : Instruction} {t : ProgramAddress} {l : Condition} {pc : ℕ} {b : Bool} → let c = s.args.self in
-    i ≡ I.Branch t l → l ≡ k → pc ≡ pick b (branchTo c.control.pc.0 t) c.control.pc.0 → b ≡ holds k c
-    → (state (withPc (address pc) (tested k c)) s.args.memory.now ≡ by s i) × (s.args.gap.now ≡ counted s i)
+    i ≡ I.Branch t l → l ≡ k → pc ≡ pick b (branch_to c.control.pc.0 t) c.control.pc.0 → b ≡ holds k c
+    → (state (with_pc (address pc) (tested k c)) s.args.memory.now ≡ by s i) × (s.args.gap.now ≡ counted s i)
 unfolding effect pointers strays tallied
 branches s k {t = t} {b = b} e f p q = arm s (e ∙ ap (I.Branch t) f) (on-cpu s (went k t s.args.self b p q)) refl
 
@@ -331,18 +331,18 @@ effect-spec =
     let s = c.before.before.before.before.before.before.before.before.before.before.before in
     let k = s.args.self in
     let low = c.before.before.before.before.operand14.ensures in
-    let read = c.before.before.table.ensures ∙ ap₂ (λ (n m : ℕ). byteAt s.args.mask.now (n * 256 + 16 * k.registers.acc + m)) (c.before.before.before.page.ensures.0 k refl) low.0 in
+    let read = c.before.before.table.ensures ∙ ap₂ (λ (n m : ℕ). byte_at s.args.mask.now (n * 256 + 16 * k.registers.acc + m)) (c.before.before.before.page.ensures.0 k refl) low.0 in
     arm s c.before.before.before.before.before.before.before.before.instruction22.given.1
-    (on-cpu s (ap (λ (x : ℕ). withR4 (x / 16) (withAcc (x % 16) k)) read)) low.1)
+    (on-cpu s (ap (λ (x : ℕ). with_r4 (x / 16) (with_acc (x % 16) k)) read)) low.1)
     -- READ MR0A
     (λ c.
     let s = c.before.before.before.before.before.before.before.before.before.before in
     let a = s.args in
     let k = a.self in
     let table = c.before.before.before.before.table2 in
-    let read = table.ensures ∙ ap (λ (n : ℕ). byteAt a.mask.now (n * 256 + 16 * k.registers.acc + k.registers.r4)) (c.before.before.before.before.before.page2.ensures.0 k refl) in
+    let read = table.ensures ∙ ap (λ (n : ℕ). byte_at a.mask.now (n * 256 + 16 * k.registers.acc + k.registers.r4)) (c.before.before.before.before.before.page2.ensures.0 k refl) in
     arm s c.before.before.before.before.before.before.before.instruction23.given.1
-    (ap (λ (k : Cpu). state k c.before.put7.new.1.1.0) c.set-acc14.ensures ∙ ap (onCpu (withAcc (table.result % 16))) c.before.put7.ensures.0 ∙ ap (λ (x : ℕ). onCpu (withAcc (x % 16)) (withNibble R1R0 (x / 16) (state k a.memory.now))) read) c.before.put7.ensures.1)
+    (ap (λ (k : Cpu). state k c.before.put7.new.1.1.0) c.set-acc14.ensures ∙ ap (on_cpu (with_acc (table.result % 16))) c.before.put7.ensures.0 ∙ ap (λ (x : ℕ). on_cpu (with_acc (x % 16)) (with_nibble R1R0 (x / 16) (state k a.memory.now))) read) c.before.put7.ensures.1)
     -- SOUND n
     (λ c. arm c.before.before.before.before.before c.before.before.instruction24.given.1 refl refl)
     -- SOUND A

@@ -4,7 +4,7 @@ use Rattle.std.proofs.Common.{◌≡◌, ℕ, List, sym, ap, ◌∙◌, arith, r
 use Rattle.isa.specs.declared.Instruction.{Instruction}
 use Rattle.isa.specs.declared.DataAddress.{DataAddress}
 use Rattle.isa.specs.declared.decoder.Decoded.{Decoded}
-use Rattle.rom.specs.Fetching.{readAt, length_at, cyclesAt}
+use Rattle.rom.specs.Fetching.{read_at, length_at, cycles_at}
 use Rattle.datapath.specs.Memory.{strays, tallied}
 use Rattle.cpu.specs.State.{State, state, address}
 use Rattle.cpu.specs.Step.{instructed, executed}
@@ -44,10 +44,10 @@ module _ (c : tie.After-decode) where
   abbrev answer : Decoded
   answer = c.decode.result
 
-  read-there : answer ≡ readAt mask from.cpu.control.pc.0
+  read-there : answer ≡ read_at mask from.cpu.control.pc.0
   read-there = read mask from code.code-at.result answer code.code-at.ensures (omega (arith, code)) c.decode.ensures
 
-  run-there : instructed mask answer (length_at mask from.cpu.control.pc.0) (cyclesAt mask from.cpu.control.pc.0) from ≡ executed mask from
+  run-there : instructed mask answer (length_at mask from.cpu.control.pc.0) (cycles_at mask from.cpu.control.pc.0) from ≡ executed mask from
   run-there = fetched mask from code.code-at.result answer code.code-at.ensures (omega (arith, code)) c.decode.ensures
 
 returns : tie.Need-returns
@@ -55,7 +55,7 @@ returns c =
     let a = (start c.before.before.before).args in
     let s = from c.before.before.before in
     let done =
-    ap (λ (d : Decoded). instructed a.mask.now d (length_at a.mask.now s.cpu.control.pc.0) (cyclesAt a.mask.now s.cpu.control.pc.0) s) (sym c.before.enum_told.given.1)
+    ap (λ (d : Decoded). instructed a.mask.now d (length_at a.mask.now s.cpu.control.pc.0) (cycles_at a.mask.now s.cpu.control.pc.0) s) (sym c.before.enum_told.given.1)
     ∙ run-there c.before.before.before in
     (done, uncounted a.mask.now s a.gap.now done (λ e. absurd (omega (arith, e))))
 

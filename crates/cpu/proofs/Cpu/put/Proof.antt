@@ -2,7 +2,7 @@
 use Rattle.std.proofs.Common.{Bool, ap, ◌∙◌, rules}
 use Rattle.isa.specs.declared.DataAddress.{DataAddress}
 use Rattle.datapath.specs.Alu.{flag}
-use Rattle.datapath.specs.Memory.{inGap, stored, tallied}
+use Rattle.datapath.specs.Memory.{in_gap, stored, tallied}
 use Rattle.datapath.proofs.Tally.{tallied-one}
 use Rattle.cpu.specs.State.{state}
 use Rattle.cpu.proofs.Cpu.put.Statement.{statement}
@@ -23,7 +23,7 @@ returns c =
     let at = c.before.before.before.before.place.ensures in
     let wrote = c.before.before.store.ensures in (
       ap (state a.self) (wrote.0 ∙ ap (λ (x : DataAddress). stored a.memory.now x a.value) at),
-      c.tally.ensures ∙ ap (λ (t : Bool). tallied a.gap.now (flag t)) (wrote.1 ∙ ap inGap at) ∙ tallied-one a.gap.now _,
+      c.tally.ensures ∙ ap (λ (t : Bool). tallied a.gap.now (flag t)) (wrote.1 ∙ ap in_gap at) ∙ tallied-one a.gap.now _,
     )
 
 pub put_spec : {M : Type 1} → statement M

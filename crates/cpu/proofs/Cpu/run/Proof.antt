@@ -4,7 +4,7 @@ use Rattle.std.proofs.Common.{◌≡◌, ℕ, zero, suc, ◌-◌, ◌<◌, ◌�
 use Rattle.datapath.specs.Memory.{tallied}
 use Rattle.cpu.specs.State.{State, state}
 use Rattle.cpu.specs.Step.{step}
-use Rattle.cpu.specs.Gap.{straysBy, straysIn}
+use Rattle.cpu.specs.Gap.{strays_by, strays_in}
 use Rattle.cpu.proofs.Steps.{halted-stops, fault-stops}
 use Rattle.cpu.specs.Run.{ran, yielded}
 use Rattle.cpu.proofs.Runs.{ran-stopped, ran-next}
@@ -15,32 +15,32 @@ use Rattle.cpu.proofs.Cpu.run.Tie as tie
 abbrev invariant-loop : tie.invariant-loop
 invariant-loop mask memory₀ steps gap₀ current₀ left₀ memory gap current left =
     (ran mask left (state current memory) ≡ ran mask left₀ (state current₀ memory₀))
-    × (tallied gap (straysIn mask left (state current memory)) ≡ tallied gap₀ (straysIn mask left₀ (state current₀ memory₀)))
+    × (tallied gap (strays_in mask left (state current memory)) ≡ tallied gap₀ (strays_in mask left₀ (state current₀ memory₀)))
     × (current.status.halted ≡ 0) × (current.status.fault ≡ 0)
 
 abbrev decreases-loop : tie.decreases-loop
 decreases-loop mask memory₀ steps gap₀ current₀ left₀ memory gap current left = left
 
-none : (mask : List ℕ) (n : ℕ) (s : State) (count : ℕ) → n ≤ 0 → (s ≡ ran mask n s) × (count ≡ tallied count (straysIn mask n s))
+none : (mask : List ℕ) (n : ℕ) (s : State) (count : ℕ) → n ≤ 0 → (s ≡ ran mask n s) × (count ≡ tallied count (strays_in mask n s))
 unfolding ran yielded tallied
 none mask zero s count h = (refl, refl)
 none mask (suc n) s count h = absurd (omega arith)
 
 -- a stopped state, with what its stop shows
-stop : (mask : List ℕ) (n : ℕ) (s : State) (count : ℕ) → s ≡ step mask s → count ≡ tallied count (straysBy mask s) → (s ≡ ran mask n s) × (count ≡ tallied count (straysIn mask n s))
+stop : (mask : List ℕ) (n : ℕ) (s : State) (count : ℕ) → s ≡ step mask s → count ≡ tallied count (strays_by mask s) → (s ≡ ran mask n s) × (count ≡ tallied count (strays_in mask n s))
 stop mask n s count e z = (ran-stopped mask n s e, stopped-counts-none mask s count n e z)
 
-halted : (mask : List ℕ) (n : ℕ) (s : State) (count : ℕ) → (s.cpu.status.halted ≡ 0 → ⊥) → (s ≡ ran mask n s) × (count ≡ tallied count (straysIn mask n s))
+halted : (mask : List ℕ) (n : ℕ) (s : State) (count : ℕ) → (s.cpu.status.halted ≡ 0 → ⊥) → (s ≡ ran mask n s) × (count ≡ tallied count (strays_in mask n s))
 halted mask n s count h = stop mask n s count (halted-stops mask s h) (halted-counts-none mask s count h)
 
-faulted : (mask : List ℕ) (n : ℕ) (s : State) (count : ℕ) → s.cpu.status.halted ≡ 0 → (s.cpu.status.fault ≡ 0 → ⊥) → (s ≡ ran mask n s) × (count ≡ tallied count (straysIn mask n s))
+faulted : (mask : List ℕ) (n : ℕ) (s : State) (count : ℕ) → s.cpu.status.halted ≡ 0 → (s.cpu.status.fault ≡ 0 → ⊥) → (s ≡ ran mask n s) × (count ≡ tallied count (strays_in mask n s))
 faulted mask n s count h f = stop mask n s count (fault-stops mask s h f) (fault-counts-none mask s count h f)
 
 -- one step of those left: from s and k to t and l
-rest : (mask : List ℕ) (n : ℕ) (s t : State) (k l : ℕ) → 0 < n → (t ≡ step mask s) × (l ≡ tallied k (straysBy mask s))
-    → (ran mask (n - 1) t ≡ ran mask n s) × (tallied l (straysIn mask (n - 1) t) ≡ tallied k (straysIn mask n s))
+rest : (mask : List ℕ) (n : ℕ) (s t : State) (k l : ℕ) → 0 < n → (t ≡ step mask s) × (l ≡ tallied k (strays_by mask s))
+    → (ran mask (n - 1) t ≡ ran mask n s) × (tallied l (strays_in mask (n - 1) t) ≡ tallied k (strays_in mask n s))
 rest mask n s t k l h e =
-    (ap (ran mask (n - 1)) e.0 ∙ ran-next mask n s h, ap₂ (λ (m : ℕ) (x : State). tallied m (straysIn mask (n - 1) x)) e.1 e.0 ∙ next-counts mask s k n h)
+    (ap (ran mask (n - 1)) e.0 ∙ ran-next mask n s h, ap₂ (λ (m : ℕ) (x : State). tallied m (strays_in mask (n - 1) x)) e.1 e.0 ∙ next-counts mask s k n h)
 
 -- halted from the start
 returns : tie.Need-returns invariant-loop decreases-loop
@@ -72,7 +72,7 @@ module _ (went : tie.After-go-on invariant-loop decreases-loop) where
   now = state went.go_on.result went.go_on.last.1.1.0
 
   onwards : (ran mask (l.loop.left - 1) now ≡ ran mask l.loop.left (state l.loop.current l.loop.memory))
-      × (tallied went.go_on.last.1.1.1.0 (straysIn mask (l.loop.left - 1) now) ≡ tallied l.loop.gap (straysIn mask l.loop.left (state l.loop.current l.loop.memory)))
+      × (tallied went.go_on.last.1.1.1.0 (strays_in mask (l.loop.left - 1) now) ≡ tallied l.loop.gap (strays_in mask l.loop.left (state l.loop.current l.loop.memory)))
   onwards = rest mask l.loop.left (state l.loop.current l.loop.memory) now l.loop.gap went.go_on.last.1.1.1.0 went.before.before.before.loop-test.taken went.go_on.ensures
 
 -- halted by the step

@@ -9,21 +9,21 @@ use borrow.Author.Tests.{lt-ltb, le-ltb, eq-eqb, ne_eqb}
 use borrow.Author.Rules.{rules}
 use Rattle.glass.specs.Shapes.{shape}
 use Rattle.glass.specs.Pictures.{digit, lit}
-use Rattle.glass.specs.Drawing.{pointAt}
+use Rattle.glass.specs.Drawing.{point_at}
 use Rattle.glass.specs.Walk.{code_of, byte_of, placed}
 use Rattle.glass.proofs.Cells.{unlit, pointed, code-small}
 use Rattle.glass.proofs.draw.place.Statement.{statement}
 use Rattle.glass.proofs.draw.place.Tie as tie
 
 -- among the digits, by whether the point is lit
-among : (minus : Bool) (size count n after : ℕ) (p : Bool) → after < n → pointAt after count ≡ p → byte_of (lit (digit (size / 10 ^ after % 10) p)) ≡ byte_of (placed minus size count n after)
+among : (minus : Bool) (size count n after : ℕ) (p : Bool) → after < n → point_at after count ≡ p → byte_of (lit (digit (size / 10 ^ after % 10) p)) ≡ byte_of (placed minus size count n after)
 among minus size count n after p h e = rw (lt-ltb after n h, e) refl
 
-dark : (minus : Bool) (size count n after p code : ℕ) → after < n → p ≡ 10 ^ after → code ≡ code_of (shape (size / p % 10)) → pointAt after count ≡ false → code ≡ byte_of (placed minus size count n after)
+dark : (minus : Bool) (size count n after p code : ℕ) → after < n → p ≡ 10 ^ after → code ≡ code_of (shape (size / p % 10)) → point_at after count ≡ false → code ≡ byte_of (placed minus size count n after)
 dark minus size count n after p code h e k u =
     k ∙ ap (λ (q : ℕ). code_of (shape (size / q % 10))) e ∙ unlit (size / 10 ^ after % 10) ∙ among minus size count n after false h u
 
-light : (minus : Bool) (size count n after p code : ℕ) → after < n → p ≡ 10 ^ after → code ≡ code_of (shape (size / p % 10)) → pointAt after count ≡ true → code + 128 ≡ byte_of (placed minus size count n after)
+light : (minus : Bool) (size count n after p code : ℕ) → after < n → p ≡ 10 ^ after → code ≡ code_of (shape (size / p % 10)) → point_at after count ≡ true → code + 128 ≡ byte_of (placed minus size count n after)
 light minus size count n after p code h e k u =
     ap (λ (x : ℕ). x + 128) (k ∙ ap (λ (q : ℕ). code_of (shape (size / q % 10))) e) ∙ pointed (size / 10 ^ after % 10) ∙ among minus size count n after true h u
 

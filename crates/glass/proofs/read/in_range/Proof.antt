@@ -10,25 +10,25 @@ use lib.ListN.{length, get_or, drop, drop_of_length-le}
 use lib.Seq.{drop-cons}
 use borrow.Author.Tests.{lt-ltb, le-ltb}
 use borrow.Author.Rules.{rules}
-use Rattle.glass.specs.Reading.{allNibbles}
+use Rattle.glass.specs.Reading.{all_nibbles}
 use Rattle.glass.proofs.read.in_range.Statement.{statement}
 use Rattle.glass.proofs.read.in_range.Tie as tie
 
 abbrev invariant-loop : tie.invariant-loop
-invariant-loop picture i₀ i = (i ≤ length picture) × (allNibbles picture ≡ allNibbles (drop i picture))
+invariant-loop picture i₀ i = (i ≤ length picture) × (all_nibbles picture ≡ all_nibbles (drop i picture))
 
 abbrev decreases-loop : tie.decreases-loop
 decreases-loop picture i₀ i = length picture - i
 
 -- the element at `i`, and those after it
-here : (s : List ℕ) (i : ℕ) (t : Bool) → i < length s → ltb (get_or s i 0) 16 ≡ t → allNibbles (drop i s) ≡ t && allNibbles (drop (i + 1) s)
-unfolding allNibbles
+here : (s : List ℕ) (i : ℕ) (t : Bool) → i < length s → ltb (get_or s i 0) 16 ≡ t → all_nibbles (drop i s) ≡ t && all_nibbles (drop (i + 1) s)
+unfolding all_nibbles
 here s i t h e =
-    ap allNibbles (drop-cons s i 0 h) ∙ ap (λ (b : Bool). b && allNibbles (drop (suc i) s)) e ∙ ap (λ (k : ℕ). t && allNibbles (drop k s)) (sym (add-one i))
+    ap all_nibbles (drop-cons s i 0 h) ∙ ap (λ (b : Bool). b && all_nibbles (drop (suc i) s)) e ∙ ap (λ (k : ℕ). t && all_nibbles (drop k s)) (sym (add-one i))
 
-end : (s : List ℕ) (i : ℕ) → length s ≤ i → true ≡ allNibbles (drop i s)
-unfolding allNibbles
-end s i h = sym (ap allNibbles (drop_of_length-le s h))
+end : (s : List ℕ) (i : ℕ) → length s ≤ i → true ≡ all_nibbles (drop i s)
+unfolding all_nibbles
+end s i h = sym (ap all_nibbles (drop_of_length-le s h))
 
 pub in-range-spec : {M : Type 1} → statement M
 in-range-spec =

@@ -6,7 +6,7 @@ use native.Mathlib.Omega.{arith}
 use lib.Dec.{eqb}
 use borrow.Author.Tests.{lt-ltb, le-ltb, eq-eqb, ne_eqb}
 use borrow.Author.Rules.{rules}
-use Rattle.glass.specs.Walk.{front, numeralTaken, stepped}
+use Rattle.glass.specs.Walk.{front, numeral_taken, stepped}
 use Rattle.glass.specs.declared.read.Front.{Front}
 use Rattle.glass.specs.declared.read.Next.{Next}
 use Rattle.glass.specs.declared.read.Next.TheVariants.{On, Off}
@@ -14,7 +14,7 @@ use Rattle.glass.proofs.read.step.Statement.{statement}
 use Rattle.glass.proofs.read.step.Tie as tie
 
 -- the ways, at any mark
-digit : (f : Front) (m : ℕ) (p l : Bool) → m < 10 → numeralTaken f m p ≡ stepped f m p l
+digit : (f : Front) (m : ℕ) (p l : Bool) → m < 10 → numeral_taken f m p ≡ stepped f m p l
 unfolding stepped
 digit f m p l h = rw (lt-ltb m 10 h) refl
 

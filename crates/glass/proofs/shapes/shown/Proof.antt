@@ -1,60 +1,60 @@
 -- `glass::shapes::shown` meets its contract: an arm knows the code, and any other is no shape's. Assumes nothing.
 use mathlib.Core.Path.{refl}
 use borrow.Author.Tests.{ne_eqb}
-use Rattle.glass.specs.Walk.{shownAs}
+use Rattle.glass.specs.Walk.{shown_as}
 use Rattle.glass.proofs.shapes.shown.Statement.{statement}
 use Rattle.glass.proofs.shapes.shown.Tie as tie
 
 returns : tie.Need-returns
-unfolding shownAs
+unfolding shown_as
 returns c = rw c.match.keys1 refl
 
 returns-2 : tie.Need-returns-2
-unfolding shownAs
+unfolding shown_as
 returns-2 c = rw c.match.keys2 refl
 
 returns-3 : tie.Need-returns-3
-unfolding shownAs
+unfolding shown_as
 returns-3 c = rw c.match.keys3 refl
 
 returns-4 : tie.Need-returns-4
-unfolding shownAs
+unfolding shown_as
 returns-4 c = rw c.match.keys4 refl
 
 returns-5 : tie.Need-returns-5
-unfolding shownAs
+unfolding shown_as
 returns-5 c = rw c.match.keys5 refl
 
 returns-6 : tie.Need-returns-6
-unfolding shownAs
+unfolding shown_as
 returns-6 c = rw c.match.keys6 refl
 
 returns-7 : tie.Need-returns-7
-unfolding shownAs
+unfolding shown_as
 returns-7 c = rw c.match.keys7 refl
 
 returns-8 : tie.Need-returns-8
-unfolding shownAs
+unfolding shown_as
 returns-8 c = rw c.match.keys8 refl
 
 returns-9 : tie.Need-returns-9
-unfolding shownAs
+unfolding shown_as
 returns-9 c = rw c.match.keys9 refl
 
 returns-10 : tie.Need-returns-10
-unfolding shownAs
+unfolding shown_as
 returns-10 c = rw c.match.keys10 refl
 
 returns-11 : tie.Need-returns-11
-unfolding shownAs
+unfolding shown_as
 returns-11 c = rw c.match.keys11 refl
 
 returns-12 : tie.Need-returns-12
-unfolding shownAs
+unfolding shown_as
 returns-12 c = rw c.match.keys12 refl
 
 returns-13 : tie.Need-returns-13
-unfolding shownAs
+unfolding shown_as
 returns-13 c =
     let r = c.match.rest in
     let x = c.before.args.code in

@@ -6,7 +6,7 @@ use lib.Signed.{lt_z}
 use mir.Syntax.{w32, w64}
 use mir.Val.{SFits, of_z, to_z}
 use mir.ValLaws.{to_z-of_z}
-use Rattle.glass.specs.Drawing.{isNegative}
+use Rattle.glass.specs.Drawing.{is_negative}
 use Rattle.glass.proofs.Integers.{wider, widened, below-zero, less, less-fits, size-of-less, size_fits, less-positive, positive}
 use Rattle.glass.proofs.signed.size.Statement.{statement}
 use Rattle.glass.proofs.signed.size.Tie as tie
@@ -19,7 +19,7 @@ back : (z : ℤ) → SFits w32 z → to_z w64 (of_z w64 (pos 0 -ℤ to_z w64 (of
 back z f =
     ap (λ (y : ℤ). to_z w64 (of_z w64 y)) (taken z f) ∙ to_z-of_z w64 (neg_ℤ z) (less-fits z f)
 
-sign : (z : ℤ) (b : Bool) → SFits w32 z → lt_z (to_z w64 (of_z w64 (to_z w32 (of_z w32 z)))) (pos 0) ≡ b → isNegative z ≡ b
+sign : (z : ℤ) (b : Bool) → SFits w32 z → lt_z (to_z w64 (of_z w64 (to_z w32 (of_z w32 z)))) (pos 0) ≡ b → is_negative z ≡ b
 sign z b f e = sym (below-zero z) ∙ ap (λ (y : ℤ). lt_z y (pos 0)) (sym (widened z f)) ∙ e
 
 pub size-spec : {M : Type 1} → statement M

@@ -6,14 +6,14 @@ use native.Mathlib.Numerals.{add-one}
 use native.Mathlib.Omega.{arith}
 use lib.Dec.{lit<}
 use borrow.Author.Rules.{rules}
-use Rattle.glass.specs.Drawing.{digitsOf, pointAt}
+use Rattle.glass.specs.Drawing.{digits_of, point_at}
 use Rattle.glass.specs.Text.{packed, spelt}
 use Rattle.glass.proofs.Texts.{more, at_most, wider, narrow, fit}
 use Rattle.glass.proofs.text.digits.Statement.{statement}
 use Rattle.glass.proofs.text.digits.Tie as tie
 
 abbrev invariant-loop : tie.invariant-loop
-invariant-loop size places n text₀ after₀ text after = (after ≤ n) × (text ≡ packed (spelt (digitsOf after size places))) × (text < 65536 ^ after)
+invariant-loop size places n text₀ after₀ text after = (after ≤ n) × (text ≡ packed (spelt (digits_of after size places))) × (text < 65536 ^ after)
 
 abbrev decreases-loop : tie.decreases-loop
 decreases-loop size places n text₀ after₀ text after = n - after
@@ -27,7 +27,7 @@ small c d n =
     let l = c.before.before.before in
     let a = l.before.args in
     fit l.loop.text c.pointed.result d l.loop.after a.n c.before.before.loop-test.true l.before.requires l.loop.invariant.2
-    (at_most l.loop.text c.pointed.result (pointAt l.loop.after a.places) c.pointed.ensures) n
+    (at_most l.loop.text c.pointed.result (point_at l.loop.after a.places) c.pointed.ensures) n
 
 pub digits-spec : {M : Type 1} → statement M
 digits-spec =
@@ -55,10 +55,10 @@ digits-spec =
     let t = l.loop.text in (
       omega (arith, h),
       more a.size a.places l.loop.after t c.before.power.result c.pointed.result c.before.power.ensures l.loop.invariant.1 c.pointed.ensures
-          ∙ ap (λ (k : ℕ). packed (spelt (digitsOf k a.size a.places))) (sym (add-one l.loop.after)),
+          ∙ ap (λ (k : ℕ). packed (spelt (digits_of k a.size a.places))) (sym (add-one l.loop.after)),
       subst (λ (k : ℕ). c.pointed.result * 256 + 48 + numeral c < 65536 ^ k) (sym (add-one l.loop.after))
           (wider t c.pointed.result (numeral c) l.loop.after l.loop.invariant.2
-          (at_most t c.pointed.result (pointAt l.loop.after a.places) c.pointed.ensures)
+          (at_most t c.pointed.result (point_at l.loop.after a.places) c.pointed.ensures)
           (mod-lt (a.size / c.before.power.result) (lit< tt))),
     ))
     (λ c.
@@ -67,4 +67,4 @@ digits-spec =
     let h = c.loop-test.false in
     let i = l.loop.invariant.0 in
     let e : l.loop.after ≡ a.n = omega (arith, h, i) in
-    subst (λ (k : ℕ). (l.loop.text ≡ packed (spelt (digitsOf k a.size a.places))) × (l.loop.text < 65536 ^ k)) e (l.loop.invariant.1, l.loop.invariant.2)))
+    subst (λ (k : ℕ). (l.loop.text ≡ packed (spelt (digits_of k a.size a.places))) × (l.loop.text < 65536 ^ k)) e (l.loop.invariant.1, l.loop.invariant.2)))

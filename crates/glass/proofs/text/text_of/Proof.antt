@@ -7,8 +7,8 @@ use lib.IntN.{ℤ, nat_abs}
 use mir.Syntax.{w32}
 use mir.ValLaws.{to_z-of_z}
 use borrow.Author.Rules.{rules}
-use Rattle.glass.specs.Drawing.{digitsOf, fewest, fits, isNegative}
-use Rattle.glass.specs.Text.{packed, spelt, textOf}
+use Rattle.glass.specs.Drawing.{digits_of, fewest, fits, is_negative}
+use Rattle.glass.specs.Text.{packed, spelt, text_of}
 use Rattle.glass.specs.declared.Reading.TheVariants.{Number}
 use Rattle.glass.proofs.Rows.{same-fewest, same-fits, fits_under}
 use Rattle.glass.proofs.Texts.{narrow}
@@ -16,13 +16,13 @@ use Rattle.glass.proofs.text.text_of.Statement.{statement}
 use Rattle.glass.proofs.text.text_of.Tie as tie
 
 -- the digits' text is the definition's
-same_digits : (v : ℤ) (p size n r : ℕ) → size ≡ nat_abs v → n ≡ fewest size p → r ≡ packed (spelt (digitsOf n size p)) → r ≡ packed (spelt (digitsOf (fewest (nat_abs v) p) (nat_abs v) p))
+same_digits : (v : ℤ) (p size n r : ℕ) → size ≡ nat_abs v → n ≡ fewest size p → r ≡ packed (spelt (digits_of n size p)) → r ≡ packed (spelt (digits_of (fewest (nat_abs v) p) (nat_abs v) p))
 same_digits v p size n r s k e =
-    e ∙ ap (λ (x : ℕ). packed (spelt (digitsOf n x p))) s ∙ ap (λ (x : ℕ). packed (spelt (digitsOf x (nat_abs v) p))) (same-fewest v p size n s k)
+    e ∙ ap (λ (x : ℕ). packed (spelt (digits_of n x p))) s ∙ ap (λ (x : ℕ). packed (spelt (digits_of x (nat_abs v) p))) (same-fewest v p size n s k)
 
-below : (v : ℤ) (p : ℕ) (minus : Bool) (size n r : ℕ) → minus ≡ isNegative v → size ≡ nat_abs v → n ≡ fewest size p → fits minus n ≡ true → minus ≡ true
-    → r ≡ packed (spelt (digitsOf n size p)) → r * 256 + 45 ≡ packed (textOf (Number v p))
-unfolding textOf
+below : (v : ℤ) (p : ℕ) (minus : Bool) (size n r : ℕ) → minus ≡ is_negative v → size ≡ nat_abs v → n ≡ fewest size p → fits minus n ≡ true → minus ≡ true
+    → r ≡ packed (spelt (digits_of n size p)) → r * 256 + 45 ≡ packed (text_of (Number v p))
+unfolding text_of
 below v p minus size n r m s k f t e =
     rw (same-fits v p minus size n true m s k f, sym m ∙ t)
     (let h = same_digits v p size n r s k e in
@@ -31,13 +31,13 @@ below v p minus size n r m s k f t e =
     turned : (x : ℕ) → x * 256 + 45 ≡ 45 + 256 * x
     turned x = omega arith
 
-plain : (v : ℤ) (p : ℕ) (minus : Bool) (size n r : ℕ) → minus ≡ isNegative v → size ≡ nat_abs v → n ≡ fewest size p → fits minus n ≡ true → minus ≡ false
-    → r ≡ packed (spelt (digitsOf n size p)) → r ≡ packed (textOf (Number v p))
-unfolding textOf
+plain : (v : ℤ) (p : ℕ) (minus : Bool) (size n r : ℕ) → minus ≡ is_negative v → size ≡ nat_abs v → n ≡ fewest size p → fits minus n ≡ true → minus ≡ false
+    → r ≡ packed (spelt (digits_of n size p)) → r ≡ packed (text_of (Number v p))
+unfolding text_of
 plain v p minus size n r m s k f t e = rw (same-fits v p minus size n true m s k f, sym m ∙ t) (same_digits v p size n r s k e)
 
-nothing : (v : ℤ) (p : ℕ) (minus : Bool) (size n : ℕ) → minus ≡ isNegative v → size ≡ nat_abs v → n ≡ fewest size p → fits minus n ≡ false → 0 ≡ packed (textOf (Number v p))
-unfolding textOf
+nothing : (v : ℤ) (p : ℕ) (minus : Bool) (size n : ℕ) → minus ≡ is_negative v → size ≡ nat_abs v → n ≡ fewest size p → fits minus n ≡ false → 0 ≡ packed (text_of (Number v p))
+unfolding text_of
 nothing v p minus size n m s k f = rw (same-fits v p minus size n false m s k f) refl
 
 -- with a minus there are three digits at most
@@ -75,7 +75,7 @@ text-of-spec =
     let m = s.before in
     let a = m.before in
     let back = to_z-of_z w32 a.args.value a.ranges.value in
-    below a.args.value a.args.places m.negative.result s.size.result n.fewest.result d.digits.result (m.negative.ensures ∙ ap isNegative back)
+    below a.args.value a.args.places m.negative.result s.size.result n.fewest.result d.digits.result (m.negative.ensures ∙ ap is_negative back)
     (s.size.ensures ∙ ap nat_abs back) n.fewest.ensures (sym f.fits2.ensures ∙ d.before.if1.true) c.if2.true d.digits.ensures.0)
     (λ c.
     let d = c.before in
@@ -85,7 +85,7 @@ text-of-spec =
     let m = s.before in
     let a = m.before in
     let back = to_z-of_z w32 a.args.value a.ranges.value in
-    plain a.args.value a.args.places m.negative.result s.size.result n.fewest.result d.digits.result (m.negative.ensures ∙ ap isNegative back)
+    plain a.args.value a.args.places m.negative.result s.size.result n.fewest.result d.digits.result (m.negative.ensures ∙ ap is_negative back)
     (s.size.ensures ∙ ap nat_abs back) n.fewest.ensures (sym f.fits2.ensures ∙ d.before.if1.true) c.if2.false d.digits.ensures.0)
     (λ c.
     let f = c.before in
@@ -94,5 +94,5 @@ text-of-spec =
     let m = s.before in
     let a = m.before in
     let back = to_z-of_z w32 a.args.value a.ranges.value in
-    nothing a.args.value a.args.places m.negative.result s.size.result n.fewest.result (m.negative.ensures ∙ ap isNegative back)
+    nothing a.args.value a.args.places m.negative.result s.size.result n.fewest.result (m.negative.ensures ∙ ap is_negative back)
     (s.size.ensures ∙ ap nat_abs back) n.fewest.ensures (sym f.fits2.ensures ∙ c.if1.false)))

@@ -1,7 +1,7 @@
 -- `ht1130::lent::ht1130_apply` meets its contract: it is `Wrapper`'s function over `event`. Assumes nothing.
 use mir.Syntax.{w16}
 use Rattle.ht1130.specs.Lent.{hosted}
-use Rattle.machine.specs.Events.{eventOf}
+use Rattle.machine.specs.Events.{event_of}
 use Rattle.machine.specs.contracts.Machine as T
 use Rattle.machine.proofs.Machine.TheLaws as T'
 use Rattle.ht1130.proofs.Refused.{answers, event-keeps}
@@ -16,5 +16,5 @@ use Rattle.ht1130.proofs.lent.ht1130_apply.Code as code
 pub ht1130-apply-spec : {M : Type 1} → stated.statement M
 unfolding code.routine
 ht1130-apply-spec 𝓤 𝓛 𝓜 𝓡 =
-    storing T.the_type T'.the_laws T'.the_plain T'.lowers answers w16 w16 hosted (λ mask kind count a b c m. event-keeps mask (eventOf kind count a b c) m) 𝓛 𝓜 𝓡
+    storing T.the_type T'.the_laws T'.the_plain T'.lowers answers w16 w16 hosted (λ mask kind count a b c m. event-keeps mask (event_of kind count a b c) m) 𝓛 𝓜 𝓡
     code.env #ht1130·lent·ht1130-apply #ht1130·events·event event-def.routine code.calls-ht1130::events::event (code.unfolded 𝓤 𝓛.H 𝓜 𝓡) (event-thm.met 𝓤 𝓛 𝓜 𝓡)

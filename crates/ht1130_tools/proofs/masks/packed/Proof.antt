@@ -3,12 +3,12 @@ use Prim.Native.Nat.{ℕ, ◌+◌}
 use mathlib.Core.Path.{◌≡◌, sym, ap, ◌∙◌}
 use native.Mathlib.Omega.{arith}
 use borrow.Author.Rules.{rules}
-use Rattle.ht1130_tools.specs.Numbers.{verdictNumber}
+use Rattle.ht1130_tools.specs.Numbers.{verdict_number}
 use Rattle.ht1130_tools.proofs.masks.packed.Statement.{statement}
 use Rattle.ht1130_tools.proofs.masks.packed.Tie as tie
 
 returns-2 : tie.Need-returns-2
-returns-2 c = c.failed.ensures ∙ not-refused _ _ _ ∙ sym (ap verdictNumber c.before.before.verdict.given.1)
+returns-2 c = c.failed.ensures ∙ not-refused _ _ _ ∙ sym (ap verdict_number c.before.before.verdict.given.1)
   where
     not-refused : (x y z : ℕ) → x + y + z ≡ 0 + x + y + z
     not-refused x y z = omega arith

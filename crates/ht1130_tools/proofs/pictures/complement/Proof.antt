@@ -5,7 +5,7 @@ use lib.IntN.{nat_abs}
 use mir.Syntax.{w32}
 use mir.ValLaws.{to_z-of_z}
 use borrow.Author.Rules.{rules}
-use Rattle.glass.specs.Drawing.{isNegative}
+use Rattle.glass.specs.Drawing.{is_negative}
 use Rattle.ht1130_tools.proofs.Complements.{below-0, from-0, size-under}
 use Rattle.ht1130_tools.proofs.pictures.complement.Statement.{statement}
 use Rattle.ht1130_tools.proofs.pictures.complement.Tie as tie
@@ -24,9 +24,9 @@ complement-spec =
     let s = c.before.before in
     let a = s.before in
     let back = to_z-of_z w32 a.args.value a.ranges.value in
-    below-0 a.args.value s.size.result (s.size.ensures ∙ ap nat_abs back) (sym (c.before.negative.ensures ∙ ap isNegative back) ∙ c.if1.true))
+    below-0 a.args.value s.size.result (s.size.ensures ∙ ap nat_abs back) (sym (c.before.negative.ensures ∙ ap is_negative back) ∙ c.if1.true))
     (λ c.
     let s = c.before.before in
     let a = s.before in
     let back = to_z-of_z w32 a.args.value a.ranges.value in
-    from-0 a.args.value s.size.result (s.size.ensures ∙ ap nat_abs back) (sym (c.before.negative.ensures ∙ ap isNegative back) ∙ c.if1.false)))
+    from-0 a.args.value s.size.result (s.size.ensures ∙ ap nat_abs back) (sym (c.before.negative.ensures ∙ ap is_negative back) ∙ c.if1.false)))

@@ -7,7 +7,7 @@ use lib.IntN.{ℤ}
 use mir.Syntax.{w32}
 use mir.ValLaws.{to_z-of_z}
 use borrow.Author.Rules.{rules}
-use Rattle.glass.specs.Drawing.{Drawing, drawing, drawnOver}
+use Rattle.glass.specs.Drawing.{Drawing, drawing, drawn_over}
 use Rattle.glass.specs.declared.Reading.{Reading}
 use Rattle.ht1130_tools.specs.Readings.{GlassDrawn, given}
 use Rattle.ht1130_tools.proofs.pictures.ht1130_glass_draw.Statement.{statement}
@@ -29,7 +29,7 @@ ht1130-glass-draw-spec =
     let d = c.before.before in
     let g = d.before.before in
     let a = g.before.before in
-    drawn (drawnOver (given a.args.dark a.args.value a.args.places) a.args.picture.now) d.draw.new.1.0 d.draw.result
+    drawn (drawn_over (given a.args.dark a.args.value a.args.places) a.args.picture.now) d.draw.new.1.0 d.draw.result
     (d.draw.ensures
-    ∙ ap (λ (r : Reading). drawnOver r a.args.picture.now)
+    ∙ ap (λ (r : Reading). drawn_over r a.args.picture.now)
     (g.given.ensures ∙ ap (λ (z : ℤ). given a.args.dark z a.args.places) (to_z-of_z w32 a.args.value a.ranges.value)))))

@@ -6,7 +6,7 @@ use mir.Val.{SFits}
 use mir.ValLaws.{to_z-of_z}
 use borrow.Author.Rules.{rules}
 use Rattle.glass.specs.declared.Reading.TheVariants.{Number}
-use Rattle.ht1130_tools.specs.Readings.{readingNumber}
+use Rattle.ht1130_tools.specs.Readings.{reading_number}
 use Rattle.ht1130_tools.proofs.pictures.reading_number.Statement.{statement}
 use Rattle.ht1130_tools.proofs.pictures.reading_number.Tie as tie
 
@@ -21,5 +21,5 @@ reading-number-spec =
     let v = e.reading.given.0.0 in
     let fits : SFits w32 v = search rules in
     c.number.ensures
-    ∙ ap (λ (z : ℤ). readingNumber (Number z e.reading.given.0.1.0)) (to_z-of_z w32 v fits)
-    ∙ ap readingNumber (sym e.reading.given.1)))
+    ∙ ap (λ (z : ℤ). reading_number (Number z e.reading.given.0.1.0)) (to_z-of_z w32 v fits)
+    ∙ ap reading_number (sym e.reading.given.1)))

@@ -2,7 +2,7 @@
 use native.Mathlib.Nat.{zero-add}
 use mathlib.Core.Path.{sym, ap, ◌∙◌}
 use borrow.Author.Rules.{rules}
-use Rattle.ht1130_tools.specs.Readings.{seenNumber}
+use Rattle.ht1130_tools.specs.Readings.{seen_number}
 use Rattle.ht1130_tools.proofs.pictures.seen_number.Statement.{statement}
 use Rattle.ht1130_tools.proofs.pictures.seen_number.Tie as tie
 
@@ -12,7 +12,7 @@ seen-number-spec =
     (tie.spec
     (λ c. search rules) (λ c κs. search rules) (λ c. search rules) (λ c. search rules) (λ c. search rules) (λ c. search rules) (λ c. search rules)
     (λ c. search rules)
-    (λ c. c.reading-number.ensures ∙ sym (zero-add _) ∙ ap seenNumber (sym c.before.before.seen.given.1))
-    (λ c. ap seenNumber (sym c.enum_told.given.1))
-    (λ c. ap seenNumber (sym c.enum-told2.given.1))
-    (λ c. ap seenNumber (sym c.before.seen2.given.1)))
+    (λ c. c.reading-number.ensures ∙ sym (zero-add _) ∙ ap seen_number (sym c.before.before.seen.given.1))
+    (λ c. ap seen_number (sym c.enum_told.given.1))
+    (λ c. ap seen_number (sym c.enum-told2.given.1))
+    (λ c. ap seen_number (sym c.before.seen2.given.1)))

@@ -3,7 +3,7 @@ use Prim.Native.Nat.{ℕ, ◌≤◌}
 use mathlib.Core.Path.{ap, subst, sym, ◌∙◌}
 use borrow.Author.Rules.{rules}
 use Rattle.script.specs.declared.Checked.{Checked}
-use Rattle.ht1130_tools.specs.Numbers.{scriptNumber}
+use Rattle.ht1130_tools.specs.Numbers.{script_number}
 use Rattle.ht1130_tools.proofs.Small.{small}
 use Rattle.ht1130_tools.proofs.scripts.ht1130_check_script.Statement.{statement}
 use Rattle.ht1130_tools.proofs.scripts.ht1130_check_script.Tie as tie
@@ -14,7 +14,7 @@ packed-requires c κs =
     subst (λ (n : ℕ). n ≤ 65535) (sym (ap (λ (k : Checked). k.offset) c.check-script.ensures)) (small x.mask.now x.script.now x.room)
 
 returns : tie.Need-returns
-returns c = c.packed.ensures ∙ ap scriptNumber c.before.check-script.ensures
+returns c = c.packed.ensures ∙ ap script_number c.before.check-script.ensures
 
 pub ht1130-check-script-spec : {M : Type 1} → statement M
 ht1130-check-script-spec = tie.close (tie.spec (λ c κs. search rules) packed-requires returns)

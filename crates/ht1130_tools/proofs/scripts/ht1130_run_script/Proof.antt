@@ -6,7 +6,7 @@ use lib.ListN.{length}
 use borrow.Author.Rules.{rules}
 use Rattle.script.specs.Reports.{Applied, applied, leaving}
 use Rattle.script.specs.declared.Checked.{Checked}
-use Rattle.ht1130_tools.specs.Numbers.{Ran, scriptNumber}
+use Rattle.ht1130_tools.specs.Numbers.{Ran, script_number}
 use Rattle.ht1130_tools.proofs.Small.{small}
 use Rattle.ht1130_tools.proofs.scripts.ht1130_run_script.Statement.{statement}
 use Rattle.ht1130_tools.proofs.scripts.ht1130_run_script.Tie as tie
@@ -15,8 +15,8 @@ fits : (mask s old new : List ℕ) (k : Checked) → leaving k new ≡ applied m
 unfolding applied
 fits mask s old new k e = subst (λ (n : ℕ). n ≤ 65535) (sym (ap (λ (a : Applied). a.answer.offset) e)) (small mask s (length old))
 
-ran : (a : Applied) (new : List ℕ) (k : Checked) (r : ℕ) → leaving k new ≡ a → r ≡ scriptNumber k → Ran a new r
-ran a new k r e f = record { number = f ∙ ap (λ (b : Applied). scriptNumber b.answer) e; bytes = ap (λ (b : Applied). b.bytes) e }
+ran : (a : Applied) (new : List ℕ) (k : Checked) (r : ℕ) → leaving k new ≡ a → r ≡ script_number k → Ran a new r
+ran a new k r e f = record { number = f ∙ ap (λ (b : Applied). script_number b.answer) e; bytes = ap (λ (b : Applied). b.bytes) e }
 
 packed-requires : tie.Need-packed-requires
 packed-requires c κs =

@@ -11,7 +11,7 @@ use native.Mathlib.Omega.{arith}
 use types.Run.{OneOf}
 use borrow.Author.Rules.{rules}
 use borrow.Author.Tests.{lt-ltb, eqb-true, ltb-true, ltb-false}
-use Rattle.isa.specs.Code.{bytes_of, in_range, leading, bitInRange}
+use Rattle.isa.specs.Code.{bytes_of, in_range, leading, bit_in_range}
 use Rattle.isa.specs.Reading.{decoded, opcodes}
 use Rattle.isa.specs.declared.Pointer.TheVariants.{R1R0, R3R2}
 use Rattle.isa.specs.declared.Instruction.TheVariants as I
@@ -58,7 +58,7 @@ registers x a h = ⊎_elim (λ w. omega arith) (⊎_elim (λ w. omega arith) (�
 
 -- the needs in the order of the code: first the two sums, then the arms' answers
 pub decode-spec : {M : Type 1} → statement M
-unfolding bytes_of in_range decoded opcodes arms leading bitInRange
+unfolding bytes_of in_range decoded opcodes arms leading bit_in_range
 decode-spec =
     tie.close
     (tie.spec

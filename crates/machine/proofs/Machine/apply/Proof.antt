@@ -4,7 +4,7 @@ use mathlib.Core.Path.{◌≡◌, refl, sym, ap, subst, ◌∙◌}
 use mathlib.Core.List.{List, [], ◌∷◌}
 use types.Run.{OneOf, miss}
 use denote.Enum.Declared.{tag_of}
-use Rattle.machine.specs.Events.{applied, happened, maskOk, refusalOf, resetting}
+use Rattle.machine.specs.Events.{applied, happened, mask_ok, refusal_of, resetting}
 use Rattle.machine.specs.declared.Machine.{Machine}
 use Rattle.machine.specs.declared.events.Event.{Event}
 use Rattle.machine.specs.declared.events.Event.TheVariants.{Run, Res}
@@ -26,7 +26,7 @@ not-res e p h = miss others 4 tt (subst (λ (e : Event). OneOf others (tag_of th
 
 -- RES has no mask to test
 unmasked : (mask : List ℕ) (m : Machine) → resetting m ≡ applied mask Res m
-unfolding applied refusalOf maskOk happened
+unfolding applied refusal_of mask_ok happened
 unmasked mask m = refl
 
 returns : tie.Need-returns

@@ -10,11 +10,11 @@ use Rattle.machine.specs.Power.{blank}
 use borrow.Author.Rules.{rules}
 use Rattle.machine.proofs.Machine.blank.Statement.{statement}
 use Rattle.machine.proofs.Machine.blank.Tie as tie
-use Rattle.datapath.specs.Memory.{memorySize}
+use Rattle.datapath.specs.Memory.{memory_size}
 
 returns : tie.Need-returns
 unfolding blank
-returns c = ap₂ (λ (k : Cpu) (t : Trace). machine_of (state k (replicate memorySize 0)) t) c.before.after-res.ensures c.no-trace.ensures
+returns c = ap₂ (λ (k : Cpu) (t : Trace). machine_of (state k (replicate memory_size 0)) t) c.before.after-res.ensures c.no-trace.ensures
 
 pub blank-spec : {M : Type 1} → statement M
 blank-spec = tie.close (tie.spec (λ c κs. search rules) (λ c κs. search rules) returns)

@@ -8,28 +8,28 @@ use lib.Dec.{eqb}
 use lib.ListN.{length}
 use borrow.Author.Tests.{eqb-true}
 use Rattle.isa.specs.Choice.{pick}
-use Rattle.cpu.specs.Range.{nibbles, optionsOk}
+use Rattle.cpu.specs.Range.{nibbles, options_ok}
 use Rattle.cpu.specs.State.{state}
 use Rattle.cpu.specs.declared.Options.{Options}
 use Rattle.machine.specs.Machine.{machine_of}
 use Rattle.machine.specs.declared.Trace.{Trace}
-use Rattle.machine.specs.Power.{powered, powerOn, powerRefusal}
+use Rattle.machine.specs.Power.{powered, power_on, power_refusal}
 use Rattle.machine.proofs.Answers.{refused, done}
 use borrow.Author.Rules.{rules}
 use Rattle.machine.proofs.Machine.power_on.Statement.{statement}
 use Rattle.machine.proofs.Machine.power_on.Tie as tie
 
 -- what is not refused has its 166 nibbles
-whole : (o : Options) (image : List ℕ) → powerRefusal o image ≡ 0 → length image ≡ 166
-unfolding powerRefusal
+whole : (o : Options) (image : List ℕ) → power_refusal o image ≡ 0 → length image ≡ 166
+unfolding power_refusal
 whole o image e = go (eqb (length image) 166) (eqb-true (length image) 166) e
   where
-    go : (t : Bool) → (t ≡ true → length image ≡ 166) → ◌≡◌ {A = ℕ} (pick t (pick (nibbles image) (pick (optionsOk o) 0 4) 3) 2) 0 → length image ≡ 166
+    go : (t : Bool) → (t ≡ true → length image ≡ 166) → ◌≡◌ {A = ℕ} (pick t (pick (nibbles image) (pick (options_ok o) 0 4) 3) 2) 0 → length image ≡ 166
     go true f z = f refl
     go false f z = absurd (omega arith)
 
 returns : tie.Need-returns
-unfolding powerOn
+unfolding power_on
 returns c =
     let a = c.before.before.before.args in
     let r = c.before.power-refusal in
@@ -41,7 +41,7 @@ powered-requires c κs =
     whole a.options a.image.now (sym c.before.before.power-refusal.ensures ∙ c.before.if1.false)
 
 returns-2 : tie.Need-returns-2
-unfolding powerOn
+unfolding power_on
 returns-2 c =
     let a = c.before.before.before.before.before.before.args in
     let r = c.before.before.before.before.power-refusal in

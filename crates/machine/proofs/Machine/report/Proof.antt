@@ -1,7 +1,7 @@
 -- `machine::Machine::report` meets its contract: each return rewrites with the tests that led there. Assumes nothing.
 use mathlib.Core.Path.{refl, sym, ap, ◌∙◌}
 use borrow.Author.Tests.{eq-eqb, ne_eqb}
-use Rattle.machine.specs.Machine.{noTrace}
+use Rattle.machine.specs.Machine.{no_trace}
 use Rattle.machine.specs.Report.{report, reporting}
 use borrow.Author.Rules.{rules}
 use Rattle.machine.proofs.Machine.report.Statement.{statement}
@@ -15,7 +15,7 @@ returns-2 : tie.Need-returns-2
 unfolding report
 returns-2 c =
     let s = c.before.before.before.before.before.before.before.before in
-    ap (reporting 0) (c.before.before.write-report.ensures noTrace) ∙ rw (eq-eqb _ 48 s.before.before.before.before.before.if1.false, sym s.sound.ensures ∙ c.before.before.before.before.before.before.before.if2.true) refl
+    ap (reporting 0) (c.before.before.write-report.ensures no_trace) ∙ rw (eq-eqb _ 48 s.before.before.before.before.before.if1.false, sym s.sound.ensures ∙ c.before.before.before.before.before.before.before.if2.true) refl
 
 returns-3 : tie.Need-returns-3
 unfolding report

@@ -3,13 +3,13 @@ use mathlib.Core.Path.{refl, sym, ap, ◌∙◌}
 use Rattle.cpu.specs.declared.Cpu.{Cpu}
 use Rattle.cpu.specs.State.{state}
 use Rattle.machine.specs.Machine.{machine_of}
-use Rattle.machine.specs.Events.{happened, maskOk, valuesOk, refusalOf, applied}
+use Rattle.machine.specs.Events.{happened, mask_ok, values_ok, refusal_of, applied}
 use borrow.Author.Rules.{rules}
 use Rattle.machine.proofs.Machine.reset.Statement.{statement}
 use Rattle.machine.proofs.Machine.reset.Tie as tie
 
 returns : tie.Need-returns
-unfolding happened maskOk valuesOk refusalOf applied
+unfolding happened mask_ok values_ok refusal_of applied
 returns c =
     let m = c.before.before.before.before.before.before.before.before.args.t1 in
     let next = c.reset-cpu in
@@ -18,7 +18,7 @@ returns c =
     ∙ rw in-range refl
 
 returns-2 : tie.Need-returns-2
-unfolding happened maskOk valuesOk refusalOf applied
+unfolding happened mask_ok values_ok refusal_of applied
 returns-2 c = rw (sym c.before.sound.ensures ∙ c.if1.false) refl
 
 pub reset-spec : {M : Type 1} → statement M

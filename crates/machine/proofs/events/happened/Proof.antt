@@ -11,7 +11,7 @@ use Rattle.machine.specs.declared.Machine.{Machine}
 use Rattle.machine.specs.declared.events.Event.{Event}
 use Rattle.machine.specs.declared.events.Event.TheVariants.{Run, Res}
 use Rattle.machine.specs.contracts.events.Event.{the_type}
-use Rattle.machine.specs.Machine.{machine_of, traceOf}
+use Rattle.machine.specs.Machine.{machine_of, trace_of}
 use Rattle.machine.specs.Events.{happened}
 use borrow.Author.Rules.{rules}
 use Rattle.machine.proofs.events.happened.Statement.{statement}
@@ -35,18 +35,18 @@ returns : tie.Need-returns
 unfolding happened
 returns c =
     let a = c.before.before.before.before.before.before.before.args in
-    at a.mask.now (machine_of (state a.cpu a.memory.now) (traceOf a.gap.now)) (ap₂ (λ (s : State) (n : ℕ). machine_of s (traceOf n)) c.run.ensures.0 c.run.ensures.1) c.before.before.before.before.event.given.1
+    at a.mask.now (machine_of (state a.cpu a.memory.now) (trace_of a.gap.now)) (ap₂ (λ (s : State) (n : ℕ). machine_of s (trace_of n)) c.run.ensures.0 c.run.ensures.1) c.before.before.before.before.event.given.1
 
 returns-2 : tie.Need-returns-2
 unfolding happened
 returns-2 c =
     let a = c.before.before.before.before.args in
-    at a.mask.now (machine_of (state a.cpu a.memory.now) (traceOf a.gap.now)) (ap (λ (k : Cpu). machine_of (state k a.memory.now) (traceOf a.gap.now)) c.reset-cpu.ensures) c.before.enum_told.given.1
+    at a.mask.now (machine_of (state a.cpu a.memory.now) (trace_of a.gap.now)) (ap (λ (k : Cpu). machine_of (state k a.memory.now) (trace_of a.gap.now)) c.reset-cpu.ensures) c.before.enum_told.given.1
 
 returns-3 : tie.Need-returns-3
 returns-3 c =
     let a = c.before.before.before.args in
-    c.changed.ensures a.mask.now a.memory.now (traceOf a.gap.now) (no_run a.event c.before.match.keys3) (no-res a.event c.before.match.keys3)
+    c.changed.ensures a.mask.now a.memory.now (trace_of a.gap.now) (no_run a.event c.before.match.keys3) (no-res a.event c.before.match.keys3)
 
 pub happened-spec : {M : Type 1} → statement M
 happened-spec =

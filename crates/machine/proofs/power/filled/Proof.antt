@@ -9,11 +9,11 @@ use Rattle.machine.specs.Power.{powered}
 use borrow.Author.Rules.{rules}
 use Rattle.machine.proofs.power.filled.Statement.{statement}
 use Rattle.machine.proofs.power.filled.Tie as tie
-use Rattle.datapath.specs.Memory.{memorySize}
+use Rattle.datapath.specs.Memory.{memory_size}
 
 returns : tie.Need-returns
 unfolding powered
-returns c = ap₂ (λ (k : Cpu) (t : Trace). machine_of (state k (replicate memorySize c.before.before.args.x)) t) c.started.ensures c.before.no-trace.ensures
+returns c = ap₂ (λ (k : Cpu) (t : Trace). machine_of (state k (replicate memory_size c.before.before.args.x)) t) c.started.ensures c.before.no-trace.ensures
 
 pub filled-spec : {M : Type 1} → statement M
 filled-spec = tie.close (tie.spec (λ c κs. search rules) (λ c κs. search rules) returns)

@@ -9,13 +9,13 @@ use lib.Seq.{get_or-drop}
 use Rattle.machine.proofs.Fill.{fill_more, fill-all}
 use Rattle.machine.proofs.power.image_memory.Statement.{statement}
 use Rattle.machine.proofs.power.image_memory.Tie as tie
-use Rattle.datapath.specs.Memory.{memorySize}
+use Rattle.datapath.specs.Memory.{memory_size}
 
 abbrev invariant-loop : tie.invariant-loop
-invariant-loop image memory₀ i₀ memory i = (i ≤ memorySize) × (length memory ≡ memorySize) × (take i memory ≡ take i (drop 6 image))
+invariant-loop image memory₀ i₀ memory i = (i ≤ memory_size) × (length memory ≡ memory_size) × (take i memory ≡ take i (drop 6 image))
 
 abbrev decreases-loop : tie.decreases-loop
-decreases-loop image memory₀ i₀ memory i = memorySize - i
+decreases-loop image memory₀ i₀ memory i = memory_size - i
 
 -- a nibble of the image after its first six
 from : (image : List ℕ) (i : ℕ) → get_or image (i + 6) 0 ≡ get_or (drop 6 image) i 0
@@ -25,7 +25,7 @@ from image i = ap (λ (k : ℕ). get_or image k 0) (swap i) ∙ sym (get_or-drop
     swap i = omega arith
 
 loop-holds : tie.Need-loop-init invariant-loop decreases-loop
-loop-holds c = (omega arith, length-replicate {A = ℕ} memorySize 0, refl)
+loop-holds c = (omega arith, length-replicate {A = ℕ} memory_size 0, refl)
 
 loop-again : tie.Need-loop-preserved invariant-loop decreases-loop
 loop-again c =

@@ -4,7 +4,7 @@ use mathlib.Core.Path.{ap₂}
 use mathlib.Core.List.{List}
 use Rattle.cpu.specs.declared.Cpu.{Cpu}
 use Rattle.cpu.specs.State.{state}
-use Rattle.machine.specs.Machine.{machine_of, noTrace}
+use Rattle.machine.specs.Machine.{machine_of, no_trace}
 use Rattle.machine.specs.Power.{powered}
 use borrow.Author.Rules.{rules}
 use Rattle.machine.proofs.power.powered.Statement.{statement}
@@ -12,7 +12,7 @@ use Rattle.machine.proofs.power.powered.Tie as tie
 
 returns : tie.Need-returns
 unfolding powered
-returns c = ap₂ (λ (k : Cpu) (m : List ℕ). machine_of (state k m) noTrace) c.started.ensures c.before.before.before.before.before.before.before.image-memory.ensures
+returns c = ap₂ (λ (k : Cpu) (m : List ℕ). machine_of (state k m) no_trace) c.started.ensures c.before.before.before.before.before.before.before.image-memory.ensures
 
 pub powered-spec : {M : Type 1} → statement M
 powered-spec =

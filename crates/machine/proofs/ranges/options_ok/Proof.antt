@@ -1,11 +1,11 @@
 -- `machine::ranges::options_ok` meets its contract: the tests, joined as the definition joins them. Assumes nothing.
-use Rattle.cpu.specs.Range.{optionsOk}
+use Rattle.cpu.specs.Range.{options_ok}
 use borrow.Author.Rules.{rules}
 use Rattle.machine.proofs.ranges.options_ok.Statement.{statement}
 use Rattle.machine.proofs.ranges.options_ok.Tie as tie
 
 returns : tie.Need-returns
-unfolding optionsOk
+unfolding options_ok
 returns c = cc
 
 pub options-ok-spec : {M : Type 1} → statement M

@@ -5,17 +5,17 @@ use mathlib.Core.Bool.{Bool, ◌&&◌}
 use mathlib.Core.List.{List}
 use lib.Dec.{eqb}
 use lib.ListN.{length}
-use Rattle.cpu.specs.Range.{valid, cpuOk, memoryOk, nibbles}
+use Rattle.cpu.specs.Range.{valid, cpu_ok, memory_ok, nibbles}
 use Rattle.cpu.specs.declared.Cpu.{Cpu}
 use Rattle.cpu.specs.State.{state}
 use borrow.Author.Rules.{rules}
 use Rattle.machine.proofs.ranges.sound.Statement.{statement}
 use Rattle.machine.proofs.ranges.sound.Tie as tie
-use Rattle.datapath.specs.Memory.{memorySize}
+use Rattle.datapath.specs.Memory.{memory_size}
 
-met : (k : Cpu) (m : List ℕ) (x y z : Bool) {b : Bool} → b ≡ x && y → x ≡ cpuOk k → y ≡ eqb (length m) memorySize && z → z ≡ nibbles m → b ≡ valid (state k m)
-unfolding valid memoryOk
-met k m x y z e p q r = e ∙ ap₂ (λ (x y : Bool). x && y) p (q ∙ ap (λ (z : Bool). eqb (length m) memorySize && z) r)
+met : (k : Cpu) (m : List ℕ) (x y z : Bool) {b : Bool} → b ≡ x && y → x ≡ cpu_ok k → y ≡ eqb (length m) memory_size && z → z ≡ nibbles m → b ≡ valid (state k m)
+unfolding valid memory_ok
+met k m x y z e p q r = e ∙ ap₂ (λ (x y : Bool). x && y) p (q ∙ ap (λ (z : Bool). eqb (length m) memory_size && z) r)
 
 returns : tie.Need-returns
 returns c =

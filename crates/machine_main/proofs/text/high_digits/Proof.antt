@@ -4,18 +4,18 @@ use mathlib.Core.Path.{◌≡◌}
 use native.Mathlib.Omega.{arith}
 use borrow.Author.Rules.{rules}
 use lib.ListN.{length, length-replicate}
-use Rattle.datapath.specs.Memory.{memorySize}
+use Rattle.datapath.specs.Memory.{memory_size}
 use Rattle.machine_main.proofs.text.high_digits.Statement.{statement}
 use Rattle.machine_main.proofs.text.high_digits.Tie as tie
 
 abbrev invariant-loop : tie.invariant-loop
-invariant-loop memory high₀ i₀ high i = (i ≤ memorySize) × (length high ≡ memorySize)
+invariant-loop memory high₀ i₀ high i = (i ≤ memory_size) × (length high ≡ memory_size)
 
 abbrev decreases-loop : tie.decreases-loop
-decreases-loop memory high₀ i₀ high i = memorySize - i
+decreases-loop memory high₀ i₀ high i = memory_size - i
 
 loop-holds : tie.Need-loop-init invariant-loop decreases-loop
-loop-holds c = (omega arith, length-replicate {A = ℕ} memorySize 0)
+loop-holds c = (omega arith, length-replicate {A = ℕ} memory_size 0)
 
 pub high-digits-spec : {M : Type 1} → statement M
 high-digits-spec =

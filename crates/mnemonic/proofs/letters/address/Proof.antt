@@ -4,13 +4,13 @@ use mathlib.Core.Path.{◌≡◌, ap₂}
 use mathlib.Core.List.{List, [], ◌∷◌}
 use borrow.Author.Rules.{rules}
 use Rattle.mnemonic.specs.Held.{up_to}
-use Rattle.mnemonic.specs.Spelling.{hexDigits}
+use Rattle.mnemonic.specs.Spelling.{hex_digits}
 use Rattle.mnemonic.proofs.Numbers.{bare, zeroed}
 use Rattle.mnemonic.proofs.letters.address.Statement.{statement}
 use Rattle.mnemonic.proofs.letters.address.Tie as tie
 
 -- the digits as they were made
-made : (c : tie.After-digit3) → c.before.before.digit.result ∷ c.before.digit2.result ∷ c.digit3.result ∷ [] ≡ hexDigits 3 c.before.before.before.args.x
+made : (c : tie.After-digit3) → c.before.before.digit.result ∷ c.before.digit2.result ∷ c.digit3.result ∷ [] ≡ hex_digits 3 c.before.before.before.args.x
 made c = ap₂ (λ (a : ℕ) (s : List ℕ). a ∷ s) c.before.before.digit.ensures (ap₂ (λ (b c : ℕ). b ∷ c ∷ []) c.before.digit2.ensures c.digit3.ensures)
 
 returns : tie.Need-returns

@@ -4,13 +4,13 @@ use mathlib.Core.Path.{◌≡◌, ap₂}
 use mathlib.Core.List.{[], ◌∷◌}
 use borrow.Author.Rules.{rules}
 use Rattle.mnemonic.specs.Held.{up_to}
-use Rattle.mnemonic.specs.Spelling.{hexDigits}
+use Rattle.mnemonic.specs.Spelling.{hex_digits}
 use Rattle.mnemonic.proofs.Numbers.{bare, zeroed}
 use Rattle.mnemonic.proofs.letters.byte.Statement.{statement}
 use Rattle.mnemonic.proofs.letters.byte.Tie as tie
 
 -- the digits as they were made
-made : (c : tie.After-digit2) → c.before.digit.result ∷ c.digit2.result ∷ [] ≡ hexDigits 2 c.before.before.args.x
+made : (c : tie.After-digit2) → c.before.digit.result ∷ c.digit2.result ∷ [] ≡ hex_digits 2 c.before.before.args.x
 made c = ap₂ (λ (a b : ℕ). a ∷ b ∷ []) c.before.digit.ensures c.digit2.ensures
 
 returns : tie.Need-returns

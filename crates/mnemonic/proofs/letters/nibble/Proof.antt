@@ -4,13 +4,13 @@ use mathlib.Core.Path.{◌≡◌, ap}
 use mathlib.Core.List.{[], ◌∷◌}
 use borrow.Author.Rules.{rules}
 use Rattle.mnemonic.specs.Held.{up_to}
-use Rattle.mnemonic.specs.Spelling.{hexDigits}
+use Rattle.mnemonic.specs.Spelling.{hex_digits}
 use Rattle.mnemonic.proofs.Numbers.{bare, zeroed}
 use Rattle.mnemonic.proofs.letters.nibble.Statement.{statement}
 use Rattle.mnemonic.proofs.letters.nibble.Tie as tie
 
 -- the digits as they were made
-made : (c : tie.After-digit) → c.digit.result ∷ [] ≡ hexDigits 1 c.before.args.x
+made : (c : tie.After-digit) → c.digit.result ∷ [] ≡ hex_digits 1 c.before.args.x
 made c = ap (λ (a : ℕ). a ∷ []) c.digit.ensures
 
 returns : tie.Need-returns

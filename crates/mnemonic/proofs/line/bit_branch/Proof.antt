@@ -7,7 +7,7 @@ use native.Mathlib.Omega.{arith}
 use lib.Dec.{ltb}
 use Rattle.isa.specs.Choice.{pick}
 use Rattle.mnemonic.specs.Held.{up_to}
-use Rattle.mnemonic.specs.Line.{line_of, textOf}
+use Rattle.mnemonic.specs.Line.{line_of, text_of}
 use Rattle.mnemonic.specs.Spelling.{codes, digit}
 use Rattle.mnemonic.proofs.Cut.{kept}
 use borrow.Author.Rules.{rules}
@@ -30,7 +30,7 @@ address-requires : tie.Need-address-requires
 address-requires c κs = rw (after c.before.args.n c.digit.result c.digit.ensures) (omega arith)
 
 returns : tie.Need-returns
-unfolding line_of textOf
+unfolding line_of text_of
 returns c = rw (after c.before.before.args.n c.before.digit.result c.before.digit.ensures) at c.address.ensures
 
 pub bit-branch-spec : {M : Type 1} → statement M

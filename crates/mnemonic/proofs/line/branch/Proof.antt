@@ -3,7 +3,7 @@ use mathlib.Core.Path.{◌≡◌, sym, subst}
 use Rattle.isa.specs.declared.ProgramAddress.{ProgramAddress}
 use Rattle.isa.specs.declared.Condition.{Condition}
 use Rattle.isa.specs.declared.Instruction.TheVariants as I
-use Rattle.mnemonic.specs.Line.{line_of, textOf}
+use Rattle.mnemonic.specs.Line.{line_of, text_of}
 use Rattle.mnemonic.specs.Held.{Holds}
 use Rattle.mnemonic.specs.declared.Text.{Text}
 use borrow.Author.Rules.{rules}
@@ -11,11 +11,11 @@ use Rattle.mnemonic.proofs.line.branch.Statement.{statement}
 use Rattle.mnemonic.proofs.line.branch.Tie as tie
 
 -- an arm knows the condition
-arm : (t : ProgramAddress) {k l : Condition} {r : Text} → k ≡ l → Holds r (textOf (I.Branch t l)) → Holds r (textOf (I.Branch t k))
-arm t {k} {l} {r} e = subst (λ (k : Condition). Holds r (textOf (I.Branch t k))) (sym e)
+arm : (t : ProgramAddress) {k l : Condition} {r : Text} → k ≡ l → Holds r (text_of (I.Branch t l)) → Holds r (text_of (I.Branch t k))
+arm t {k} {l} {r} e = subst (λ (k : Condition). Holds r (text_of (I.Branch t k))) (sym e)
 
 pub branch-spec : {M : Type 1} → statement M
-unfolding line_of textOf
+unfolding line_of text_of
 branch-spec =
     tie.close
     (tie.spec

@@ -8,7 +8,7 @@ use Rattle.isa.specs.Views.{View, on, jmp, branch, call, ret, reti, ei, view}
 use Rattle.isa.specs.declared.Instruction.{Instruction}
 use Rattle.isa.specs.declared.Instruction.TheVariants as I
 use Rattle.isa.specs.contracts.Instruction.{the_type}
-use Rattle.mnemonic.specs.Placing.{placedBy, placed_at}
+use Rattle.mnemonic.specs.Placing.{placed_by, placed_at}
 use borrow.Author.Rules.{rules}
 use Rattle.mnemonic.proofs.line.placed.Statement.{statement}
 use Rattle.mnemonic.proofs.line.placed.Tie as tie
@@ -21,7 +21,7 @@ run first (suc n) = first ∷ run (suc first) n
 abbrev others : List ℕ
 others = run 0 36 ++ run 37 23
 
-same : (moved : ℕ) {i : Instruction} (v : View i) → OneOf others (tag_of the_type i) → i ≡ placedBy moved v
+same : (moved : ℕ) {i : Instruction} (v : View i) → OneOf others (tag_of the_type i) → i ≡ placed_by moved v
 same moved on h = refl
 same moved (jmp t) h = refl
 same moved (branch t k) h = absurd (miss others (tag_of the_type (I.Branch t k)) tt h)

@@ -3,7 +3,7 @@ use mathlib.Core.Path.{◌≡◌, sym, subst, ap, ◌∙◌}
 use Rattle.isa.specs.declared.Pointer.{Pointer}
 use Rattle.isa.specs.declared.Instruction.{Instruction}
 use Rattle.isa.specs.declared.Instruction.TheVariants as I
-use Rattle.mnemonic.specs.Line.{line_of, textOf}
+use Rattle.mnemonic.specs.Line.{line_of, text_of}
 use Rattle.mnemonic.specs.Held.{Holds}
 use Rattle.mnemonic.specs.declared.Text.{Text}
 use borrow.Author.Rules.{rules}
@@ -11,16 +11,16 @@ use Rattle.mnemonic.proofs.line.text_of.Statement.{statement}
 use Rattle.mnemonic.proofs.line.text_of.Tie as tie
 
 -- an arm knows the instruction
-arm : {i j : Instruction} {r : Text} → i ≡ j → Holds r (textOf j) → Holds r (textOf i)
-arm {r = r} e = subst (λ (i : Instruction). Holds r (textOf i)) (sym e)
+arm : {i j : Instruction} {r : Text} → i ≡ j → Holds r (text_of j) → Holds r (text_of i)
+arm {r = r} e = subst (λ (i : Instruction). Holds r (text_of i)) (sym e)
 
 -- and an arm within it the operand
-arm-of : {A : Type 0} (f : A → Instruction) {i : Instruction} {p q : A} {r : Text} → i ≡ f p → p ≡ q → Holds r (textOf (f q)) → Holds r (textOf i)
+arm-of : {A : Type 0} (f : A → Instruction) {i : Instruction} {p q : A} {r : Text} → i ≡ f p → p ≡ q → Holds r (text_of (f q)) → Holds r (text_of i)
 arm-of {A} f e g = arm (e ∙ ap f g)
 
 -- the needs in the order of the code: first what is known of each arm and each call, then the arms' answers
 pub text-of-spec : {M : Type 1} → statement M
-unfolding line_of textOf
+unfolding line_of text_of
 text-of-spec =
     tie.close
     (tie.spec

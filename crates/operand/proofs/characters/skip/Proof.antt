@@ -5,13 +5,13 @@ use native.Mathlib.Numerals.{add-one}
 use native.Mathlib.Omega.{arith}
 use borrow.Author.Tests.{ne_eqb}
 use lib.ListN.{get_or, length}
-use Rattle.operand.specs.Read.{pastSpaces}
+use Rattle.operand.specs.Read.{past_spaces}
 use Rattle.operand.proofs.Lexing.{no-space, space-on, space-past}
 use Rattle.operand.proofs.characters.skip.Statement.{statement}
 use Rattle.operand.proofs.characters.skip.Tie as tie
 
 abbrev invariant-loop : tie.invariant-loop
-invariant-loop text at i₀ i = pastSpaces text i ≡ pastSpaces text at
+invariant-loop text at i₀ i = past_spaces text i ≡ past_spaces text at
 
 abbrev decreases-loop : tie.decreases-loop
 decreases-loop text at i₀ i = length text - i

@@ -2,7 +2,7 @@
 use mathlib.Core.Path.{refl, sym, ◌∙◌}
 use borrow.Author.Rules.{rules}
 use borrow.Author.Tests.{le-leb, lt-leb}
-use Rattle.operand.specs.Words.{digitValue}
+use Rattle.operand.specs.Words.{digit_value}
 use Rattle.operand.proofs.Digits.{digit-over}
 use Rattle.operand.proofs.numbers.digit_value.Statement.{statement}
 use Rattle.operand.proofs.numbers.digit_value.Tie as tie
@@ -11,16 +11,16 @@ sub-result : tie.Need-overflow-sub-result
 sub-result c = digit-over c.before.before.args.c (sym c.before.is_digit.ensures ∙ c.if1.true)
 
 returns : tie.Need-returns
-unfolding digitValue
+unfolding digit_value
 returns c = rw (sym c.before.is_digit.ensures ∙ c.if1.true) refl
 
 returns-2 : tie.Need-returns-2
-unfolding digitValue
+unfolding digit_value
 returns-2 c =
     rw (sym c.before.before.is_digit.ensures ∙ c.before.if1.false, lt-leb 65 c.before.before.before.args.c c.if2.true) refl
 
 returns-3 : tie.Need-returns-3
-unfolding digitValue
+unfolding digit_value
 returns-3 c =
     let x = c.before.before.before.before.args.c in
     rw (
@@ -31,7 +31,7 @@ returns-3 c =
     ) refl
 
 returns-4 : tie.Need-returns-4
-unfolding digitValue
+unfolding digit_value
 returns-4 c =
     let x = c.before.before.before.before.args.c in
     rw (

@@ -8,7 +8,7 @@ use borrow.Author.Rules.{rules}
 use borrow.Author.Tests.{le-leb}
 use lib.ListN.{get_or}
 use lib.Seq.{slice}
-use Rattle.operand.specs.Words.{digitValue, inBase}
+use Rattle.operand.specs.Words.{digit_value, in_base}
 use Rattle.operand.specs.Read.{counted}
 use Rattle.operand.proofs.Digits.{digit-on, digits-end, no_digit, over, small}
 use Rattle.operand.proofs.numbers.digits.Statement.{statement}
@@ -16,7 +16,7 @@ use Rattle.operand.proofs.numbers.digits.Tie as tie
 
 abbrev invariant-loop : tie.invariant-loop
 invariant-loop text from to base value₀ i₀ value i =
-    (from ≤ i) × (i ≤ to) × (value ≤ 65535) × (counted (inBase base value (slice i to text)) ≡ counted (inBase base 0 (slice from to text)))
+    (from ≤ i) × (i ≤ to) × (value ≤ 65535) × (counted (in_base base value (slice i to text)) ≡ counted (in_base base 0 (slice from to text)))
 
 abbrev decreases-loop : tie.decreases-loop
 decreases-loop text from to base value₀ i₀ value i = to - i
@@ -45,7 +45,7 @@ returns-2 c =
     let s = l.before.before in
     let text = s.args.text.now in
     let d = c.before.before.digit_value.ensures in
-    let v = l.loop.value * s.args.base + digitValue (get_or text l.loop.i 0) in
+    let v = l.loop.value * s.args.base + digit_value (get_or text l.loop.i 0) in
     sym (over s.args.base v (slice (suc l.loop.i) s.args.to text) (omega arith) (omega (arith, d)))
     ∙ sym (ap counted (digit-on text s.args.base l.loop.value l.loop.i s.args.to (omega arith) (omega arith) (omega (arith, d))))
     ∙ l.loop.invariant.3
@@ -70,7 +70,7 @@ returns-3 c =
     let s = l.before.before in
     let text = s.args.text.now in
     let e : l.loop.i ≡ s.args.to = omega arith in
-    sym (ap counted (ap (λ (n : ℕ). inBase s.args.base l.loop.value (slice n s.args.to text)) e ∙ digits-end text s.args.base
+    sym (ap counted (ap (λ (n : ℕ). in_base s.args.base l.loop.value (slice n s.args.to text)) e ∙ digits-end text s.args.base
     l.loop.value s.args.to)
     ∙ rw (le-leb l.loop.value 65535 (omega arith)) refl) ∙ l.loop.invariant.3
 

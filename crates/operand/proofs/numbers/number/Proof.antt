@@ -5,7 +5,7 @@ use native.Mathlib.Omega.{arith}
 use mathlib.Core.Bool.{true}
 use mathlib.Core.List.{List}
 use lib.ListN.{get_or, length}
-use Rattle.operand.specs.Text.{isDigit}
+use Rattle.operand.specs.Text.{is_digit}
 use Rattle.operand.specs.Read.{word_at}
 use Rattle.operand.proofs.Digits.{decimal, digit-word, hexadecimal}
 use Rattle.operand.proofs.Texts.{word_on, word-within}
@@ -14,7 +14,7 @@ use Rattle.operand.proofs.numbers.number.Tie as tie
 
 -- the word has a character, and ends within the text
 module _ (text : List ℕ) (at next : ℕ) (ends : next ≡ at + length (word_at text at)) (within : at < length text)
-    (digit : isDigit (get_or text at 0) ≡ true) where
+    (digit : is_digit (get_or text at 0) ≡ true) where
   some-character : 0 < length (word_at text at)
   some-character = omega (arith, ap length (word_on text at (digit-word (get_or text at 0) digit)))
 

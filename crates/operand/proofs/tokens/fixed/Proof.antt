@@ -1,12 +1,12 @@
 -- `operand::tokens::fixed` meets its contract: its list is the words' numbers, which antt computes. Assumes nothing.
 use borrow.Author.Rules.{rules}
-use Rattle.operand.specs.Words.{fixedWords}
-use Rattle.operand.specs.Read.{packedWords}
+use Rattle.operand.specs.Words.{fixed_words}
+use Rattle.operand.specs.Read.{packed_words}
 use Rattle.operand.proofs.tokens.fixed.Statement.{statement}
 use Rattle.operand.proofs.tokens.fixed.Tie as tie
 
 returns : tie.Need-returns
-unfolding packedWords fixedWords
+unfolding packed_words fixed_words
 returns c = c.place.ensures
 
 pub fixed-spec : {M : Type 1} → statement M

@@ -4,7 +4,7 @@ use mathlib.Core.Path.{sym}
 use native.Mathlib.Omega.{arith}
 use lib.ListN.{get_or-eq_default}
 use Rattle.operand.specs.Read.{word_at}
-use Rattle.operand.proofs.Texts.{getD-word, word-within}
+use Rattle.operand.proofs.Texts.{get_d-word, word-within}
 use Rattle.operand.proofs.tokens.letter.Statement.{statement}
 use Rattle.operand.proofs.tokens.letter.Tie as tie
 
@@ -14,7 +14,7 @@ shared-slice-read-result c = let s = c.before.before in
 
 returns : tie.Need-returns
 returns c = let s = c.before.before in (
-  sym (getD-word s.args.text.now s.args.start s.args.k (omega arith)),
+  sym (get_d-word s.args.text.now s.args.start s.args.k (omega arith)),
   omega
       (arith, c.shared-slice-known.given (s.args.start + s.args.k)),
 )

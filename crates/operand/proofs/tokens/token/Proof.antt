@@ -2,7 +2,7 @@
 use mathlib.Core.Path.{sym, ap, ◌∙◌}
 use native.Mathlib.Omega.{arith}
 use borrow.Author.Rules.{rules}
-use Rattle.operand.specs.Read.{lexemeFrom}
+use Rattle.operand.specs.Read.{lexeme_from}
 use Rattle.operand.proofs.Lexing.{ends-lf, ends-past, sign-from, word-from}
 use Rattle.operand.proofs.tokens.token.Statement.{statement}
 use Rattle.operand.proofs.tokens.token.Tie as tie
@@ -11,13 +11,13 @@ returns : tie.Need-returns
 returns c = let s = c.before.before.before in
     let k = c.before.skip in
     let text = s.args.text.now in
-    ends-past text k.result (omega arith) ∙ ap (lexemeFrom text) k.ensures
+    ends-past text k.result (omega arith) ∙ ap (lexeme_from text) k.ensures
 
 returns-2 : tie.Need-returns-2
 returns-2 c = let s = c.before.before.before.before.before in
     let k = c.before.before.before.skip in
     let text = s.args.text.now in
-    ends-lf text k.result (omega arith) c.if2.true ∙ ap (lexemeFrom text) k.ensures
+    ends-lf text k.result (omega arith) c.if2.true ∙ ap (lexeme_from text) k.ensures
 
 returns-3 : tie.Need-returns-3
 returns-3 c =
@@ -26,7 +26,7 @@ returns-3 c =
     let text = s.args.text.now in
     word-from text k.result (omega arith) c.before.before.before.before.if2.false c.word-kind.result c.before.word-end.result
     (sym c.before.before.before.in-word.ensures ∙ c.before.before.if3.true) c.word-kind.ensures c.before.word-end.ensures
-    ∙ ap (lexemeFrom text) k.ensures
+    ∙ ap (lexeme_from text) k.ensures
 
 returns-4 : tie.Need-returns-4
 returns-4 c =
@@ -35,7 +35,7 @@ returns-4 c =
     let text = s.args.text.now in
     sign-from text k.result (omega arith) c.before.before.before.if2.false c.sign-kind.result
     (sym c.before.before.in-word.ensures ∙ c.before.if3.false) c.sign-kind.ensures
-    ∙ ap (lexemeFrom text) k.ensures
+    ∙ ap (lexeme_from text) k.ensures
 
 word-kind-requires : tie.Need-word-kind-requires
 word-kind-requires c κs =

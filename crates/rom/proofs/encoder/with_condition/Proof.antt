@@ -5,7 +5,7 @@ use mathlib.Core.Bool.{Bool, ◌&&◌}
 use lib.Dec.{ltb}
 use borrow.Author.Tests.{lt-ltb, le-ltb}
 use Rattle.rom.specs.Writing.{fitting, writing}
-use Rattle.isa.specs.Code.{bytes_of, in_range, leading, bitInRange}
+use Rattle.isa.specs.Code.{bytes_of, in_range, leading, bit_in_range}
 use Rattle.isa.specs.declared.ProgramAddress.{ProgramAddress}
 use Rattle.isa.specs.declared.Condition.{Condition}
 use Rattle.isa.specs.declared.Condition.TheVariants.{Ja}
@@ -16,7 +16,7 @@ use Rattle.rom.proofs.encoder.with_condition.Tie as tie
 
 -- the arm of JAn, by whether its bit is one of the four
 ja : (n : ℕ) (t : ProgramAddress) {k : Condition} {b : Bool} → k ≡ Ja n → ltb n 4 ≡ b → fitting (b && ltb t.0 2048) (bytes_of (I.Branch t (Ja n))) ≡ writing (I.Branch t k)
-unfolding in_range bitInRange
+unfolding in_range bit_in_range
 ja n t e p = sym (ap (λ (k : Condition). writing (I.Branch t k)) e ∙ ap (λ (b : Bool). fitting (b && ltb t.0 2048) (bytes_of (I.Branch t (Ja n)))) p)
 
 -- an arm knows the condition
@@ -24,7 +24,7 @@ arm : (t : ProgramAddress) {k l : Condition} → k ≡ l → writing (I.Branch t
 arm t e = sym (ap (λ (k : Condition). writing (I.Branch t k)) e)
 
 pub with-condition-spec : {M : Type 1} → statement M
-unfolding bytes_of in_range leading bitInRange
+unfolding bytes_of in_range leading bit_in_range
 with-condition-spec =
     tie.close
     (tie.spec

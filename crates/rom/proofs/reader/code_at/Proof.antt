@@ -5,19 +5,19 @@ use mathlib.Core.List.{List}
 use native.Mathlib.Omega.{arith}
 use lib.ListN.{get_or}
 use Rattle.isa.specs.Code.{addresses}
-use Rattle.rom.specs.Fetching.{byteAt, code_at}
+use Rattle.rom.specs.Fetching.{byte_at, code_at}
 use borrow.Author.Rules.{rules}
 use Rattle.rom.proofs.reader.code_at.Statement.{statement}
 use Rattle.rom.proofs.reader.code_at.Tie as tie
 
 -- the byte k on, from an address or from what is left of it
-around : (mask : List ℕ) (a k : ℕ) → byteAt mask (a % addresses + k) ≡ byteAt mask (a + k)
+around : (mask : List ℕ) (a k : ℕ) → byte_at mask (a % addresses + k) ≡ byte_at mask (a + k)
 around mask a k = ap (λ (n : ℕ). get_or mask n 0) (same a k)
   where
     same : (a k : ℕ) → (a % addresses + k) % addresses ≡ (a + k) % addresses
     same a k = omega arith
 
-first-around : (mask : List ℕ) (a : ℕ) → byteAt mask (a % addresses) ≡ byteAt mask a
+first-around : (mask : List ℕ) (a : ℕ) → byte_at mask (a % addresses) ≡ byte_at mask a
 first-around mask a = ap (λ (n : ℕ). get_or mask n 0) (same a)
   where
     same : (a : ℕ) → a % addresses % addresses ≡ a % addresses

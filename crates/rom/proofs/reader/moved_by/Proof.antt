@@ -3,12 +3,12 @@ use Prim.Native.Nat.{ℕ, ◌+◌, ◌%◌}
 use mathlib.Core.Path.{◌≡◌}
 use native.Mathlib.Omega.{arith}
 use Rattle.isa.specs.Code.{addresses}
-use Rattle.rom.specs.Fetching.{movedBy}
+use Rattle.rom.specs.Fetching.{moved_by}
 use borrow.Author.Rules.{rules}
 use Rattle.rom.proofs.reader.moved_by.Statement.{statement}
 use Rattle.rom.proofs.reader.moved_by.Tie as tie
 
-same : (a n : ℕ) → (a % addresses + n) % addresses ≡ movedBy n a
+same : (a n : ℕ) → (a % addresses + n) % addresses ≡ moved_by n a
 same a n = omega arith
 
 returns : tie.Need-returns

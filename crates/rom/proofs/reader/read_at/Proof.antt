@@ -7,9 +7,9 @@ use mathlib.Core.List.{List}
 use native.Mathlib.Omega.{arith}
 use borrow.Author.Tests.{lt-ltb, le-ltb, not-true, not-false}
 use Rattle.isa.specs.Reading.{Reading}
-use Rattle.isa.specs.Timing.{length_of, cyclesOf}
+use Rattle.isa.specs.Timing.{length_of, cycles_of}
 use Rattle.isa.specs.Code.{addresses}
-use Rattle.rom.specs.Fetching.{sized, code_at, instruction, withTiming, fetching}
+use Rattle.rom.specs.Fetching.{sized, code_at, instruction, with_timing, fetching}
 use Rattle.rom.specs.declared.reader.Code.{Code}
 use Rattle.rom.proofs.Fetching.{read-there, length-code, cycles-code}
 use Rattle.isa.specs.declared.decoder.Decoded.{Decoded}
@@ -19,9 +19,9 @@ use Rattle.rom.proofs.reader.read_at.Tie as tie
 
 -- what stands there, from the code and the decoder's answer
 met : (mask : List ℕ) (a : ℕ) (k : Code) (d : Decoded) → sized mask ≡ true → a < addresses → k ≡ code_at mask a → k.second < 256 → Reading k.first k.second d
-    → withTiming (length_of k.first) (cyclesOf k.first) d ≡ fetching mask a
+    → with_timing (length_of k.first) (cycles_of k.first) d ≡ fetching mask a
 met mask a k d e h at f r =
-    ap (λ (k : Code). withTiming (length_of k.first) (cyclesOf k.first) d) at
+    ap (λ (k : Code). with_timing (length_of k.first) (cycles_of k.first) d) at
     ∙ rw (length-code mask a, cycles-code mask a, read-there mask a k at f d r, e, lt-ltb a addresses h) refl
 
 pub read-at-spec : {M : Type 1} → statement M
@@ -41,7 +41,7 @@ read-at-spec =
     let at = c.before.before.before.before in
     let start = at.before.before.before.before in
     let code = c.before.before.before.code-at in
-    ap (withTiming (length_of code.result.first) (cyclesOf code.result.first)) (sym c.enum_told.given.1)
+    ap (with_timing (length_of code.result.first) (cycles_of code.result.first)) (sym c.enum_told.given.1)
     ∙ met start.args.mask.now start.args.address.0 code.result c.before.before.decode.result (sym at.before.before.mask-ok.ensures ∙ not-false _ at.before.if1.false) at.if2.false code.ensures (omega arith) c.before.before.decode.ensures)
     (λ c κs. search rules) (λ c κs. search rules)
     -- an instruction
@@ -52,5 +52,5 @@ read-at-spec =
     let read = c.before.before.before.before.before.decode in
     let known = c.before.before.before.instruction.given in
     ap₂ (instruction known.0.0) c.before.length.ensures c.cycles.ensures
-    ∙ ap (withTiming (length_of code.result.first) (cyclesOf code.result.first)) (sym known.1)
+    ∙ ap (with_timing (length_of code.result.first) (cycles_of code.result.first)) (sym known.1)
     ∙ met start.args.mask.now start.args.address.0 code.result read.result (sym at.before.before.mask-ok.ensures ∙ not-false _ at.before.if1.false) at.if2.false code.ensures (omega arith) read.ensures))

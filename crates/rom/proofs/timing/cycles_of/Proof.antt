@@ -11,21 +11,21 @@ use denote.Enum.Declared.{tag_of}
 use borrow.Author.Rules.{rules}
 use borrow.Author.Tests.{eqb-true}
 use Rattle.isa.specs.contracts.Instruction.{the_type}
-use Rattle.isa.specs.Timing.{Columns, columns, columnsOf}
+use Rattle.isa.specs.Timing.{Columns, columns, columns_of}
 use Rattle.isa.specs.declared.Instruction.{Instruction}
-use Rattle.rom.proofs.Columns.{inOrder, by_place, all, passes, keys}
+use Rattle.rom.proofs.Columns.{in_order, by_place, all, passes, keys}
 use Rattle.rom.proofs.timing.cycles_of.Statement.{statement}
 use Rattle.rom.proofs.timing.cycles_of.Tie as tie
 
 abbrev column : Instruction → ℕ
-column i = (columnsOf i).cycles
+column i = (columns_of i).cycles
 
 abbrev others : List ℕ
 others = keys 0 4 (keys 6 7 (keys 16 11 (keys 29 6 (keys 38 7 (keys 46 6 (keys 55 4 []))))))
 
 -- one test over the last arm's keys
 one : ℕ → Bool
-one k = eqb (get_or inOrder k (columns 0 0)).cycles 1
+one k = eqb (get_or in_order k (columns 0 0)).cycles 1
 
 tested : all one others ≡ true
 unfolding one
@@ -36,7 +36,7 @@ unfolding one
 last i h = sym (ap (λ (c : Columns). c.cycles) (by_place i) ∙ eqb-true _ 1 (passes one others (tag_of the_type i) tested h))
 
 pub cycles-of-spec : {M : Type 1} → statement M
-unfolding columnsOf
+unfolding columns_of
 cycles-of-spec =
     tie.close
     (tie.spec

@@ -5,8 +5,8 @@ use native.Mathlib.Omega.{arith}
 use lib.ListN.{length}
 use borrow.Author.Rules.{rules}
 use Rattle.cpu.specs.State.{state}
-use Rattle.machine.specs.Machine.{machine_of, traceOf}
-use Rattle.machine.specs.Events.{Input, answerTo}
+use Rattle.machine.specs.Machine.{machine_of, trace_of}
+use Rattle.machine.specs.Events.{Input, answer_to}
 use Rattle.machine.specs.declared.Machine.{Machine}
 use Rattle.script.specs.Reports.{next}
 use Rattle.script.proofs.Turn.{Held, begins, ends, fits, well, turns}
@@ -14,7 +14,7 @@ use Rattle.script.proofs.apply.put_reports.Statement.{statement}
 use Rattle.script.proofs.apply.put_reports.Tie as tie
 
 abbrev invariant-loop : tie.invariant-loop
-invariant-loop mask script out₀ at₀ done₀ cpu₀ memory₀ gap₀ out at done cpu memory gap = Held mask script out₀ out at done (machine_of (state cpu memory) (traceOf gap))
+invariant-loop mask script out₀ at₀ done₀ cpu₀ memory₀ gap₀ out at done cpu memory gap = Held mask script out₀ out at done (machine_of (state cpu memory) (trace_of gap))
 
 abbrev decreases-loop : tie.decreases-loop
 decreases-loop mask script out₀ at₀ done₀ cpu₀ memory₀ gap₀ out at done cpu memory gap = length script - at
@@ -33,8 +33,8 @@ pass-requires c κs =
     let start = l.before.before.before.before.before.before.before in
     let a = start.args in
     let h = c.before.before.before.loop-test.true in
-    ap (λ (i : Input). (answerTo a.mask.now i (machine_of (state x.cpu x.memory) (traceOf x.gap))).refusal) c.before.before.record-at.ensures
-    ∙ well a.mask.now a.script.now a.out.now x.out x.at x.done (machine_of (state x.cpu x.memory) (traceOf x.gap)) x.invariant h
+    ap (λ (i : Input). (answer_to a.mask.now i (machine_of (state x.cpu x.memory) (trace_of x.gap))).refusal) c.before.before.record-at.ensures
+    ∙ well a.mask.now a.script.now a.out.now x.out x.at x.done (machine_of (state x.cpu x.memory) (trace_of x.gap)) x.invariant h
 
 put-report-requires : tie.Need-put-report-requires invariant-loop decreases-loop
 put-report-requires c κs =
@@ -43,7 +43,7 @@ put-report-requires c κs =
     let start = l.before.before.before.before.before.before.before in
     let a = start.args in
     let h = c.before.before.before.before.before.before.before.loop-test.true in
-    fits a.mask.now a.script.now a.out.now x.out x.at x.done (machine_of (state x.cpu x.memory) (traceOf x.gap)) x.invariant h
+    fits a.mask.now a.script.now a.out.now x.out x.at x.done (machine_of (state x.cpu x.memory) (trace_of x.gap)) x.invariant h
 
 add_at : tie.Need-overflow-add-at invariant-loop decreases-loop
 add_at c =
@@ -70,7 +70,7 @@ add_done c =
     let start = l.before.before.before.before.before.before.before in
     let a = start.args in
     let h = c.before.before.before.before.before.before.before.before.before.before.loop-test.true in
-    let f = fits a.mask.now a.script.now a.out.now x.out x.at x.done (machine_of (state x.cpu x.memory) (traceOf x.gap)) x.invariant h in
+    let f = fits a.mask.now a.script.now a.out.now x.out x.at x.done (machine_of (state x.cpu x.memory) (trace_of x.gap)) x.invariant h in
     omega (arith, f, x.invariant.size, start.well-formed)
 
 loop-less : tie.Need-loop-smaller invariant-loop decreases-loop
@@ -89,12 +89,12 @@ loop-again c =
     let start = l.before.before.before.before.before.before.before in
     let a = start.args in
     let h = c.before.before.before.before.before.before.before.before.before.before.loop-test.true in
-    let m = machine_of (state x.cpu x.memory) (traceOf x.gap) in
+    let m = machine_of (state x.cpu x.memory) (trace_of x.gap) in
     let p = c.before.before.before.before.before.before.pass in
-    let after = machine_of (state p.result p.new.1.1.1.0) (traceOf p.new.1.1.1.1.0) in
+    let after = machine_of (state p.result p.new.1.1.1.0) (trace_of p.new.1.1.1.1.0) in
     let out = c.before.before.put-report.new.1.1.0 in
     subst (λ (n : ℕ). Held a.mask.now a.script.now a.out.now out (x.at + 4 + n) (x.done + 48) after) (sym c.before.before.before.before.before.size-at.ensures.0)
-    (turns a.mask.now a.script.now a.out.now x.out x.at x.done (machine_of (state x.cpu x.memory) (traceOf x.gap)) x.invariant h after out (p.ensures ∙ ap (λ (i : Input). next a.mask.now i m) c.before.before.before.before.before.before.before.before.before.record-at.ensures) (c.before.before.put-report.ensures (traceOf p.new.1.1.1.1.0)))
+    (turns a.mask.now a.script.now a.out.now x.out x.at x.done (machine_of (state x.cpu x.memory) (trace_of x.gap)) x.invariant h after out (p.ensures ∙ ap (λ (i : Input). next a.mask.now i m) c.before.before.before.before.before.before.before.before.before.record-at.ensures) (c.before.before.put-report.ensures (trace_of p.new.1.1.1.1.0)))
 
 same_length : tie.Need-same-length invariant-loop decreases-loop
 same_length c = c.before.loop.invariant.size
@@ -104,7 +104,7 @@ returns c =
     let l = c.before in
     let x = l.loop in
     let a = l.before.before.before.before.before.before.before.args in
-    ends a.mask.now a.script.now a.out.now x.out x.at x.done (machine_of (state x.cpu x.memory) (traceOf x.gap)) x.invariant c.loop-test.false
+    ends a.mask.now a.script.now a.out.now x.out x.at x.done (machine_of (state x.cpu x.memory) (trace_of x.gap)) x.invariant c.loop-test.false
 
 pub put-reports-spec : {M : Type 1} → statement M
 put-reports-spec =

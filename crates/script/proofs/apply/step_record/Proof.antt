@@ -2,7 +2,7 @@
 use Prim.Native.Nat.{ℕ, ◌+◌}
 use mathlib.Core.Path.{sym, ap, ap₂, ◌∙◌}
 use Rattle.machine.specs.declared.Answer.{Answer}
-use Rattle.machine.specs.Events.{Input, answerTo}
+use Rattle.machine.specs.Events.{Input, answer_to}
 use Rattle.script.specs.Reports.{progress}
 use Rattle.script.proofs.Rests.{stepped-in, stepped-bad, stepped-end}
 use borrow.Author.Rules.{rules}
@@ -24,7 +24,7 @@ returns-3 : tie.Need-returns-3
 returns-3 c =
     let a = c.before.before.before.before.before.before.before.before.before.args in
     ap₂ (λ (n : ℕ) (r : Answer). progress r.refusal (a.at + 4 + n) r.machine) c.size-at.ensures.0
-    (c.before.before.answer-to.ensures ∙ ap (λ (i : Input). answerTo a.mask.now i a.machine) c.before.before.before.record-at.ensures)
+    (c.before.before.answer-to.ensures ∙ ap (λ (i : Input). answer_to a.mask.now i a.machine) c.before.before.before.record-at.ensures)
     ∙ sym (stepped-in a.mask.now a.script.now a.at a.machine c.before.before.before.before.before.before.if1.false (sym c.before.before.before.before.before.format-at.ensures ∙ c.before.before.before.before.if2.false))
 
 pub step-record-spec : {M : Type 1} → statement M

@@ -3,14 +3,14 @@ use Prim.Native.Nat.{ℕ, ◌+◌, ◌-◌}
 use mathlib.Core.Path.{◌≡◌, refl, sym, ap, ◌∙◌}
 use native.Mathlib.Omega.{arith}
 use lib.ListN.{length}
-use Rattle.records.specs.Records.{offsetsFrom, offsets}
+use Rattle.records.specs.Records.{offsets_from, offsets}
 use Rattle.script.specs.Check.{refused, first, ruled}
 use Rattle.script.proofs.Checks.{first-end, first-bad, first_good}
 use Rattle.script.proofs.check.first.Statement.{statement}
 use Rattle.script.proofs.check.first.Tie as tie
 
 abbrev invariant-loop : tie.invariant-loop
-invariant-loop rule s at₀ at = first (ruled rule s) (offsets s) ≡ first (ruled rule s) (offsetsFrom s at)
+invariant-loop rule s at₀ at = first (ruled rule s) (offsets s) ≡ first (ruled rule s) (offsets_from s at)
 
 abbrev decreases-loop : tie.decreases-loop
 decreases-loop rule s at₀ at = length s - at
@@ -29,7 +29,7 @@ loop-again c =
     let a = l.before.before.args in
     l.loop.invariant
     ∙ first_good (ruled a.rule a.s.now) a.s.now l.loop.at c.before.before.before.loop-test.true (sym c.before.before.judged.ensures ∙ c.before.if1.false)
-    ∙ ap (λ (n : ℕ). first (ruled a.rule a.s.now) (offsetsFrom a.s.now (l.loop.at + 4 + n))) (sym c.size-at.ensures.0)
+    ∙ ap (λ (n : ℕ). first (ruled a.rule a.s.now) (offsets_from a.s.now (l.loop.at + 4 + n))) (sym c.size-at.ensures.0)
 
 returns-2 : tie.Need-returns-2 invariant-loop decreases-loop
 returns-2 c =

@@ -3,14 +3,14 @@ use Prim.Native.Nat.{ℕ, ◌+◌, ◌*◌}
 use mathlib.Core.Path.{◌≡◌, refl, sym, ap, ap₂, ◌∙◌}
 use borrow.Author.Tests.{ne_eqb}
 use Rattle.cpu.specs.declared.Options.{Options}
-use Rattle.machine.specs.Events.{power, named, eventOf}
+use Rattle.machine.specs.Events.{power, named, event_of}
 use Rattle.records.proofs.Written.{payload-word}
 use Rattle.script.specs.Format.{input_at, filled}
 use borrow.Author.Rules.{rules}
 use Rattle.script.proofs.format.record_at.Statement.{statement}
 use Rattle.script.proofs.format.record_at.Tie as tie
 
-same : {k n x y z k' n' x' y' z' : ℕ} → k ≡ k' → n ≡ n' → x ≡ x' → y ≡ y' → z ≡ z' → eventOf k n x y z ≡ eventOf k' n' x' y' z'
+same : {k n x y z k' n' x' y' z' : ℕ} → k ≡ k' → n ≡ n' → x ≡ x' → y ≡ y' → z ≡ z' → event_of k n x y z ≡ event_of k' n' x' y' z'
 same p q r s t = cc
 
 returns : tie.Need-returns

@@ -7,7 +7,7 @@ use lib.Dec.{eqb}
 use borrow.Author.Rules.{rules}
 use borrow.Author.Tests.{ne_eqb}
 use Rattle.isa.specs.Choice.{pick}
-use Rattle.machine.specs.Events.{named, eventOf}
+use Rattle.machine.specs.Events.{named, event_of}
 use Rattle.machine.specs.declared.events.Named.{Named}
 use Rattle.machine.specs.declared.events.Named.TheVariants.{Known, Unknown}
 use Rattle.machine.specs.declared.events.Event.TheVariants.{Run, Pins, Int, Tmclk, Res}
@@ -16,8 +16,8 @@ use Rattle.script.specs.Format.{size_of, input_at}
 use Rattle.script.proofs.format.size_of.Statement.{statement}
 use Rattle.script.proofs.format.size_of.Tie as tie
 
-alike : (kind n x y z : ℕ) → size_of (named (eventOf kind 0 0 0 0)) ≡ size_of (named (eventOf kind n x y z))
-unfolding eventOf
+alike : (kind n x y z : ℕ) → size_of (named (event_of kind 0 0 0 0)) ≡ size_of (named (event_of kind n x y z))
+unfolding event_of
 alike kind n x y z = go (eqb kind 2) (eqb kind 3) (eqb kind 4) (eqb kind 5) (eqb kind 6)
   where
     by : (a b c d e : Bool) → ℕ → ℕ → ℕ → ℕ → Named
@@ -31,7 +31,7 @@ alike kind n x y z = go (eqb kind 2) (eqb kind 3) (eqb kind 4) (eqb kind 5) (eqb
     go false false false false true = refl
     go false false false false false = refl
 
-other : (s : List ℕ) (at : ℕ) → (kind_at s at ≡ 1 → ⊥) → size_of (named (eventOf (kind_at s at) 0 0 0 0)) ≡ size_of (input_at s at)
+other : (s : List ℕ) (at : ℕ) → (kind_at s at ≡ 1 → ⊥) → size_of (named (event_of (kind_at s at) 0 0 0 0)) ≡ size_of (input_at s at)
 unfolding input_at
 other s at h = rw (ne_eqb (kind_at s at) 1 h) (alike (kind_at s at) _ _ _ _)
 
@@ -43,7 +43,7 @@ returns-2 : tie.Need-returns-2
 returns-2 c s at e =
     c.named-size.ensures
     ∙ ap (λ (n : Named). size_of (named n)) c.before.event-of.ensures
-    ∙ ap (λ (k : ℕ). size_of (named (eventOf k 0 0 0 0))) e
+    ∙ ap (λ (k : ℕ). size_of (named (event_of k 0 0 0 0))) e
     ∙ other s at (λ y. c.before.before.if1.false (e ∙ y))
 
 pub size-of-spec : {M : Type 1} → statement M

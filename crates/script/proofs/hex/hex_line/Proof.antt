@@ -5,13 +5,13 @@ use native.Mathlib.Omega.{arith}
 use lib.ListN.{length, take, length-set, length-replicate}
 use borrow.Author.Rules.{rules}
 use Rattle.machine.proofs.Fill.{fill_more, fill-all}
-use Rattle.script.specs.Hex.{hexLine}
+use Rattle.script.specs.Hex.{hex_line}
 use Rattle.script.proofs.Hexes.{line-length}
 use Rattle.script.proofs.hex.hex_line.Statement.{statement}
 use Rattle.script.proofs.hex.hex_line.Tie as tie
 
 abbrev invariant-loop : tie.invariant-loop
-invariant-loop report line₀ i₀ line i = (i ≤ 97) × (length line ≡ 97) × (take i line ≡ take i (hexLine report))
+invariant-loop report line₀ i₀ line i = (i ≤ 97) × (length line ≡ 97) × (take i line ≡ take i (hex_line report))
 
 abbrev decreases-loop : tie.decreases-loop
 decreases-loop report line₀ i₀ line i = 97 - i
@@ -29,7 +29,7 @@ loop-again c =
     let n : length report ≡ 48 = search rules in (
       omega arith,
       length-set l.loop.line l.loop.i c.line-byte.result ∙ l.loop.invariant.1,
-      fill_more (hexLine report) l.loop.line l.loop.i c.line-byte.result (omega arith) (omega (arith, line-length report))
+      fill_more (hex_line report) l.loop.line l.loop.i c.line-byte.result (omega arith) (omega (arith, line-length report))
           c.line-byte.ensures l.loop.invariant.2,
     )
 
@@ -38,7 +38,7 @@ returns c =
     let l = c.before in
     let report = l.before.args.t1 in
     let n : length report ≡ 48 = search rules in
-    fill-all (hexLine report) l.loop.line l.loop.i (omega arith) (omega (arith, line-length report)) l.loop.invariant.2
+    fill-all (hex_line report) l.loop.line l.loop.i (omega arith) (omega (arith, line-length report)) l.loop.invariant.2
 
 pub hex-line-spec : {M : Type 1} → statement M
 hex-line-spec =

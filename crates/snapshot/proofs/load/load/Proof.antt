@@ -10,7 +10,7 @@ use Rattle.machine.specs.Machine.{state_of}
 use Rattle.machine.specs.Power.{blank}
 use Rattle.machine.specs.declared.Machine.{Machine}
 use Rattle.machine.specs.declared.Answer.{Answer}
-use Rattle.snapshot.specs.Snapshot.{machineFrom}
+use Rattle.snapshot.specs.Snapshot.{machine_from}
 use Rattle.snapshot.proofs.Loaded.{saved-length, from_parts, accepted, out_of_range, not_saved}
 use Rattle.snapshot.proofs.load.load.Statement.{statement}
 use Rattle.snapshot.proofs.load.load.Tie as tie
@@ -22,11 +22,11 @@ memory-of-requires : tie.Need-memory-of-requires
 memory-of-requires c κs = let t = c.before in saved-length t.before.before.before.args.bytes.now (sym t.before.is-saved.ensures ∙ t.if1.true)
 
 -- what was tested is the range of the machine that the record gives
-same : (s : List ℕ) {c : Cpu} {memory : List ℕ} → c ≡ (machineFrom s).cpu → memory ≡ (machineFrom s).memory → valid (state c memory) ≡ valid (state_of (machineFrom s))
+same : (s : List ℕ) {c : Cpu} {memory : List ℕ} → c ≡ (machine_from s).cpu → memory ≡ (machine_from s).memory → valid (state c memory) ≡ valid (state_of (machine_from s))
 same s p q = ap₂ (λ (c : Cpu) (memory : List ℕ). valid (state c memory)) p q
 
 returns : tie.Need-returns
-unfolding machineFrom
+unfolding machine_from
 returns c =
     let t = c.before.before in
     let m = t.before.before in
@@ -38,7 +38,7 @@ returns c =
     (sym (same bytes k.cpu-of.ensures m.memory-of.ensures) ∙ sym t.sound.ensures ∙ c.before.if2.true))
 
 returns-2 : tie.Need-returns-2
-unfolding machineFrom
+unfolding machine_from
 returns-2 c =
     let t = c.before.before in
     let m = t.before.before in

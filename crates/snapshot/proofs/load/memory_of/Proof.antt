@@ -6,15 +6,15 @@ use native.Mathlib.Omega.{arith}
 use lib.ListN.{length, get_or, take, drop, length-set, length-drop, length-replicate}
 use lib.Seq.{get_or-drop, take_all}
 use Rattle.machine.proofs.Fill.{fill_more}
-use Rattle.datapath.specs.Memory.{memorySize}
+use Rattle.datapath.specs.Memory.{memory_size}
 use Rattle.snapshot.proofs.load.memory_of.Statement.{statement}
 use Rattle.snapshot.proofs.load.memory_of.Tie as tie
 
 abbrev invariant-loop : tie.invariant-loop
-invariant-loop bytes memory₀ i₀ memory i = (i ≤ memorySize) × (length memory ≡ memorySize) × (take i memory ≡ take i (drop 10 bytes))
+invariant-loop bytes memory₀ i₀ memory i = (i ≤ memory_size) × (length memory ≡ memory_size) × (take i memory ≡ take i (drop 10 bytes))
 
 abbrev decreases-loop : tie.decreases-loop
-decreases-loop bytes memory₀ i₀ memory i = memorySize - i
+decreases-loop bytes memory₀ i₀ memory i = memory_size - i
 
 from : (bytes : List ℕ) (i : ℕ) → get_or bytes (i + 10) 0 ≡ get_or (drop 10 bytes) i 0
 from bytes i = ap (λ (k : ℕ). get_or bytes k 0) (swap i) ∙ sym (get_or-drop 10 bytes i 0)
@@ -23,7 +23,7 @@ from bytes i = ap (λ (k : ℕ). get_or bytes k 0) (swap i) ∙ sym (get_or-drop
     swap i = omega arith
 
 loop-holds : tie.Need-loop-init invariant-loop decreases-loop
-loop-holds c = (omega arith, length-replicate {A = ℕ} memorySize 0, refl)
+loop-holds c = (omega arith, length-replicate {A = ℕ} memory_size 0, refl)
 
 loop-again : tie.Need-loop-preserved invariant-loop decreases-loop
 loop-again c =
@@ -41,7 +41,7 @@ returns c =
     let bytes = l.before.args.bytes.now in
     end l.loop.memory (drop 10 bytes) l.loop.i (omega arith) l.loop.invariant.1 l.loop.invariant.2
   where
-    end : (memory from : List ℕ) (i : ℕ) → i ≡ memorySize → length memory ≡ memorySize → take i memory ≡ take i from → memory ≡ take memorySize from
+    end : (memory from : List ℕ) (i : ℕ) → i ≡ memory_size → length memory ≡ memory_size → take i memory ≡ take i from → memory ≡ take memory_size from
     end memory from i e l p = sym (take_all i memory (omega arith)) ∙ p ∙ ap (λ (n : ℕ). take n from) e
 
 pub memory-of-spec : {M : Type 1} → statement M

@@ -4,7 +4,7 @@ use mathlib.Core.List.{List, ◌++◌}
 use Prim.Native.Nat.{ℕ}
 use lib.ListN.{length, drop}
 use Rattle.cpu.specs.State.{state}
-use Rattle.machine.specs.Machine.{machine_of, traceOf}
+use Rattle.machine.specs.Machine.{machine_of, trace_of}
 use Rattle.snapshot.proofs.Saved.{put_all, saved-parts}
 use borrow.Author.Rules.{rules}
 use Rattle.snapshot.proofs.save.write.Statement.{statement}
@@ -19,7 +19,7 @@ returns c =
     let f = r.before in
     let s = f.before.before.before in
     let a = s.args in
-    let m = machine_of (state a.cpu a.memory.now) (traceOf a.gap) in
+    let m = machine_of (state a.cpu a.memory.now) (trace_of a.gap) in
     put_all f.front.result a.memory.now r.rest.result a.out.now (ap length f.front.ensures) s.requires.0 (ap length r.rest.ensures)
     p1.put.ensures p2.put2.ensures p3.put3.ensures
     ∙ ap (λ (x : List ℕ). x ++ drop 202 a.out.now)
