@@ -1,4 +1,5 @@
 // The instruction set of the HT1130: its addresses and instructions, and the decoder.
+#![tactic(auto)]
 pub mod decoder;
 
 // How many addresses the program ROM has.
