@@ -1,5 +1,6 @@
 // `assemble`: reads source.asm and writes mask.bin, or prints one line `refused N at line L` and writes nothing. What it writes is made by the
 // proved function of `assembler`; here files are read and written.
+#![tactic(auto)]
 use files::{read_file, write_file};
 use libc::STDOUT_FILENO;
 use rom::reader::MASK;

@@ -1,4 +1,5 @@
 // The assembler: lines and passes over a text.
+#![tactic(auto)]
 pub mod assemble;
 pub mod forms;
 pub mod lines;

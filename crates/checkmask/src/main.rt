@@ -1,6 +1,7 @@
 // `checkmask`: reads mask.bin and prints `passed`, then the bounds of both vectors and of each CALL target, and the longest of all; or `fault F at AAA
 // level L` and then a shortest way there, a line a pair: address, level, bytes and instruction. A mask of another length, or none, gives `refused 1`.
 // What it prints is decided by the proved functions of `checker`, `bound` and `mnemonic`; here a file is read and lines are written.
+#![tactic(auto)]
 ghost use Rattle.std.specs.Prelude.{◌≡◌, ◌*◌, ◌≤◌, length};
 ghost use Rattle.bound.specs.Lists.{bounds_size};
 

@@ -1,6 +1,7 @@
 // The processor: document 01's machine but for its data memory, in small structs of numbers, in the document's order. A flag is 0 or 1.
 // Structs of numbers alone are kept in registers once their callees are inlined; the data memory and the count of strays are lent beside them. They are laid out as C
 // does, for hosts that lend a machine.
+#![tactic(auto)]
 mod effect;
 mod flow;
 mod moves;

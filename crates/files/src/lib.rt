@@ -1,4 +1,5 @@
 // Files for the programs. No contract can say what a file holds; the work is in functions on bytes.
+#![tactic(auto)]
 ghost use Rattle.std.specs.Prelude.{◌⊎◌, ◌≡◌, length};
 ghost use Rattle.io.specs.Counts.{IsPrefixLen};
 

@@ -6,6 +6,7 @@
 // lines, with bytes in hexadecimal:
 //     read BYTES: dark | VALUE PLACES, and its text after a colon | refused N | refused 16 at digit K
 //     draw dark | VALUE PLACES on LENGTH: the answer's number, and the bytes afterwards
+#![tactic(auto)]
 mod text;
 
 use glass::Reading;

@@ -7,6 +7,7 @@
 //     8 all of the processor (36)   9 data memory: index, value   10 the count of strays (2)
 //     11 the query of that count, which has a line of its own
 // 8 to 10 put the machine in a state and print nothing. A case starts from the machine before its first power-on.
+#![tactic(auto)]
 mod input;
 mod text;
 

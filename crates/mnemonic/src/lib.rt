@@ -1,4 +1,5 @@
 // An instruction as document 001 writes it.
+#![tactic(auto)]
 mod fronts;
 pub mod letters;
 pub mod line;

@@ -1,6 +1,7 @@
 // What `panel` and `readings` share: runs a mask and a script, and prints after each record the report or what an operator sees; or one line
 // `refused N at P`. What is printed is decided by the proved functions of `script`, `glass` and `machine_glass`; here lines
 // are written.
+#![tactic(auto)]
 ghost use Rattle.std.specs.Prelude.{◌≡◌};
 ghost use Rattle.script.specs.Check.{checked};
 
