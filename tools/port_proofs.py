@@ -191,6 +191,8 @@ def turned(text, names, place, said):
 
     text = PATH.sub(path, text)
     text = text.replace("λ c κs. ", "λ c. ")
+    text = re.sub(r"not-(true|false) _ (c\.[\w.-]+)", r"\2", text)          # a test knows what is under its `!`
+    text = re.sub(r"(?<![(\w])(c\.in_default\.in_default-own\.keys\d+)", r"(opened \1)", text)
 
     def context(m):
         new = names.place(m.group(1))
@@ -243,6 +245,48 @@ def parameters(folder, function):
     return near[0] if near else []
 
 
+def clauses(folder, function):
+    """The names of a function's `ensures`, where it has several."""
+    name = function.split(".")[-1]
+    for top, dirs, files in os.walk(os.path.join(folder, "src")):
+        for file in sorted(files):
+            if file not in (function.split(".")[0] + ".rt", "lib.rt"):
+                continue
+            with open(os.path.join(top, file), encoding="utf-8") as f:
+                text = f.read()
+            for m in re.finditer(r"fn " + re.escape(name) + r"\s*\(", text):
+                rest = text[matching(text, m.end() - 1) :]
+                rest = rest[: rest.index("\n{\n") if "\n{\n" in rest else None]
+                rest = re.split(r"\n *\{\n", rest)[0]
+                return re.findall(r"^ *ensures (\w+) \{", rest, re.M)
+    return []
+
+
+def by_clause(text, names):
+    """A tuple that ends an answer, as a record of the clauses."""
+    m = re.search(r"(?:=|\bin|λ c\.)\s+(\()", text)
+    starts = [m.start(1) for m in re.finditer(r"(?:=|\bin|λ c\.)\s+(\()", text)]
+    for at in starts:
+        try:
+            end = matching(text, at)
+        except ValueError:
+            continue
+        if text[end + 1 :].strip(" )\n") != "":
+            continue
+        inside, parts, depth, last = text[at + 1 : end], [], 0, 0
+        for i, ch in enumerate(inside):
+            depth += ch in "({["
+            depth -= ch in ")}]"
+            if ch == "," and depth == 0:
+                parts.append(inside[last:i])
+                last = i + 1
+        parts.append(inside[last:])
+        parts = [p.strip() for p in parts if p.strip()]
+        if len(parts) == len(names):
+            return text[:at] + "record { " + "; ".join(f"{n} = {p}" for n, p in zip(names, parts)) + " }" + text[end + 1 :]
+    return text
+
+
 def convert(path, crate, function, names, said):
     with open(path, encoding="utf-8") as f:
         text = f.read()
@@ -287,6 +331,7 @@ def convert(path, crate, function, names, said):
             else:
                 inline.append((comment, new, None, arg, place))
     out_inv, out = [], []
+    ensured = clauses(os.path.join(*path.split("/proofs/")[:1]), function)
     for p in items:
         t = "\n".join(p)
         name = next((n for n in defined if defined[n] is p), None)
@@ -301,7 +346,8 @@ def convert(path, crate, function, names, said):
                 u = re.sub(r"^(?:pub )?" + re.escape(name) + r" : tie\.Need-[^\n]*", f"pub {new} : goal.{new}", t, flags=re.M)
                 u = re.sub(r"^" + re.escape(name) + END, new, u, flags=re.M)
                 u = re.sub(r"^" + re.escape(new) + r" c κs ", new + " c ", u, flags=re.M)
-                out.append(turned(u, names, place, said))
+                u = turned(u, names, place, said)
+                out.append(by_clause(u, ensured) if ensured and new.startswith("returns") else u)
         else:
             out.append(turned(t, names, None, said))
     for comment, new, bound, what, place in inline:
@@ -310,7 +356,8 @@ def convert(path, crate, function, names, said):
         if unfolding:
             lines.append(unfolding)
         lines.append(f"{new}{' ' + bound if bound else ''} = {what}")
-        out.append(turned("\n".join(lines), names, place, said))
+        u = turned("\n".join(lines), names, place, said)
+        out.append(by_clause(u, ensured) if ensured and new.startswith("returns") else u)
     module = f"Rattle.{crate}.proofs.{function}"
     answers = comments + uses + [f"use {module}.Goals as goal", ""] if out else []
     folder = os.path.dirname(path)

@@ -3,6 +3,8 @@ use Prim.Native.Nat.{ℕ, zero, suc, ◌+◌}
 use mathlib.Core.Path.{◌≡◌, sym, ap, ◌∙◌}
 use mathlib.Core.List.{List, [], ◌∷◌, ◌++◌}
 use native.Mathlib.Nat.{add_assoc, add-zero, zero-add, suc-add}
+use lib.Dec.{ltb}
+use Rattle.isa.specs.Choice.{pick}
 use Rattle.isa.specs.declared.DataAddress.{DataAddress}
 use Rattle.datapath.specs.Alu.{flag}
 use Rattle.datapath.specs.Memory.{in_gap, strays, tallied}
@@ -11,7 +13,7 @@ use Rattle.datapath.specs.Memory.{in_gap, strays, tallied}
 pub tallied-add : (count a b : ℕ) → tallied (tallied count a) b ≡ tallied count (a + b)
 unfolding tallied
 tallied-add count zero b = ap (tallied count) (sym (zero-add b))
-tallied-add count (suc a) b = tallied-add _ a b ∙ ap (tallied count) (sym (suc-add a b))
+tallied-add count (suc a) b = tallied-add (pick (ltb count 65535) (count + 1) count) a b ∙ ap (tallied count) (sym (suc-add a b))
 
 strays-append : (l m : List DataAddress) → strays l + strays m ≡ strays (l ++ m)
 unfolding strays

@@ -28,8 +28,12 @@ module _ {A : Type 0} where
   to_map f (there m) = there (to_map f m)
 
   pub of_map : (f : A → ℕ) {k : ℕ} (ps : List A) → Member k (map f ps) → (q : A) × Member q ps × (k ≡ f q)
-  of_map f (p ∷ ps) here = (p, here, refl)
-  of_map f (p ∷ ps) (there m) = let r = of_map f ps m in (r.0, there r.1, r.2)
+  of_map f {k = k} [] x' = elim x' [ ]
+  of_map f {k = k} (p ∷ ps) m = go p k (λ n. of_map f ps n) m
+    where
+      go : (p : A) (k : ℕ) → (Member k (map f ps) → (q : A) × Member q ps × (k ≡ f q)) → Member k (f p ∷ map f ps) → (q : A) × Member q (p ∷ ps) × (k ≡ f q)
+      go p k later here = (p, here, refl)
+      go p k later (there m) = let r = later m in (r.0, there r.1, r.2)
 
   pub map-length : {B : Type 0} (f : A → B) (ps : List A) → length (map f ps) ≡ length ps
   map-length f [] = refl

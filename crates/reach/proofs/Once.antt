@@ -26,6 +26,7 @@ module _ {A : Type 0} {next : A → List A} where
   rest : {p q r : A} {ps : List A} → Chain next p ps r → Member q ps → (qs : List A) × Chain next q qs r × (length qs ≤ length ps)
   rest {ps = ps} one here = (ps, one, omega arith)
   rest {ps = ps} (more m c) here = (ps, more m c, omega arith)
+  rest {q = q} (one {p = p}) (there n) = elim n [ ]
   rest (more m c) (there n) = let s = rest c n in let h = s.2 in (s.0, s.1, omega arith)
 
   pub once : {p r : A} {ps : List A} → Chain next p ps r → ((other : List A) → Chain next p other r → length ps ≤ length other) → Once ps

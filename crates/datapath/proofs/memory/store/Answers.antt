@@ -13,16 +13,16 @@ below h = omega arith
 -- below 80h
 pub returns-then-a-lt128 : goal.returns-then-a-lt128
 unfolding stored
-returns-then-a-lt128 c = let e = lt-ltb _ 0x80 c.if-a-lt128.true in (rw e refl, rw e refl)
+returns-then-a-lt128 c = let e = lt-ltb _ 0x80 c.if-a-lt128.true in record { memory_after = rw e refl; value = rw e refl }
 
 -- the gap
 pub returns-then-a-le223 : goal.returns-then-a-le223
 unfolding stored
 returns-then-a-le223 c = let e = le-ltb _ 0x80 c.if-a-lt128.false in
-    let f = lt-ltb _ 0xe0 (below c.if-a-le223.true) in (rw (e, f) refl, rw (e, f) refl)
+    let f = lt-ltb _ 0xe0 (below c.if-a-le223.true) in record { memory_after = rw (e, f) refl; value = rw (e, f) refl }
 
 -- the display
 pub returns : goal.returns
 unfolding stored
 returns c = let e = le-ltb _ 0x80 c.if-a-lt128.false in
-    let f = le-ltb _ 0xe0 c.if-a-le223.false in (rw (e, f) refl, rw (e, f) refl)
+    let f = le-ltb _ 0xe0 c.if-a-le223.false in record { memory_after = rw (e, f) refl; value = rw (e, f) refl }

@@ -57,27 +57,27 @@ returns-then-mark-lt10 c = let p = eqb (c.args.efgp / 8) 1 in
 
 pub returns-then-point : goal.returns-then-point
 returns-then-point c = let p = eqb (c.args.efgp / 8) 1 in
-    named c.args.front c.shown-mark.result _ p c.args.last (pointed c.args.front c.shown-mark.result p c.args.last c.if-mark-lt10.false c.if-point.true) c.shown-mark.ensures
+    named c.args.front c.shown-mark.result _ p c.args.last (pointed c.args.front c.shown-mark.result p c.args.last c.if-mark-lt10.false (eq-eqb (c.args.efgp / 8) 1 c.if-point.true)) c.shown-mark.ensures
 
 pub returns-then-front-ne0 : goal.returns-then-front-ne0
 returns-then-front-ne0 c = let p = eqb (c.args.efgp / 8) 1 in
-    named c.args.front c.shown-mark.result _ p c.args.last (late c.args.front c.shown-mark.result p c.args.last c.if-mark-lt10.false c.if-point.false c.if-front-ne0.true) c.shown-mark.ensures
+    named c.args.front c.shown-mark.result _ p c.args.last (late c.args.front c.shown-mark.result p c.args.last c.if-mark-lt10.false (ne_eqb (c.args.efgp / 8) 1 c.if-point.false) c.if-front-ne0.true) c.shown-mark.ensures
 
 pub returns-then-mark-eq10 : goal.returns-then-mark-eq10
 returns-then-mark-eq10 c = let p = eqb (c.args.efgp / 8) 1 in
-    named c.args.front c.shown-mark.result _ p c.args.last (blank c.args.front c.shown-mark.result p c.args.last c.if-mark-lt10.false c.if-point.false c.if-front-ne0.false c.if-mark-eq10.true) c.shown-mark.ensures
+    named c.args.front c.shown-mark.result _ p c.args.last (blank c.args.front c.shown-mark.result p c.args.last c.if-mark-lt10.false (ne_eqb (c.args.efgp / 8) 1 c.if-point.false) c.if-front-ne0.false c.if-mark-eq10.true) c.shown-mark.ensures
 
 pub returns-then-last : goal.returns-then-last
 returns-then-last c = let p = eqb (c.args.efgp / 8) 1 in
     named c.args.front c.shown-mark.result _ p c.args.last
-    (last c.args.front c.shown-mark.result p c.args.last c.if-mark-lt10.false c.if-point.false c.if-front-ne0.false c.if-mark-eq10.false c.if-last.true) c.shown-mark.ensures
+    (last c.args.front c.shown-mark.result p c.args.last c.if-mark-lt10.false (ne_eqb (c.args.efgp / 8) 1 c.if-point.false) c.if-front-ne0.false c.if-mark-eq10.false c.if-last.true) c.shown-mark.ensures
 
 pub returns-then-mark-eq11 : goal.returns-then-mark-eq11
 returns-then-mark-eq11 c = let p = eqb (c.args.efgp / 8) 1 in
     named c.args.front c.shown-mark.result _ p c.args.last
-    (minus c.args.front c.shown-mark.result p c.args.last c.if-mark-lt10.false c.if-point.false c.if-front-ne0.false c.if-mark-eq10.false c.if-last.false c.if-mark-eq11.true) c.shown-mark.ensures
+    (minus c.args.front c.shown-mark.result p c.args.last c.if-mark-lt10.false (ne_eqb (c.args.efgp / 8) 1 c.if-point.false) c.if-front-ne0.false c.if-mark-eq10.false c.if-last.false c.if-mark-eq11.true) c.shown-mark.ensures
 
 pub returns : goal.returns
 returns c = let p = eqb (c.args.efgp / 8) 1 in
     named c.args.front c.shown-mark.result _ p c.args.last
-    (other c.args.front c.shown-mark.result p c.args.last c.if-mark-lt10.false c.if-point.false c.if-front-ne0.false c.if-mark-eq10.false c.if-last.false c.if-mark-eq11.false) c.shown-mark.ensures
+    (other c.args.front c.shown-mark.result p c.args.last c.if-mark-lt10.false (ne_eqb (c.args.efgp / 8) 1 c.if-point.false) c.if-front-ne0.false c.if-mark-eq10.false c.if-last.false c.if-mark-eq11.false) c.shown-mark.ensures

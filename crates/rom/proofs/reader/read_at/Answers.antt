@@ -25,20 +25,20 @@ met mask a k d e h at f r =
 
 -- refusal 1
 pub returns-then-not-mask_ok : goal.returns-then-not-mask_ok
-returns-then-not-mask_ok c = let bad : sized c.args.mask.now ≡ false = sym c.mask_ok.ensures ∙ not-true _ c.if-not-mask_ok.true in
+returns-then-not-mask_ok c = let bad : sized c.args.mask.now ≡ false = sym c.mask_ok.ensures ∙ c.if-not-mask_ok.true in
     rw bad refl
 
 -- refusal 5
 pub returns-then-at-ge-ADDRESSES : goal.returns-then-at-ge-ADDRESSES
-returns-then-at-ge-ADDRESSES c = rw (sym c.mask_ok.ensures ∙ not-false _ c.if-not-mask_ok.false, le-ltb _ addresses c.if-at-ge-ADDRESSES.true) refl
+returns-then-at-ge-ADDRESSES c = rw (sym c.mask_ok.ensures ∙ c.if-not-mask_ok.false, le-ltb _ addresses c.if-at-ge-ADDRESSES.true) refl
 
 -- cannot be read
 pub returns-in_default : goal.returns-in_default
 returns-in_default c = ap (with_timing (length_of c.code_at-code.result.first) (cycles_of c.code_at-code.result.first)) (sym c.in_default.is)
-    ∙ met c.args.mask.now c.args.address.0 c.code_at-code.result c.decode.result (sym c.mask_ok.ensures ∙ not-false _ c.if-not-mask_ok.false) c.if-at-ge-ADDRESSES.false c.code_at-code.ensures (omega arith) c.decode.ensures
+    ∙ met c.args.mask.now c.args.address.0 c.code_at-code.result c.decode.result (sym c.mask_ok.ensures ∙ c.if-not-mask_ok.false) c.if-at-ge-ADDRESSES.false c.code_at-code.ensures (omega arith) c.decode.ensures
 
 -- an instruction
 pub returns : goal.returns
 returns c = ap₂ (instruction c.in-Read.instruction) c.length.ensures c.cycles.ensures
     ∙ ap (with_timing (length_of c.code_at-code.result.first) (cycles_of c.code_at-code.result.first)) (sym c.in-Read.is)
-    ∙ met c.args.mask.now c.args.address.0 c.code_at-code.result c.decode.result (sym c.mask_ok.ensures ∙ not-false _ c.if-not-mask_ok.false) c.if-at-ge-ADDRESSES.false c.code_at-code.ensures (omega arith) c.decode.ensures
+    ∙ met c.args.mask.now c.args.address.0 c.code_at-code.result c.decode.result (sym c.mask_ok.ensures ∙ c.if-not-mask_ok.false) c.if-at-ge-ADDRESSES.false c.code_at-code.ensures (omega arith) c.decode.ensures

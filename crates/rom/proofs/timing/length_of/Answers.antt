@@ -7,6 +7,7 @@ use mathlib.Core.List.{List, [], ◌∷◌}
 use lib.Dec.{eqb}
 use lib.ListN.{get_or}
 use types.Run.{OneOf}
+use borrow.Enum.Refused.{opened}
 use denote.Enum.Declared.{tag_of}
 use borrow.Author.Rules.{rules}
 use borrow.Author.Tests.{eqb-true}
@@ -102,4 +103,4 @@ returns-in-Halt c = sym (ap column c.in-Halt.is)
 -- the others
 pub returns-in_default : goal.returns-in_default
 unfolding columns_of
-returns-in_default c = last c.args.instruction c.in_default.in_default-own.keys14
+returns-in_default c = last c.args.instruction (opened c.in_default.in_default-own.keys14)
