@@ -5,7 +5,7 @@ ghost use Rattle.abi.specs.Forms.{condition_number, fields, numbers_of, page_num
 use isa::{Condition, Instruction, Page, Pointer, Port};
 
 // A form, its operand a and its operand b.
-#[derive(Drop)]
+#[derive(Clone, Copy)]
 pub struct Numbers(pub u8, pub u8, pub u16);
 
 fn pointer_number(pointer: Pointer) -> u8

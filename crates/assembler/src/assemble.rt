@@ -8,7 +8,7 @@ use isa::PLACES;
 use rom::reader::MASK;
 
 // The refusal, 0 for none, and its line.
-#[derive(Drop)]
+#[derive(Clone, Copy)]
 pub struct Answer {
     pub refusal: u8,
     pub line: u32,

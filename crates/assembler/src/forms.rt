@@ -407,7 +407,7 @@ pub(crate) fn values_of(digits: u8) -> u64
 }
 
 // The bytes of a line: so many of the two.
-#[derive(Drop)]
+#[derive(Clone, Copy)]
 pub struct Bytes {
     pub size: usize,
     pub first: u8,

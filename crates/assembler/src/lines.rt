@@ -13,7 +13,7 @@ use operand::tokens::{END, FIXED, LABEL, token};
 const LONGEST: u8 = 6;
 
 // A line: whether it can be read, its form, its label if it has one, and what its operand counts.
-#[derive(Drop)]
+#[derive(Clone, Copy)]
 pub struct Line {
     pub readable: bool,
     pub form: usize,
@@ -25,7 +25,7 @@ pub struct Line {
 }
 
 // A label and its colon, if they stand here: where its word is, and what follows.
-#[derive(Drop)]
+#[derive(Clone, Copy)]
 struct Label {
     present: bool,
     start: usize,
@@ -81,7 +81,7 @@ fn leads(kind: u8) -> bool
 }
 
 // The tokens before an operand as one number, and what follows them.
-#[derive(Drop)]
+#[derive(Clone, Copy)]
 struct Head {
     key: u64,
     next: usize,

@@ -55,7 +55,7 @@ fn store(list: &mut [u8], at: usize, value: u8, wanted: bool)
 }
 
 // What the first pass finds: the first line that cannot be read, and how many labels there are.
-#[derive(Drop)]
+#[derive(Clone, Copy)]
 pub struct Labels {
     pub line: u32,
     pub count: usize,

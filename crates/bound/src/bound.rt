@@ -9,7 +9,7 @@ use checker::check::{MARKS, Verdict, check, is_marked};
 use isa::{ADDRESSES, PLACES};
 use rom::reader::mask_ok;
 
-#[derive(Drop)]
+#[derive(Clone, Copy)]
 pub enum Bound {
     // The pair is unmarked, or in level 0.
     NotReached,

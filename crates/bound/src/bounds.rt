@@ -13,7 +13,7 @@ use rom::reader::mask_ok;
 // How many entries the list has: two for each address.
 pub const BOUNDS: usize = PLACES * 2;
 
-#[derive(Drop)]
+#[derive(Clone, Copy)]
 pub enum Bounds {
     // Each entry is the answer for its pair.
     Listed,

@@ -7,7 +7,7 @@ ghost use Rattle.bound.specs.Walk.{HandedOn};
 
 use rom::reader::moved_by;
 
-#[derive(Drop)]
+#[derive(Clone, Copy)]
 pub enum Ways {
     // HALT.
     Stop,

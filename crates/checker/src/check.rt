@@ -10,7 +10,7 @@ use rom::reader::mask_ok;
 // How many mark bytes there are; today one for each address.
 pub const MARKS: usize = 4096;
 
-#[derive(Drop)]
+#[derive(Clone, Copy)]
 pub enum Verdict {
     // No reached pair is forbidden.
     Passed,

@@ -7,7 +7,7 @@ ghost use Rattle.checker.specs.Marks.{flow_at, flow_read, levels};
 use isa::ProgramAddress;
 use rom::reader::code_at;
 
-#[derive(Drop)]
+#[derive(Clone, Copy)]
 pub enum Flow {
     // Nowhere: the bytes read as no instruction.
     Unread,

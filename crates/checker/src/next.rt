@@ -12,7 +12,7 @@ const TIMER: u16 = 4 * 3 + 2;
 const EDGE: u16 = 8 * 3 + 2;
 
 // The codes of a pair's successors.
-#[derive(Drop)]
+#[derive(Clone, Copy)]
 pub enum Codes {
     // None: the pair is forbidden. Its fault.
     Forbidden(u8),

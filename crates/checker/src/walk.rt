@@ -52,7 +52,7 @@ fn push_all(seen: &mut [u8; PAIRS], queue: &mut [u16; PAIRS], tail: u16, codes: 
 }
 
 // A forbidden code and its fault; `NO_PAIR` where there is none.
-#[derive(Drop)]
+#[derive(Clone, Copy)]
 pub struct Named {
     pub code: u16,
     pub fault: u8,

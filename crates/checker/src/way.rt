@@ -10,7 +10,7 @@ use rom::reader::mask_ok;
 
 const LAST_PLACE: u16 = NO_PAIR - 1;
 
-#[derive(Drop)]
+#[derive(Clone, Copy)]
 pub enum Listing {
     // A shortest chain is listed. Its count of pairs.
     Listed(u16),

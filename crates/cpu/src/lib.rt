@@ -12,7 +12,7 @@ use isa::ProgramAddress;
 
 // ACC and R0 to R4, nibbles.
 #[repr(C)]
-#[derive(Drop)]
+#[derive(Clone, Copy)]
 pub struct Registers {
     pub acc: u8,
     pub r0: u8,
@@ -24,7 +24,7 @@ pub struct Registers {
 
 // PC, 0 to 4,095; CF and TF, the carry and timer flags.
 #[repr(C)]
-#[derive(Drop)]
+#[derive(Clone, Copy)]
 pub struct Control {
     pub pc: ProgramAddress,
     pub cf: u8,
@@ -33,7 +33,7 @@ pub struct Control {
 
 // The timer's count, 8 bits, and its running flag.
 #[repr(C)]
-#[derive(Drop)]
+#[derive(Clone, Copy)]
 pub struct Timer {
     pub count: u8,
     pub running: u8,
@@ -41,7 +41,7 @@ pub struct Timer {
 
 // The enable flag; the held edge (document 01's term: a falling edge not yet taken); the level, 0 main, 1 subroutine, 2 interrupt.
 #[repr(C)]
-#[derive(Drop)]
+#[derive(Clone, Copy)]
 pub struct Interrupts {
     pub enabled: u8,
     pub held: u8,
@@ -50,7 +50,7 @@ pub struct Interrupts {
 
 // The stack address, 0 to 4,095, and the stack carry.
 #[repr(C)]
-#[derive(Drop)]
+#[derive(Clone, Copy)]
 pub struct Stack {
     pub address: ProgramAddress,
     pub carry: u8,
@@ -58,7 +58,7 @@ pub struct Stack {
 
 // The halted flag; the fault, 0 to 3.
 #[repr(C)]
-#[derive(Drop)]
+#[derive(Clone, Copy)]
 pub struct Status {
     pub halted: u8,
     pub fault: u8,
@@ -66,7 +66,7 @@ pub struct Status {
 
 // PA, a nibble; the sound channel, 0 to 15 or 16 for off; the sound mode, 0 once, 1 loop.
 #[repr(C)]
-#[derive(Drop)]
+#[derive(Clone, Copy)]
 pub struct Outputs {
     pub pa: u8,
     pub channel: u8,
@@ -75,7 +75,7 @@ pub struct Outputs {
 
 // The levels of PM, PS and PP, nibbles, and of INT, 0 or 1.
 #[repr(C)]
-#[derive(Drop)]
+#[derive(Clone, Copy)]
 pub struct Pins {
     pub pm: u8,
     pub ps: u8,
@@ -85,7 +85,7 @@ pub struct Pins {
 
 // Timer rate n, 0 to 13 but not 6, or 255 for the external clock; commons 3 or 4; a wake nibble for each of PM, PS, PP.
 #[repr(C)]
-#[derive(Drop)]
+#[derive(Clone, Copy)]
 pub struct Options {
     pub rate: u8,
     pub commons: u8,
@@ -95,7 +95,7 @@ pub struct Options {
 }
 
 #[repr(C)]
-#[derive(Drop)]
+#[derive(Clone, Copy)]
 pub struct Cpu {
     pub registers: Registers,
     pub control: Control,

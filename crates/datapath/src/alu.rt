@@ -4,7 +4,7 @@ ghost use Rattle.std.specs.Int.Bits.{bit_and, bit_or, bit_xor};
 ghost use Rattle.datapath.specs.Alu.{adjusted, bit_set, decremented, incremented, not_zero, rotated_left, rotated_left_through, rotated_right, rotated_right_through, subtracted, summed};
 
 // A nibble and the carry that goes with it.
-#[derive(Drop)]
+#[derive(Clone, Copy)]
 pub struct Sum {
     pub value: u8,
     pub carry: u8,

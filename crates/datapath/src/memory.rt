@@ -9,7 +9,7 @@ use isa::DataAddress;
 pub const MEMORY: usize = 160;
 
 // What a read gives: the nibble, and whether the address is in the gap.
-#[derive(Drop)]
+#[derive(Clone, Copy)]
 pub struct Access {
     pub nibble: u8,
     pub stray: bool,

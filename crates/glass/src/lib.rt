@@ -6,14 +6,14 @@ pub mod signed;
 pub mod text;
 
 // What a glass shows: nothing, or a signed whole number and the count of digits after the point.
-#[derive(Drop)]
+#[derive(Clone, Copy)]
 pub enum Reading {
     Dark,
     Number(i32, u8),
 }
 
 // What a picture is read as: its reading, or a refusal.
-#[derive(Drop)]
+#[derive(Clone, Copy)]
 pub enum Seen {
     Shown(Reading),
     // 2: not eight nibbles.

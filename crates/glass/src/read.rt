@@ -9,7 +9,7 @@ use crate::signed::signed;
 use crate::{Reading, Seen};
 
 // What the digits so far show. `stage` is 0 after blanks alone, 1 after a minus, 2 among digits, 3 among digits from the one with the point on.
-#[derive(Drop)]
+#[derive(Clone, Copy)]
 struct Front {
     value: u16,
     stage: u8,
@@ -18,7 +18,7 @@ struct Front {
 }
 
 // One digit more: what is shown then, or a digit that cannot stand there.
-#[derive(Drop)]
+#[derive(Clone, Copy)]
 enum Next {
     On(Front),
     Off,

@@ -1,13 +1,11 @@
 -- The machine that a host lends, and events as numbers. Document 01: "A host may also lend one machine record and have an event applied to
 -- it directly". Assumes nothing.
-use Rattle.std.specs.Prelude.{ℕ, ◌+◌, ◌*◌, ◌^◌, ◌≡◌, List}
+use Rattle.std.specs.Prelude.{ℕ, ◌+◌, ◌*◌, ◌^◌, List}
 use Rattle.cpu.specs.declared.Options.{Options}
 use Rattle.machine.specs.Events.{event_of, named_answer}
 use Rattle.machine.specs.declared.Machine.{Machine}
 use Rattle.machine.specs.declared.Answer.{Answer}
 use Rattle.machine.specs.declared.gap.GapCount.{GapCount}
-use Rattle.snapshot.specs.Snapshot.{Saving}
-use Rattle.snapshot.specs.declared.save.Saved.{Saved}
 
 -- what a call on a lent record leaves: the number that it returns, and the record behind the reference, every field
 abbrev pub left : ℕ → Machine → Answer
@@ -24,12 +22,3 @@ hosted mask kind count a b c m = named_answer mask (event_of kind count a b c) m
 -- the answer to the query of the count as a number of eight bytes, which is this interface's own: the refusal in byte 0, the count in bytes 4 and 5
 abbrev pub gap_number : GapCount → ℕ
 gap_number a = a.refusal + a.count * 2 ^ 32
-
--- the answer to a save likewise: how many bytes it wrote in bytes 4 and 5
-abbrev pub saved_number : Saved → ℕ
-saved_number a = a.refusal + a.count * 2 ^ 32
-
--- what `ht1130_save` leaves: the number of the save's answer, and the lent bytes
-pub record Saves (s : Saving) (new : List ℕ) (r : ℕ) : Type 0 where
-  pub number : r ≡ saved_number s.answer
-  pub bytes : new ≡ s.bytes

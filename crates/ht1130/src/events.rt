@@ -1,16 +1,13 @@
 // Power-on, the other events, the report and the count of strays on a machine by value, from numbers.
 ghost use Rattle.std.specs.Prelude.{◌≡◌};
-ghost use Rattle.ht1130.specs.Lent.{Saves, gap_number, options_of, hosted};
+ghost use Rattle.ht1130.specs.Lent.{gap_number, options_of, hosted};
 ghost use Rattle.machine.specs.Gap.{gap_count};
-ghost use Rattle.machine.specs.Power.{blank, power_on};
+ghost use Rattle.machine.specs.Power.{power_on};
 ghost use Rattle.machine.specs.Report.{report, reporting};
-ghost use Rattle.snapshot.specs.Snapshot.{loading, saving};
 
 use cpu::Options;
 use machine::events::event_of;
 use machine::{Answer, Machine};
-use snapshot::load::load;
-use snapshot::save::save;
 
 pub(crate) fn power(
     machine: Machine,
@@ -60,18 +57,4 @@ pub(crate) fn gap_number(machine: Machine) -> u64
 {
     let answer = machine.gap_count();
     answer.refusal as u64 + answer.count as u64 * 0x100000000
-}
-
-// How many bytes were written in bytes 4 and 5, the refusal in byte 0.
-pub(crate) fn saved_number(machine: Machine, out: &mut [u8]) -> u64
-    ensures { Saves (saving machine out.old) out.new result }
-{
-    let answer = save(machine, out);
-    answer.refusal as u64 + answer.count as u64 * 0x100000000
-}
-
-pub(crate) fn loaded(bytes: &[u8]) -> Answer
-    ensures { result ≡ loading bytes.now blank }
-{
-    load(bytes)
 }

@@ -1,13 +1,12 @@
 // The machine record that a host lends: document 01, "A host may also lend one machine record and have an event applied to it directly".
 // Each wrapper takes the record out, hands it on by value, and puts back what the answer has; a refused call stores nothing.
 ghost use Rattle.std.specs.Prelude.{◌≡◌};
-ghost use Rattle.ht1130.specs.Lent.{Saves, gap_number, left, options_of, hosted};
+ghost use Rattle.ht1130.specs.Lent.{gap_number, left, options_of, hosted};
 ghost use Rattle.machine.specs.Gap.{gap_count};
 ghost use Rattle.machine.specs.Power.{power_on};
 ghost use Rattle.machine.specs.Report.{report, reporting};
-ghost use Rattle.snapshot.specs.Snapshot.{loading, saving};
 
-use crate::events::{event, gap_number, loaded, power, saved_number, shown};
+use crate::events::{event, gap_number, power, shown};
 use machine::Machine;
 
 #[unsafe(no_mangle)]
@@ -60,22 +59,4 @@ pub extern "C" fn ht1130_gap_count(machine: &Machine) -> u64
     ensures { result ≡ gap_number (gap_count machine.now) }
 {
     gap_number(*machine)
-}
-
-#[unsafe(no_mangle)]
-pub extern "C" fn ht1130_save(machine: &Machine, out: &mut [u8]) -> u64
-    ensures { Saves (saving machine.now out.old) out.new result }
-{
-    saved_number(*machine, out)
-}
-
-#[unsafe(no_mangle)]
-pub extern "C" fn ht1130_load(machine: &mut Machine, bytes: &[u8]) -> u8
-    ensures { left result machine.new ≡ loading bytes.now machine.old }
-{
-    let answer = loaded(bytes);
-    if answer.refusal == 0 {
-        *machine = answer.machine;
-    }
-    answer.refusal
 }

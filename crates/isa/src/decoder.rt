@@ -4,7 +4,7 @@ ghost use Rattle.isa.specs.Reading.{Reading};
 use crate::{Condition, Instruction, Page, Pointer, Port, ProgramAddress};
 
 // What two bytes read as. A one-byte instruction leaves the second byte out of account.
-#[derive(Drop)]
+#[derive(Clone, Copy)]
 pub enum Decoded {
     Read(Instruction),
     // The first byte fits no printed pattern, or the second breaks one.

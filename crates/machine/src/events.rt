@@ -15,7 +15,7 @@ use datapath::timer::advance;
 use rom::reader::mask_ok;
 
 // Kinds 2 to 6 of document 01's records.
-#[derive(Drop)]
+#[derive(Clone, Copy)]
 pub enum Event {
     // Run: at most this many steps.
     Run(u16),
@@ -30,7 +30,7 @@ pub enum Event {
 }
 
 // What a kind and its numbers name: an event, or refusal 7.
-#[derive(Drop)]
+#[derive(Clone, Copy)]
 pub enum Named {
     Known(Event),
     Unknown,

@@ -6,7 +6,7 @@ use crate::Machine;
 use crate::ranges::sound;
 
 // What the query gives back: document 01's refusal number, 0 for none, and the count, 0 where it is refused.
-#[derive(Drop)]
+#[derive(Clone, Copy)]
 pub struct GapCount {
     pub count: u16,
     pub refusal: u8,

@@ -175,11 +175,9 @@ fn cpu_ok(c: Cpu) -> bool
 }
 
 // Whether a machine is in range, from its two parts: the memory is lent, not copied. Refusal 5 is the answer where this is false.
-pub fn sound(cpu: Cpu, memory: &[u8]) -> bool
+pub(crate) fn sound(cpu: Cpu, memory: &[u8; MEMORY]) -> bool
+    requires { length memory.now ≡ memory_size }
     ensures { result ≡ valid (state cpu memory.now) }
 {
-    both(
-        cpu_ok(cpu),
-        both(memory.len() == MEMORY, all_nibbles(memory)),
-    )
+    both(cpu_ok(cpu), all_nibbles(memory))
 }

@@ -8,14 +8,14 @@ use glass::read::read;
 use machine::Machine;
 
 // Display nibbles 0 to 7, and document 01's refusal number, 0 for none. A refused machine has a blank picture.
-#[derive(Drop)]
+#[derive(Clone, Copy)]
 pub struct Pictured {
     pub nibbles: [u8; 8],
     pub refusal: u8,
 }
 
 // What is seen of a machine: what its picture is read as, or refusal 5.
-#[derive(Drop)]
+#[derive(Clone, Copy)]
 pub enum Sight {
     OnGlass(Seen),
     BadMachine,

@@ -5,7 +5,7 @@ pub mod letters;
 pub mod line;
 
 // A text: so many of the bytes, and zeros after it. The longest, MOV R1R0,0FFH, has 13.
-#[derive(Drop)]
+#[derive(Clone, Copy)]
 pub struct Text {
     pub bytes: [u8; 16],
     pub length: usize,

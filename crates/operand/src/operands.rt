@@ -15,7 +15,7 @@ const DEEPEST: u8 = 16;
 const LONGEST: usize = 65535;
 
 // What an operand counts: what is added and what is taken away, and whether one of its labels is missing; nothing where it cannot be read.
-#[derive(Drop)]
+#[derive(Clone, Copy)]
 pub struct Value {
     pub readable: bool,
     pub missing: bool,
@@ -24,7 +24,7 @@ pub struct Value {
 }
 
 // The same of a part of one, and what follows it.
-#[derive(Drop)]
+#[derive(Clone, Copy)]
 struct Sum {
     readable: bool,
     missing: bool,

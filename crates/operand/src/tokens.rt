@@ -17,7 +17,7 @@ pub const NUMBER: u8 = 3;
 pub const FIXED: u8 = 128;
 
 // A token: its kind, where it starts and what follows it.
-#[derive(Drop)]
+#[derive(Clone, Copy)]
 pub struct Lexeme {
     pub kind: u8,
     pub start: usize,

@@ -16,7 +16,7 @@ use script::check::check_script;
 use script::hex::hex_line;
 
 // What is printed after each record.
-#[derive(Drop)]
+#[derive(Clone, Copy)]
 pub enum Shown {
     Reports,
     Readings,

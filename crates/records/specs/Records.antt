@@ -1,6 +1,6 @@
 -- Records, over a list of bytes. Document 01: "Script records are little-endian: two-byte payload length, two-byte kind, payload". Which kinds there
 -- are, and the payload length of each, is whose records they are. Past the end every byte reads as 0. Assumes nothing.
-use Rattle.std.specs.Prelude.{ℕ, zero, suc, ◌+◌, ◌*◌, ◌%◌, ◌/◌, Bool, List, [], ◌∷◌, ◌++◌, ltb, eqb, length, get_or}
+use Rattle.std.specs.Prelude.{ℕ, zero, suc, ◌+◌, ◌*◌, ◌%◌, ◌/◌, Bool, List, [], ◌∷◌, ltb, eqb, length, get_or}
 use Rattle.isa.specs.Choice.{pick}
 use Rattle.records.specs.declared.Size.{Size}
 use Rattle.records.specs.declared.Size.TheVariants.{Of, UnknownKind}
@@ -8,10 +8,6 @@ use Rattle.records.specs.declared.Size.TheVariants.{Of, UnknownKind}
 -- a little-endian number of two bytes
 abbrev pub word_at : List ℕ → ℕ → ℕ
 word_at s i = get_or s i 0 + 256 * get_or s (i + 1) 0
-
--- and of four
-abbrev pub long_at : List ℕ → ℕ → ℕ
-long_at s i = word_at s i + 65536 * word_at s (i + 2)
 
 -- the record at an offset: payload length, kind, and byte k of the payload
 abbrev pub size_at : List ℕ → ℕ → ℕ
@@ -56,11 +52,3 @@ offsets s = offsets_from s 0
 -- a number in two bytes
 abbrev pub two_bytes : ℕ → List ℕ
 two_bytes n = n % 256 ∷ n / 256 ∷ []
-
--- and in four
-abbrev pub four_bytes : ℕ → List ℕ
-four_bytes n = two_bytes (n % 65536) ++ two_bytes (n / 65536)
-
--- a record of a kind
-abbrev pub recorded : ℕ → List ℕ → List ℕ
-recorded kind payload = two_bytes (length payload) ++ (two_bytes kind ++ payload)

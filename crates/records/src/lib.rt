@@ -4,7 +4,7 @@ ghost use Rattle.std.specs.Prelude.{◌≡◌, ◌≤◌, get_or, length};
 ghost use Rattle.records.specs.Records.{cut_off, kind_at, offsets, payload_at, size_at, size_refusal, word_at};
 
 // What a record's kind says of its payload: how many bytes it has; or the kind is unknown. Whose records they are decides it.
-#[derive(Drop)]
+#[derive(Clone, Copy)]
 pub enum Size {
     Of(u16),
     UnknownKind,
@@ -20,7 +20,7 @@ fn byte(s: &[u8], i: usize) -> u8
 }
 
 // A little-endian number of two bytes.
-pub fn word_at(s: &[u8], i: usize) -> u16
+fn word(s: &[u8], i: usize) -> u16
     ensures { result ≡ word_at s.now i }
 {
     if s.len() <= i {
@@ -35,7 +35,7 @@ pub fn word_at(s: &[u8], i: usize) -> u16
 pub fn size_at(s: &[u8], at: usize) -> usize
     ensures { (result ≡ size_at s.now at) × (result ≤ 65535) }
 {
-    word_at(s, at) as usize
+    word(s, at) as usize
 }
 
 pub fn kind_at(s: &[u8], at: usize) -> u16
@@ -44,7 +44,7 @@ pub fn kind_at(s: &[u8], at: usize) -> u16
     if s.len() <= at {
         return 0;
     }
-    word_at(s, at + 2)
+    word(s, at + 2)
 }
 
 // Byte `k` of its payload.

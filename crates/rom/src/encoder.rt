@@ -6,7 +6,7 @@ ghost use Rattle.rom.specs.Writing.{answer_of, fitting, writing};
 use isa::{ADDRESSES, Condition, Instruction, Page, Pointer, Port, ProgramAddress};
 
 // The bytes of an instruction. Document 01's refusal 3 is the answer for a field outside its pattern.
-#[derive(Drop)]
+#[derive(Clone, Copy)]
 pub enum Written {
     One(u8),
     Two(u8, u8),

@@ -10,14 +10,14 @@ use isa::{ADDRESSES, Instruction, PLACES, ProgramAddress};
 pub const MASK: usize = PLACES;
 
 // The two bytes that the decoder takes.
-#[derive(Drop)]
+#[derive(Clone, Copy)]
 pub struct Code {
     pub first: u8,
     pub second: u8,
 }
 
 // What stands at an address of a mask.
-#[derive(Drop)]
+#[derive(Clone, Copy)]
 pub enum Fetched {
     // Refusal 1: the mask has not 4,096 bytes.
     BadMask,

@@ -12,7 +12,7 @@ use records::{count, kind_at, size_at};
 use rom::reader::mask_ok;
 
 // What is judged record by record: 6 and 7, then 3, then 4.
-#[derive(Drop)]
+#[derive(Clone, Copy)]
 pub enum Rule {
     Format,
     Values,

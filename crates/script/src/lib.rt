@@ -10,21 +10,21 @@ use machine::Machine;
 use machine::events::Named;
 
 // A script's record: a power-on with its options and the nibble that fills the image, or what another kind names.
-#[derive(Drop)]
+#[derive(Clone, Copy)]
 pub enum Record {
     Power(Options, u8),
     Other(Named),
 }
 
 // The check's answer: document 01's refusal number, 0 for none, and the offset that goes with it.
-#[derive(Drop)]
+#[derive(Clone, Copy)]
 pub struct Checked {
     pub number: u8,
     pub offset: usize,
 }
 
 // The refusal of a record, 0 for none; where the next one starts, and the machine that it gets.
-#[derive(Drop)]
+#[derive(Clone, Copy)]
 pub struct Progress {
     pub refusal: u8,
     pub at: usize,

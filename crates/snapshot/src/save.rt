@@ -13,7 +13,7 @@ use machine::Machine;
 use machine::ranges::sound;
 
 // What a save gives back: the refusal number, 0 for none, and how many bytes it wrote, 0 where it is refused.
-#[derive(Drop)]
+#[derive(Clone, Copy)]
 pub struct Saved {
     pub count: u16,
     pub refusal: u8,

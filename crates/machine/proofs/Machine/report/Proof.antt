@@ -15,11 +15,11 @@ returns-2 : tie.Need-returns-2
 unfolding report
 returns-2 c =
     let s = c.before.before.before.before.before.before.before.before in
-    ap (reporting 0) (c.before.before.write-report.ensures no_trace) ∙ rw (eq-eqb _ 48 s.before.before.before.before.before.if1.false, sym s.sound.ensures ∙ c.before.before.before.before.before.before.before.if2.true) refl
+    ap (reporting 0) (c.before.before.write-report.ensures no_trace) ∙ rw (eq-eqb _ 48 s.before.before.before.before.if1.false, sym s.sound.ensures ∙ c.before.before.before.before.before.before.before.if2.true) refl
 
 returns-3 : tie.Need-returns-3
 unfolding report
-returns-3 c = rw (eq-eqb _ 48 c.before.before.before.before.before.before.if1.false, sym c.before.sound.ensures ∙ c.if2.false) refl
+returns-3 c = rw (eq-eqb _ 48 c.before.before.before.before.before.if1.false, sym c.before.sound.ensures ∙ c.if2.false) refl
 
 pub report-spec : {M : Type 1} → statement M
 report-spec =

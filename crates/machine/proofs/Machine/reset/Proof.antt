@@ -11,7 +11,7 @@ use Rattle.machine.proofs.Machine.reset.Tie as tie
 returns : tie.Need-returns
 unfolding happened mask_ok values_ok refusal_of applied
 returns c =
-    let m = c.before.before.before.before.before.before.before.before.args.t1 in
+    let m = c.before.before.before.before.before.before.before.args.t1 in
     let next = c.reset-cpu in
     let in-range = sym c.before.before.before.sound.ensures ∙ c.before.before.if1.true in
     ap (λ (k : Cpu). record { machine = machine_of (state k m.memory) m.trace; refusal = 0 }) next.ensures

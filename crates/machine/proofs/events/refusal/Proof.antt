@@ -7,11 +7,11 @@ use Rattle.machine.proofs.events.refusal.Tie as tie
 
 returns : tie.Need-returns
 unfolding refusal_of
-returns c mask t m = rw (m, sym c.before.before.before.before.values-ok.ensures ∙ c.before.before.before.if1.true, sym c.before.sound.ensures ∙ c.if2.true) refl
+returns c mask t m = rw (m, sym c.before.before.before.values-ok.ensures ∙ c.before.before.if1.true, sym c.before.sound.ensures ∙ c.if2.true) refl
 
 returns-2 : tie.Need-returns-2
 unfolding refusal_of
-returns-2 c mask t m = rw (m, sym c.before.before.before.before.values-ok.ensures ∙ c.before.before.before.if1.true, sym c.before.sound.ensures ∙ c.if2.false) refl
+returns-2 c mask t m = rw (m, sym c.before.before.before.values-ok.ensures ∙ c.before.before.if1.true, sym c.before.sound.ensures ∙ c.if2.false) refl
 
 returns-3 : tie.Need-returns-3
 unfolding refusal_of

@@ -7,11 +7,11 @@ use Rattle.machine.proofs.events.run_refusal.Tie as tie
 
 returns : tie.Need-returns
 unfolding refusal_of mask_ok values_ok
-returns c n t = rw (sym c.before.before.before.before.mask-ok.ensures ∙ c.before.before.before.if1.true, sym c.before.sound.ensures ∙ c.if2.true) refl
+returns c n t = rw (sym c.before.before.before.mask-ok.ensures ∙ c.before.before.if1.true, sym c.before.sound.ensures ∙ c.if2.true) refl
 
 returns-2 : tie.Need-returns-2
 unfolding refusal_of mask_ok values_ok
-returns-2 c n t = rw (sym c.before.before.before.before.mask-ok.ensures ∙ c.before.before.before.if1.true, sym c.before.sound.ensures ∙ c.if2.false) refl
+returns-2 c n t = rw (sym c.before.before.before.mask-ok.ensures ∙ c.before.before.if1.true, sym c.before.sound.ensures ∙ c.if2.false) refl
 
 returns-3 : tie.Need-returns-3
 unfolding refusal_of mask_ok values_ok
