@@ -84,7 +84,7 @@ rank-pair c = omega arith
 
 -- ---- one successor
 picked : (b : Bool) (ps : List Pair) (q : Pair) → Member q (pick b ps []) → Member q ps
-picked false ps q m = elim m [ ]
+picked mathlib.Core.Bool.false ps q m = elim m [ ]
 picked true ps q m = m
 
 module _ (mask : List ℕ) where

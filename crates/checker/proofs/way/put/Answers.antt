@@ -8,8 +8,7 @@ use lib.ListN.{length, drop, take, set, length-set}
 use lib.Seq.{set_split, drop_at, length-take-le}
 use borrow.Author.Rules.{rules}
 use Rattle.checker.specs.Ways.{listed}
-use Rattle.checker.proofs.way.put.Statement.{statement}
-use Rattle.checker.proofs.way.put.Tie as tie
+use Rattle.checker.proofs.way.put.Goals as goal
 
 drop-set : (xs : List ℕ) (i v : ℕ) → i < length xs → drop i (set xs i v) ≡ v ∷ drop (i + 1) xs
 drop-set xs i v h =
@@ -26,21 +25,13 @@ three-set xs i a b c h =
     (drop-set (set xs (i + 2) c) (i + 1) b (omega arith)
     ∙ ap (λ (r : List ℕ). b ∷ r) (ap (λ (n : ℕ). drop n (set xs (i + 2) c)) p ∙ drop-set xs (i + 2) c (omega arith) ∙ ap (λ (n : ℕ). c ∷ drop n xs) q))
 
-slice-write-list-2 : tie.Need-slice-write-list-2
-slice-write-list-2 c = simp length-set (omega arith)
+pub bounds-list-at-2 : goal.bounds-list-at-2
+bounds-list-at-2 c = simp length-set (omega arith)
 
-slice-write-list-3 : tie.Need-slice-write-list-3
-slice-write-list-3 c = simp length-set (omega arith)
+pub bounds-list-at-3 : goal.bounds-list-at-3
+bounds-list-at-3 c = simp length-set (omega arith)
 
-returns : tie.Need-returns
+pub returns : goal.returns
 unfolding listed
 returns c =
-    let a = c.args in
-    (three-set a.list.now a.at (a.code / 3 % 256) (a.code / 3 / 256) (a.code % 3) c.requires, simp length-set)
-
-pub put_spec : {M : Type 1} → statement M
-put_spec =
-    tie.close
-    (tie.spec
-    (λ c. search rules) (λ c. search rules) (λ c. search rules) (λ c. search rules) (λ c. search rules) slice-write-list-2
-    (λ c. search rules) slice-write-list-3 (λ c. search rules) returns)
+    record { list_after = three-set c.args.list.now c.args.at (c.args.code / 3 % 256) (c.args.code / 3 / 256) (c.args.code % 3) c.requires; list_len_unchanged = simp length-set }

@@ -1,0 +1,15 @@
+use Prim.Native.Nat.{ℕ, ◌+◌, ◌-◌, ◌*◌, ◌≤◌, ◌<◌}
+use mathlib.Core.Path.{◌≡◌, sym, ap, ◌∙◌}
+use mathlib.Core.List.{List}
+use native.Mathlib.Omega.{arith}
+use lib.ListN.{length, get_or, set, length-set}
+use Rattle.reach.proofs.Count.{after-set}
+use Rattle.checker.specs.Verdicts.{marks_size}
+use Rattle.checker.specs.Walk.{mark_of}
+use Rattle.checker.proofs.check.pack.Given as goal
+
+abbrev pub invariant-loop-address : goal.invariant-loop-address
+invariant-loop-address l = (l.address ≤ marks_size) × (length l.marks ≡ marks_size) × ((a : ℕ) → a < l.address → get_or l.marks a 0 ≡ mark_of l.seen a)
+
+abbrev pub decreases-loop-address : goal.decreases-loop-address
+decreases-loop-address l = marks_size - l.address

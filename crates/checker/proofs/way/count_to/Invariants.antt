@@ -1,0 +1,12 @@
+use Prim.Native.Nat.{ℕ, suc, ◌+◌, ◌-◌, ◌≤◌, ◌<◌}
+use mathlib.Core.Path.{◌≡◌, subst}
+use native.Mathlib.Omega.{arith}
+use Rattle.reach.specs.Trail.{Counted, origin, onward}
+use Rattle.checker.proofs.way.count_to.Given as goal
+
+abbrev pub invariant-loop-place : goal.invariant-loop-place
+invariant-loop-place l =
+    (0 < l.count) × (l.count + l.place ≤ l.end + 1) × ((n : ℕ) → Counted l.starts l.place n → Counted l.starts l.end (n + (l.count - 1)))
+
+abbrev pub decreases-loop-place : goal.decreases-loop-place
+decreases-loop-place l = l.place

@@ -1,0 +1,29 @@
+use Prim.Native.Nat.{ℕ, ◌+◌, ◌-◌, ◌*◌, ◌≤◌, ◌<◌}
+use mathlib.Core.Path.{◌≡◌, refl, sym, ap, subst, ◌∙◌}
+use mathlib.Core.List.{List, [], ◌∷◌, ◌++◌}
+use native.Mathlib.Omega.{arith}
+use lib.ListN.{length, get_or, drop}
+use lib.Seq.{drop-drop}
+use Rattle.reach.specs.Trail.{Counted, Up, stay, climb, Before}
+use Rattle.reach.proofs.Back.{counted-some, counted-origin, counted_back}
+use Rattle.checker.specs.Walk.{pair_of}
+use Rattle.checker.specs.Ways.{listed}
+use Rattle.checker.specs.Trail.{pairs_at, Listings}
+use Rattle.checker.proofs.way.put_all.Given as goal
+
+pub record Putting (old queue starts : List ℕ) (last count : ℕ) (list : List ℕ) (place left : ℕ) : Type 0 where
+  pub inside : place ≤ last
+  pub size : length list ≡ length old
+  pub rest : ℕ
+  pub counted : Counted starts place rest
+  pub offset : left + 3 ≡ 3 * rest
+  pub places : List ℕ
+  pub up : Up starts place places last
+  pub sum : length places + rest ≡ count + 1
+  pub bytes : drop left list ≡ listed (pairs_at queue places) ++ drop (3 * count) old
+
+abbrev pub invariant-loop-place : goal.invariant-loop-place
+invariant-loop-place l = Putting l.initial.list l.queue l.starts l.end l.count l.list l.place l.left
+
+abbrev pub decreases-loop-place : goal.decreases-loop-place
+decreases-loop-place l = l.place
