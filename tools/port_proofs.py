@@ -75,12 +75,15 @@ def arguments(text):
 
 
 def plain(label):
-    return label.replace("-", "_")
+    return label.replace("-", "_").lower()
 
 
 class Names:
     def __init__(self, listed, parameters):
         self.parameters = parameters
+        self.callees = {plain(p[2][0]): p[3] for p in listed["places"] if p[3]}
+        self.own_requires = []
+        self.top = "crates"
         self.params = {p[2][0]: listed["params"].get(p[3], []) for p in listed["places"] if p[3]}
         self.params = {plain(k): v for k, v in self.params.items()}
         self.needs = listed["needs"]
@@ -137,17 +140,21 @@ def inlined(text):
     while True:
         m = ALIAS.search(text)
         if not m:
-            return text
-        rest = re.sub(r"(?<![\w'.-])" + re.escape(m.group(1)) + r"(?![\w'-])(?! :)", lambda _: m.group(2), text[m.end() :])
+            return text.replace("let\0 ", "let ")
+        name = re.escape(m.group(1))
+        if re.search(r"λ (?:\([^)]*?|[\w' ]*?)(?<![\w'.-])" + name + r"(?![\w'-])", text[m.end() :]):
+            text = text[: m.start()] + "let\0 " + text[m.start() + 4 :]           # bound again further in: it stays
+            continue
+        rest = re.sub(r"(?<![\w'.-])(?<!let )" + re.escape(m.group(1)) + r"(?![\w'-])(?! :)", lambda _: m.group(2), text[m.end() :])
         text = text[: m.start()] + rest
 
 
 PATH = re.compile(r"(?<![\w'.-])([a-zA-Z][\w'-]*)((?:\.[\w'₀₁₂-]+)+)")
 
 
-def turned(text, names, place, said):
-    """The paths of a text, in the new names."""
-    text = inlined(text)
+def turned(text, names, place, said, bare=""):
+    """The paths of a text, in the new names; a context that is handed on whole is followed by `bare`."""
+    text = "\n\n".join(inlined(part) for part in text.split("\n\n"))
     own = set(names.labels) | {"args", "ranges", "requires", "well_formed", "before", "match", "pre"}
 
     def path(m):
@@ -159,7 +166,7 @@ def turned(text, names, place, said):
             while "before" in kept:
                 kept.remove("before")
         if not kept:
-            return head
+            return head + bare
         label = plain(kept[0])
         if label not in names.labels and label not in own and label.rstrip("0123456789") in names.labels:
             label = label.rstrip("0123456789")
@@ -173,6 +180,15 @@ def turned(text, names, place, said):
                 kept[1:] = ["new", names.params[label][k - 2]] + kept[k + 1 :]
         kept = [p.replace("type-inv", "type_inv") for p in kept]
         kept[0] = label
+        if label == "requires" and names.own_requires:
+            found = by_label(kept[1:], names.own_requires)
+            if found:
+                kept = ["requires", found[0]] + found[1]
+        if len(kept) > 1 and kept[1] in ("ensures", "requires") and names.callees.get(label):
+            several = clauses_of(names.top, names.callees[label], kept[1])
+            found = by_label(kept[2:], several) if several else None
+            if found:
+                kept = [kept[0], kept[1], found[0]] + found[1]
         if label in ("args", "ranges", "requires", "well_formed"):
             return ".".join([head] + kept)
         for n in range(len(kept), 0, -1):
@@ -191,7 +207,7 @@ def turned(text, names, place, said):
 
     text = PATH.sub(path, text)
     text = text.replace("λ c κs. ", "λ c. ")
-    text = re.sub(r"not-(true|false) _ (c\.[\w.-]+)", r"\2", text)          # a test knows what is under its `!`
+    text = re.sub(r"not-(true|false) _ ([a-z]\.[\w.-]+)", r"\2", text)          # a test knows what is under its `!`
     text = re.sub(r"(?<![(\w])(c\.in_default\.in_default-own\.keys\d+)", r"(opened \1)", text)
 
     def context(m):
@@ -245,21 +261,66 @@ def parameters(folder, function):
     return near[0] if near else []
 
 
-def clauses(folder, function):
-    """The names of a function's `ensures`, where it has several."""
-    name = function.split(".")[-1]
-    for top, dirs, files in os.walk(os.path.join(folder, "src")):
+KNOWN = {}
+
+
+def clauses_of(top, path, kind):
+    """The names of the clauses of a function `crate::module::name`, where it has several; top is the folder of the crates."""
+    key = (path, kind)
+    if key in KNOWN:
+        return KNOWN[key]
+    parts = path.split("::")
+    crate, name, module = parts[0], parts[-1], parts[1] if len(parts) > 2 else "lib"
+    found = {}
+    folder = os.path.join(top, crate, "src")
+    for at, dirs, files in os.walk(folder):
         for file in sorted(files):
-            if file not in (function.split(".")[0] + ".rt", "lib.rt"):
-                continue
-            with open(os.path.join(top, file), encoding="utf-8") as f:
+            with open(os.path.join(at, file), encoding="utf-8") as f:
                 text = f.read()
-            for m in re.finditer(r"fn " + re.escape(name) + r"\s*\(", text):
+            for m in re.finditer(r"fn " + re.escape(name) + r"\s*(?:<[^>]*>)?\(", text):
                 rest = text[matching(text, m.end() - 1) :]
-                rest = rest[: rest.index("\n{\n") if "\n{\n" in rest else None]
                 rest = re.split(r"\n *\{\n", rest)[0]
-                return re.findall(r"^ *ensures (\w+) \{", rest, re.M)
-    return []
+                found[file] = re.findall(r"^ *" + kind + r" (\w+) \{", rest, re.M)
+    KNOWN[key] = found.get(module + ".rt") or next((v for v in found.values() if v), [])
+    return KNOWN[key]
+
+
+def by_label(digits, names):
+    """Right-nested digits as the name of a clause, and what is left of them."""
+    k = 0
+    while k < len(names) - 1 and digits and digits[0] == "1":
+        digits = digits[1:]
+        k += 1
+    if k < len(names) - 1:
+        if not digits or digits[0] != "0":
+            return None
+        digits = digits[1:]
+    return names[k], digits
+
+
+def split_top(inside):
+    parts, depth, last = [], 0, 0
+    for i, ch in enumerate(inside):
+        depth += ch in "({["
+        depth -= ch in ")}]"
+        if ch == "," and depth == 0:
+            parts.append(inside[last:i])
+            last = i + 1
+    parts.append(inside[last:])
+    return [p.strip() for p in parts if p.strip()]
+
+
+def wrapped(text, new, names):
+    """An answer that is a pair from elsewhere, as a record of the clauses."""
+    m = re.search(r"(?m)^" + re.escape(new) + r"((?: \S+)*) =\s", text)
+    if not m or re.search(r"=\s+\(?(search|omega|grind)\b", text[m.start() :]):
+        return text
+    body = text[m.end() :].strip("\n")
+    fields, path = [], ""
+    for k, n in enumerate(names):
+        fields.append(f"{n} = answer{path}.{'1' if k and k == len(names) - 1 and False else '0'}" if k < len(names) - 1 else f"{n} = answer{path[:-2] if path else ''}.1")
+        path += ".1"
+    return text[: m.end()] + "\n    let answer = " + body.strip() + " in\n    record { " + "; ".join(fields) + " }"
 
 
 def by_clause(text, names):
@@ -282,6 +343,8 @@ def by_clause(text, names):
                 last = i + 1
         parts.append(inside[last:])
         parts = [p.strip() for p in parts if p.strip()]
+        while len(parts) < len(names) and parts and parts[-1].startswith("(") and matching(parts[-1], 0) == len(parts[-1]) - 1:
+            parts = parts[:-1] + split_top(parts[-1][1:-1])
         if len(parts) == len(names):
             return text[:at] + "record { " + "; ".join(f"{n} = {p}" for n, p in zip(names, parts)) + " }" + text[end + 1 :]
     return text
@@ -312,7 +375,7 @@ def convert(path, crate, function, names, said):
     defined = {}
     for p in items:
         for l in p:
-            m = re.match(r"(?:abbrev |unfoldable )*(?:pub )?(\S+) :", l)
+            m = re.match(r"(?:abbrev |unfoldable )*(?:pub )?(?:record |data )?([^\s()]+)(?: :| \()", l)
             if m:
                 defined[m.group(1)] = p
                 break
@@ -331,10 +394,85 @@ def convert(path, crate, function, names, said):
             else:
                 inline.append((comment, new, None, arg, place))
     out_inv, out = [], []
-    ensured = clauses(os.path.join(*path.split("/proofs/")[:1]), function)
+    names.top = os.path.dirname(os.path.abspath(path.split("/proofs/")[0]))
+    me = "::".join([crate] + function.replace("+", "").split("."))
+    ensured = clauses_of(names.top, me, "ensures")
+    names.own_requires = clauses_of(names.top, me, "requires")
+    labels = {plain(p[2][1]): p[3] for p in names.places if p[3]}
+
+    def shaped(u, new):
+        if new.startswith("returns") and ensured:
+            v = by_clause(u, ensured)
+            return v if v != u else wrapped(u, new, ensured)
+        m = re.match(r"(.*)-requires(.*)$", new)
+        if m and plain(m.group(1)) in labels:
+            several = clauses_of(names.top, labels[plain(m.group(1))], "requires")
+            if several:
+                return by_clause(u, several)
+        return u
+
+    contexts = {n: p for n, p in defined.items() if re.search(r"\btie\.(?!Need-|invariant|decreases)[A-Z]", "\n".join(p)) and n not in new_names}
+    here = {n[1]: a[1] for n, a in zip(names.needs, names.asked_at)}
+    # helpers over the function's arguments alone take these
+    by_args = set()
+    for n, p in list(contexts.items()):
+        u = "\n".join(l for l in p if not l.startswith("--"))
+        if set(re.findall(r"\btie\.([A-Z][\w'-]*)", u)) == {"Start"} and not re.search(r"\.before\b", u):
+            by_args.add(n)
+    if by_args and by_args == set(contexts):
+        contexts = {}
+        bare = ".args"
+        items = [[re.sub(r"(?<![\w'.-])(\w+)\.args\b", r"\1", re.sub(r"tie\.Start(?: (?:invariant|decreases)-[\w-]+)*", "Args", l)) for l in p] if any(defined.get(n) is p for n in by_args) else p for p in items]
+        for n in by_args:
+            defined[n] = next(p for p in items if re.match(r"(?:abbrev |unfoldable )*(?:pub )?" + re.escape(n) + r" :", next(l for l in p if not l.startswith("--"))))
+        uses = uses + [f"use Rattle.{crate}.proofs.{function}.Lts.{{Args}}"]
+    else:
+        bare = ""
+
+    def with_copies(u, new, place):
+        """The helpers over a context that an answer uses, as copies over the answer's own."""
+        done, copies = set(), []
+
+        def visit(text):
+            for n in contexts:
+                if n not in done and re.search(r"(?<![\w'.-])" + re.escape(n) + r"(?![\w'-])", text):
+                    done.add(n)
+                    visit("\n".join(contexts[n]))
+                    copies.append(n)
+
+        visit(u)
+        texts = []
+        for n in [n for n in contexts if n in copies]:
+            c = "\n".join(l for l in contexts[n] if not l.startswith("--"))
+            c = re.sub(r"tie\.(?!Need-)[A-Z][\w'-]*((?: (?:invariant|decreases)-[\w-]+)*)", "goal." + here[new], c)
+            texts.append(c)
+        whole = "\n\n".join(texts + [u])
+        for n in copies:
+            whole = re.sub(r"(?<![\w'.-])" + re.escape(n) + r"(?![\w'-])", n + "-" + new, whole)
+        return whole
+
+    needed = set()
+
+    def want(text):
+        for n in defined:
+            if n not in needed and n not in new_names and not re.match(r"(invariant|decreases)-", n) and re.search(r"(?<![\w'.-])" + re.escape(n) + r"(?![\w'-])", text):
+                needed.add(n)
+                want("\n".join(defined[n]))
+
+    for n, p in defined.items():
+        if re.match(r"(invariant|decreases)-", n):
+            want("\n".join(p))
     for p in items:
         t = "\n".join(p)
         name = next((n for n in defined if defined[n] is p), None)
+        if name in contexts:
+            continue
+        if name in needed:
+            u = "\n".join(re.sub(r"^((?:abbrev |unfoldable )*)(?=(?:record |data )?" + re.escape(name) + r"(?: :| \())", r"\1pub ", l) for l in p)
+            if re.search(r"^pub record ", u, re.M):
+                u = re.sub(r"^  (?=[\w'-]+ :)", "  pub ", u, flags=re.M)
+            out_inv.append(turned(u, names, None, said))
+            continue
         if name and re.match(r"(invariant|decreases)-", name):
             done = invariant(name, t, names, said)
             if done is None:
@@ -346,8 +484,8 @@ def convert(path, crate, function, names, said):
                 u = re.sub(r"^(?:pub )?" + re.escape(name) + r" : tie\.Need-[^\n]*", f"pub {new} : goal.{new}", t, flags=re.M)
                 u = re.sub(r"^" + re.escape(name) + END, new, u, flags=re.M)
                 u = re.sub(r"^" + re.escape(new) + r" c κs ", new + " c ", u, flags=re.M)
-                u = turned(u, names, place, said)
-                out.append(by_clause(u, ensured) if ensured and new.startswith("returns") else u)
+                u = turned(with_copies(u, new, place), names, place, said, bare)
+                out.append(shaped(u, new))
         else:
             out.append(turned(t, names, None, said))
     for comment, new, bound, what, place in inline:
@@ -356,10 +494,13 @@ def convert(path, crate, function, names, said):
         if unfolding:
             lines.append(unfolding)
         lines.append(f"{new}{' ' + bound if bound else ''} = {what}")
-        u = turned("\n".join(lines), names, place, said)
-        out.append(by_clause(u, ensured) if ensured and new.startswith("returns") else u)
+        u = turned(with_copies("\n".join(lines), new, place), names, place, said, bare)
+        out.append(shaped(u, new))
     module = f"Rattle.{crate}.proofs.{function}"
-    answers = comments + uses + [f"use {module}.Goals as goal", ""] if out else []
+    if any("opened (" in u or "(opened " in u for u in out):
+        uses = uses + ["use borrow.Enum.Refused.{opened}"]
+    shared = [f"use {module}.Invariants.{{{', '.join(n for n in defined if n in needed)}}}"] if needed else []
+    answers = comments + uses + shared + [f"use {module}.Goals as goal", ""] if out else []
     folder = os.path.dirname(path)
     if out:
         with open(os.path.join(folder, "Answers.antt"), "w", encoding="utf-8") as f:
