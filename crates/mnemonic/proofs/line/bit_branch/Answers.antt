@@ -11,8 +11,7 @@ use Rattle.mnemonic.specs.Line.{line_of, text_of}
 use Rattle.mnemonic.specs.Spelling.{codes, digit}
 use Rattle.mnemonic.proofs.Cut.{kept}
 use borrow.Author.Rules.{rules}
-use Rattle.mnemonic.proofs.line.bit_branch.Statement.{statement}
-use Rattle.mnemonic.proofs.line.bit_branch.Tie as tie
+use Rattle.mnemonic.proofs.line.bit_branch.Goals as goal
 
 either : (t : Bool) (d : ℕ) → 0 < pick t (48 + d) (65 + (d - 10))
 either true d = omega arith
@@ -26,12 +25,9 @@ rest = 32 ∷ 0 ∷ 0 ∷ 0 ∷ 0 ∷ 0 ∷ 0 ∷ 0 ∷ 0 ∷ 0 ∷ 0 ∷ 0 ∷ 
 after : (n d : ℕ) → d ≡ digit (n % 16) → up_to (d ∷ rest) ≡ digit (n % 16) ∷ codes " "
 after n d e = ap (λ (d : ℕ). up_to (d ∷ rest)) e ∙ kept (digit (n % 16)) rest (either (ltb (n % 16) 10) (n % 16))
 
-address-requires : tie.Need-address-requires
-address-requires c κs = rw (after c.before.args.n c.digit.result c.digit.ensures) (omega arith)
+pub address-requires : goal.address-requires
+address-requires c = rw (after c.args.n c.digit-d.result c.digit-d.ensures) (omega arith)
 
-returns : tie.Need-returns
+pub returns : goal.returns
 unfolding line_of text_of
-returns c = rw (after c.before.before.args.n c.before.digit.result c.before.digit.ensures) at c.address.ensures
-
-pub bit-branch-spec : {M : Type 1} → statement M
-bit-branch-spec = tie.close (tie.spec (λ c κs. search rules) address-requires returns)
+returns c = rw (after c.args.n c.digit-d.result c.digit-d.ensures) at c.address.ensures

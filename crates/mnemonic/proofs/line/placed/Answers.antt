@@ -10,8 +10,8 @@ use Rattle.isa.specs.declared.Instruction.TheVariants as I
 use Rattle.isa.specs.contracts.Instruction.{the_type}
 use Rattle.mnemonic.specs.Placing.{placed_by, placed_at}
 use borrow.Author.Rules.{rules}
-use Rattle.mnemonic.proofs.line.placed.Statement.{statement}
-use Rattle.mnemonic.proofs.line.placed.Tie as tie
+use borrow.Enum.Refused.{opened}
+use Rattle.mnemonic.proofs.line.placed.Goals as goal
 
 -- the last arm's keys, places in the enum: all of its 60 but 36, a branch
 abbrev run : ℕ → ℕ → List ℕ
@@ -30,13 +30,10 @@ same moved ret h = refl
 same moved reti h = refl
 same moved ei h = refl
 
-returns : tie.Need-returns
+pub returns-in-Branch : goal.returns-in-Branch
 unfolding placed_at view
-returns c = sym (ap (placed_at c.before.before.before.before.args.moved) c.before.before.instruction.given.1)
+returns-in-Branch c = sym (ap (placed_at c.args.moved) c.in-Branch.is)
 
-returns-2 : tie.Need-returns-2
+pub returns-in_default : goal.returns-in_default
 unfolding placed_at
-returns-2 c = same c.before.args.moved (view c.before.args.instruction) c.match.keys2
-
-pub placed-spec : {M : Type 1} → statement M
-placed-spec = tie.close (tie.spec (λ c. search rules) (λ c. search rules) (λ c. search rules) returns returns-2)
+returns-in_default c = same c.args.moved (view c.args.instruction) (opened c.in_default.in_default-own.keys2)

@@ -1,0 +1,25 @@
+-- `mnemonic::letters::address` meets its contract: the digits by what `digit` promises, then the law for the branch. Assumes nothing.
+use Prim.Native.Nat.{ℕ}
+use mathlib.Core.Path.{◌≡◌, ap₂}
+use mathlib.Core.List.{List, [], ◌∷◌}
+use borrow.Author.Rules.{rules}
+use Rattle.mnemonic.specs.Held.{up_to}
+use Rattle.mnemonic.specs.Spelling.{hex_digits}
+use Rattle.mnemonic.proofs.Numbers.{bare, zeroed}
+use Rattle.mnemonic.proofs.letters.address.Goals as goal
+
+made-returns-then-a-lt65 : (c : goal.After-joined) → c.digit-a.result ∷ c.digit-b.result ∷ c.digit-c.result ∷ [] ≡ hex_digits 3 c.args.x
+made-returns-then-a-lt65 c = ap₂ (λ (a : ℕ) (s : List ℕ). a ∷ s) c.digit-a.ensures (ap₂ (λ (b c : ℕ). b ∷ c ∷ []) c.digit-b.ensures c.digit-c.ensures)
+
+pub returns-then-a-lt65 : goal.returns-then-a-lt65
+returns-then-a-lt65 c =
+    let front = up_to c.args.front in
+    bare front (made-returns-then-a-lt65 c) c.if-a-lt65.true c.joined.ensures
+
+made-returns : (c : goal.After-joined-2) → c.digit-a.result ∷ c.digit-b.result ∷ c.digit-c.result ∷ [] ≡ hex_digits 3 c.args.x
+made-returns c = ap₂ (λ (a : ℕ) (s : List ℕ). a ∷ s) c.digit-a.ensures (ap₂ (λ (b c : ℕ). b ∷ c ∷ []) c.digit-b.ensures c.digit-c.ensures)
+
+pub returns : goal.returns
+returns c =
+    let front = up_to c.args.front in
+    zeroed front (made-returns c) c.if-a-lt65.false c.joined-2.ensures
