@@ -4,20 +4,15 @@ use Rattle.isa.specs.Choice.{pick}
 use Rattle.cpu.specs.State.{with_held, with_tf}
 use Rattle.cpu.specs.Step.{entered}
 use Rattle.cpu.specs.declared.Cpu.{Cpu}
-use Rattle.cpu.proofs.Cpu.enter.Statement.{statement}
-use Rattle.cpu.proofs.Cpu.enter.Tie as tie
+use Rattle.cpu.proofs.Cpu.enter.Goals as goal
 
 -- what is not cleared is as it was
 cleared : (c : Cpu) (edge : Bool) → with_held (pick edge 0 c.interrupts.held) (with_tf (pick edge c.control.tf 0) c) ≡ pick edge (with_held 0 c) (with_tf 0 c)
 cleared c true = refl
 cleared c false = refl
 
-returns : tie.Need-returns
+pub returns : goal.returns
 unfolding entered
 returns c =
-    let a = c.before.before.before.before.before.before.before.before.before.args in
     c.tick.ensures
-    ∙ ap (entered a.vector) (ap₂ (λ (h t : ℕ). with_held h (with_tf t a.self)) c.before.before.before.before.chosen.ensures c.before.before.before.chosen2.ensures ∙ cleared a.self (eqb a.vector 8))
-
-pub enter_spec : {M : Type 1} → statement M
-enter_spec = tie.close (tie.spec (λ c κs. search rules) (λ c κs. search rules) (λ c κs. search rules) returns)
+    ∙ ap (entered c.args.vector) (ap₂ (λ (h t : ℕ). with_held h (with_tf t c.args.self)) c.chosen-held.ensures c.chosen-tf.ensures ∙ cleared c.args.self (eqb c.args.vector 8))

@@ -7,8 +7,7 @@ use Rattle.cpu.specs.Step.{entered, step, vector_of}
 use Rattle.cpu.specs.declared.Cpu.{Cpu}
 use Rattle.cpu.proofs.Steps.{takes-edge, takes-timer, runs}
 use Rattle.cpu.proofs.Strays.{interrupt-counts-none, instruction-counts, no-vector}
-use Rattle.cpu.proofs.Cpu.go_on.Statement.{statement}
-use Rattle.cpu.proofs.Cpu.go_on.Tie as tie
+use Rattle.cpu.proofs.Cpu.go_on.Goals as goal
 
 -- the interrupt of a vector, as the code takes it
 abbrev taking : ℕ → Cpu → Cpu
@@ -22,26 +21,12 @@ taken mask s n h f v z = go (eqb n 8) (eqb n 4) refl refl
     go false true e g = let w = eqb-true n 4 g in ap (λ (k : ℕ). on_cpu (taking k) s) w ∙ takes-timer mask s h f (sym v ∙ w)
     go false false e g = absurd (z (v ∙ no-vector s.cpu (λ w. eqb-false n 8 e (v ∙ w)) (λ w. eqb-false n 4 g (v ∙ w))))
 
-returns : tie.Need-returns
+pub returns-then-vector-ne0 : goal.returns-then-vector-ne0
+returns-then-vector-ne0 c =
+    let s = state c.args.self c.args.memory.now in
+    record { memory_after = ap (λ (k : Cpu). state k c.args.memory.now) c.enter.ensures ∙ taken c.args.mask.now s c.pending-vector.result c.requires.0 c.requires.1 c.pending-vector.ensures c.if-vector-ne0.true; gap_after = interrupt-counts-none c.args.mask.now s c.args.gap.now c.requires.0 c.requires.1 (λ z. c.if-vector-ne0.true (c.pending-vector.ensures ∙ z)) }
+
+pub returns : goal.returns
 returns c =
-    let start = c.before.before.before.before in
-    let a = start.args in
-    let s = state a.self a.memory.now in
-    let vector = c.before.before.pending in
-    let some = c.before.if1.true in (
-      ap (λ (k : Cpu). state k a.memory.now) c.enter.ensures ∙ taken a.mask.now s vector.result start.requires.0 start.requires.1 vector.ensures some,
-      interrupt-counts-none a.mask.now s a.gap.now start.requires.0 start.requires.1 (λ z. some (vector.ensures ∙ z)),
-    )
-
-returns-2 : tie.Need-returns-2
-returns-2 c =
-    let start = c.before.before.before.before.before.before in
-    let a = start.args in
-    let s = state a.self a.memory.now in
-    let none : vector_of a.self ≡ 0 = sym c.before.before.before.before.pending.ensures ∙ c.before.before.before.if1.false in (
-      c.execute.ensures.0 ∙ runs a.mask.now s start.requires.0 start.requires.1 (λ z. absurd (omega (arith, none, z))) (λ z. absurd (omega (arith, none, z))),
-      c.execute.ensures.1 ∙ instruction-counts a.mask.now s a.gap.now start.requires.0 start.requires.1 none,
-    )
-
-pub go-on-spec : {M : Type 1} → statement M
-go-on-spec = tie.close (tie.spec (λ c κs. search rules) (λ c κs. search rules) returns (λ c κs. search rules) returns-2)
+    let s = state c.args.self c.args.memory.now in
+    let none : vector_of c.args.self ≡ 0 = sym c.pending-vector.ensures ∙ c.if-vector-ne0.false in record { memory_after = c.execute.ensures.memory_after ∙ runs c.args.mask.now s c.requires.0 c.requires.1 (λ z. absurd (omega (arith, none, z))) (λ z. absurd (omega (arith, none, z))); gap_after = c.execute.ensures.gap_after ∙ instruction-counts c.args.mask.now s c.args.gap.now c.requires.0 c.requires.1 none }
