@@ -162,6 +162,9 @@ fn others_ok(c: Cpu) -> bool
 fn cpu_ok(c: Cpu) -> bool
     ensures { result ≡ cpu_ok c }
 {
+    // read, so that they are known to be in the range of their types
+    let _count = c.timer.count;
+    let _cycles = c.cycles;
     both(
         nibbles_ok(c),
         both(

@@ -1,0 +1,30 @@
+-- `machine::Machine::change` meets its contract: the refusal and the processor are the definitions'. Assumes nothing.
+use Prim.Native.Nat.{ℕ}
+use mathlib.Core.Path.{◌≡◌, refl}
+use mathlib.Core.Bool.{true}
+use mathlib.Core.List.{List}
+use Rattle.machine.specs.Events.{applied, happened, mask_ok, refusal_of}
+use Rattle.machine.specs.declared.events.Event.{Event}
+use Rattle.machine.specs.declared.events.Event.TheVariants.{Run, Pins, Int, Tmclk, Res}
+use Rattle.machine.proofs.Answers.{refused, done}
+use borrow.Author.Rules.{rules}
+use Rattle.machine.proofs.Machine.change.Goals as goal
+
+-- an event other than Run has no mask to test
+unmasked : (mask : List ℕ) (e : Event) → ((n : ℕ) → e ≡ Run n → ⊥) → mask_ok mask e ≡ true
+unfolding mask_ok
+unmasked mask (Run n) quiet = absurd (quiet n refl)
+unmasked mask (Pins pm ps pp) quiet = refl
+unmasked mask (Int level) quiet = refl
+unmasked mask (Tmclk n) quiet = refl
+unmasked mask Res quiet = refl
+
+pub returns-then-refusal-ne0 : goal.returns-then-refusal-ne0
+unfolding applied
+returns-then-refusal-ne0 c mask no_run no-res =
+    refused c.refusal-refusal.result {k = refusal_of mask c.args.event c.args.self} (happened mask c.args.event c.args.self) c.args.self c.if-refusal-ne0.true (c.refusal-refusal.ensures mask c.args.self.trace (unmasked mask c.args.event no_run))
+
+pub returns : goal.returns
+unfolding applied
+returns c mask no_run no-res =
+    done c.refusal-refusal.result {k = refusal_of mask c.args.event c.args.self} (happened mask c.args.event c.args.self) c.args.self c.if-refusal-ne0.false (c.refusal-refusal.ensures mask c.args.self.trace (unmasked mask c.args.event no_run)) (c.changed-next.ensures mask c.args.self.memory c.args.self.trace no_run no-res)

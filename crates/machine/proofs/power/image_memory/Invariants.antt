@@ -1,0 +1,15 @@
+use Prim.Native.Nat.{ℕ, ◌+◌, ◌-◌, ◌≤◌}
+use mathlib.Core.Path.{◌≡◌, refl, sym, ap, ◌∙◌}
+use mathlib.Core.List.{List}
+use native.Mathlib.Omega.{arith}
+use lib.ListN.{length, get_or, take, drop, length-set, length-drop, length-replicate}
+use lib.Seq.{get_or-drop}
+use Rattle.machine.proofs.Fill.{fill_more, fill-all}
+use Rattle.datapath.specs.Memory.{memory_size}
+use Rattle.machine.proofs.power.image_memory.Given as goal
+
+abbrev pub invariant-loop-i : goal.invariant-loop-i
+invariant-loop-i l = (l.i ≤ memory_size) × (length l.memory ≡ memory_size) × (take l.i l.memory ≡ take l.i (drop 6 l.image))
+
+abbrev pub decreases-loop-i : goal.decreases-loop-i
+decreases-loop-i l = memory_size - l.i

@@ -1,0 +1,11 @@
+-- `records::payload_at` meets its contract: past the end it is 0. Assumes nothing.
+use mathlib.Core.Path.{sym}
+use borrow.Author.Rules.{rules}
+use Rattle.records.proofs.Ends.{payload-past}
+use Rattle.records.proofs.payload_at.Goals as goal
+
+pub returns-then-s-at : goal.returns-then-s-at
+returns-then-s-at c = sym (payload-past c.args.s.now c.args.at c.if-s-at.true c.args.k)
+
+pub returns : goal.returns
+returns c = c.byte.ensures
