@@ -7,6 +7,7 @@
 //     read BYTES: dark | VALUE PLACES, and its text after a colon | refused N | refused 16 at digit K
 //     draw dark | VALUE PLACES on LENGTH: the answer's number, and the bytes afterwards
 #![tactic(auto)]
+
 mod text;
 
 use files::read_full;
