@@ -4,6 +4,7 @@
 // The marks are the first two, and each that is not the one two addresses before it. Addresses are hexadecimal, three digits.
 // The stored masks are in masks.bin, after a little-endian two-byte count.
 #![tactic(auto)]
+
 use checker::check::{MARKS, Verdict, check};
 use files::read_full;
 use rom::reader::MASK;
