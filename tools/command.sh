@@ -1,12 +1,12 @@
 # What ./panel, ./checkmask, ./readings and ./assemble share. Each sets `home`, `command`, `operands`, `help` and `statuses`.
 #
-# A program cannot set an exit status, takes a missing file as empty and does not see that a disk is full. So a command copies its
-# input into a folder of its own, runs the program there, judges what it printed, and then writes that to standard output.
+# A program's exit status tells a failed write alone, and a missing file counts as empty. So a command copies its input into a
+# folder of its own, runs the program there, judges what it printed, and then writes that to standard output.
 # Exit status: 0 done or passed, 1 refused or a fault named, 2 usage or input and output. It is 2 until the answer is out, so
 # that nothing unforeseen passes for an answer.
 set -eu
 unset CDPATH                    # cd would look there
-status=2 folder='' beside=''
+status=2 folder='' beside='' program=''
 brief=no names=()
 mask=4096 longest=65535         # bytes of a mask, and at most of a script or a text
 
@@ -88,13 +88,14 @@ begin() { # COUNT ARGUMENT..: options, and so many names, from 1 on for `+`
         if [ "$name" = - ]; then inputs=$((inputs + 1)); fi
     done
     [ $inputs -le 1 ] || usage_error 'standard input, -, can be read once'
-    [ -x "$home/target/bin/$command" ] || fail "target/bin/$command is missing; build it by: rt check $command"
+    program=crates/$command/out/$command
+    [ -x "$home/$program" ] || fail "$program is missing; build it by: rt run $command"
     why=$(LC_ALL=C mktemp -d -- "${TMPDIR:-/tmp}/ht1130.XXXXXXXX" 2>&1) || fail "no folder for temporary files: ${why##*: }"
     folder=$why
 }
 
-# In the next two a pipe tells who failed: the program or the reader by status 3, the writer of the copy by 4. Programs do not
-# see a write that fails; cat does.
+# In the next two a pipe tells who failed: the reader by status 3, the program by its own, the writer of the copy by 4. A program
+# whose pipe is broken has words too; why it broke cat says.
 
 fetch() { # NAME LIMIT FILE: a file, or standard input for -, where the program finds it; one byte over the limit is enough
     local why code=0
@@ -112,17 +113,17 @@ fetch() { # NAME LIMIT FILE: a file, or standard input for -, where the program 
 run() { # the program in its folder: all that it prints in the file `answer`, the first line in `first`
     local why code=0
     why=$(export LC_ALL=C; set -o pipefail
-        { (cd -- "$folder" && exec "$home/target/bin/$command") < /dev/null | { cat > "$folder/answer" || exit 4; }; } 2>&1) || code=$?
+        { (cd -- "$folder" && exec "$home/$program") < /dev/null | { cat > "$folder/answer" || exit 4; }; } 2>&1) || code=$?
     case $code in
         0) ;;
-        4) fail "no room for a temporary file: ${why##*: }" ;;
-        *) fail "target/bin/$command ended with status $code${why:+: ${why##*: }}" ;;
+        4) why=${why#*cat: } why=${why%%$'\n'*}; fail "no room for a temporary file: ${why##*: }" ;;
+        *) fail "$program ended with status $code${why:+: ${why##*: }}" ;;
     esac
     first=''
     IFS= read -r first < "$folder/answer" || :
 }
 
-unexpected() { fail "target/bin/$command printed what is no answer: $(shown "$first")"; }
+unexpected() { fail "$program printed what is no answer: $(shown "$first")"; }
 
 size() { wc -c < "$folder/$1"; }
 

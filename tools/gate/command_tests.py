@@ -3,7 +3,7 @@
 Every stored case of tests/ through its command; then exit status, words, options, names, links, full
 disks, folders and files that cannot be written, signals, and programs that fail. A test says what it
 found and what it expected; the exit status is then 1. What this machine cannot show is said and left out.
-Build the programs first: rt check panel checkmask readings assemble
+Build the programs first: rt run NAME, for panel, checkmask, readings and assemble.
 """
 
 import contextlib
@@ -45,6 +45,11 @@ def new_folder():
 
 def command(name):
     return ROOT / name
+
+
+def program_of(name):
+    """Where `rt run` leaves a program, below the top."""
+    return f'crates/{name}/out/{name}'
 
 
 def environment(temporary, **more):
@@ -516,20 +521,20 @@ def signals():
 def failing_programs():
     """A copy of the commands with no programs, then with programs that print what is no answer or end badly."""
     with filled_folder() as folder:
-        copy, bin_folder = folder / 'copy', folder / 'copy' / 'target' / 'bin'
+        copy = folder / 'copy'
         for name in (*USAGE, 'tools/command.sh', LIST.relative_to(ROOT)):
             (copy / name).parent.mkdir(parents=True, exist_ok=True)
             shutil.copy(ROOT / name, copy / name)
-        bin_folder.mkdir(parents=True)
         (folder / 'new').write_bytes(b'older')
         for name in USAGE:
-            program = bin_folder / name
+            program = copy / program_of(name)
+            program.parent.mkdir(parents=True)
             expect(f'{name}, no program', run([copy / name, *GOOD[name]], folder), 2, '',
-                   f'{name}: target/bin/{name} is missing; build it by: rt check {name}\n')
+                   f'{name}: {program_of(name)} is missing; build it by: rt run {name}\n')
             version = f'{name} of HT1130\ncommit unknown\nkit unknown\n'
             expect(f'{name} --version', run([copy / name, '--version'], folder, env=environment(folder, PATH='/usr/bin:/bin')), 0, version, '')
-            odd = f'{name}: target/bin/{name} printed what is no answer: '
-            ended = f'{name}: target/bin/{name} ended with status '
+            odd = f'{name}: {program_of(name)} printed what is no answer: '
+            ended = f'{name}: {program_of(name)} ended with status '
             for does, words in (('echo passed; echo passed; exit 3', ended + '3\n'), ('kill -SEGV $$', re.compile(ended + '139.*\n')),
                                 ('echo error', odd + 'error\n'), ('echo passed by', odd + 'passed by\n'), ('echo refused', odd + 'refused\n'),
                                 ('echo fault 4 at 000 level 0', odd + 'fault 4 at 000 level 0\n'),
@@ -537,11 +542,11 @@ def failing_programs():
                 program.write_text(f'#!/bin/bash\n{does}\n')
                 program.chmod(0o755)
                 expect(f'{name}, program {does!r}', run([copy / name, *GOOD[name]], folder), 2, '', words)
-        (bin_folder / 'assemble').write_text('#!/bin/bash\nhead -c 4095 /dev/zero > mask.bin\n')
+        (copy / program_of('assemble')).write_text('#!/bin/bash\nhead -c 4095 /dev/zero > mask.bin\n')
         expect('assemble, a mask too short', run([copy / 'assemble', 't', 'new'], folder), 2, '',
                'assemble: no room for a temporary file: the mask is not whole\n')
         (copy / LIST.relative_to(ROOT)).unlink()
-        (bin_folder / 'checkmask').write_text('#!/bin/bash\necho fault 1 at 000 level 0\n')
+        (copy / program_of('checkmask')).write_text('#!/bin/bash\necho fault 1 at 000 level 0\n')
         expect('checkmask, no list of words', run([copy / 'checkmask', 'm'], folder), 1, 'fault 1 at 000 level 0\n',
                'checkmask: m: 000 level 0: fault 1\n')
         (copy / 'tools' / 'command.sh').unlink()
@@ -558,8 +563,8 @@ def the_table():
 
 def main():
     for name in USAGE:
-        if not os.access(ROOT / 'target' / 'bin' / name, os.X_OK):
-            sys.exit(f'command_tests: target/bin/{name} is missing; build it by: rt check {" ".join(USAGE)}')
+        if not os.access(ROOT / program_of(name), os.X_OK):
+            sys.exit(f'command_tests: {program_of(name)} is missing; build it by: rt run {name}')
     stored_cases('panel', ['mask.bin', 'script.bin'])
     stored_cases('readings', ['mask.bin', 'script.bin'])
     stored_cases('checkmask', ['mask.bin'])

@@ -2,36 +2,38 @@
 // proved function of `assembler`; here files are read and written.
 #![tactic(auto)]
 use files::{read_file, write_file};
-use libc::STDOUT_FILENO;
 use rom::reader::MASK;
+use std::io;
+use std::io::Write;
+use std::rt::Files;
 
-fn put(s: &[u8]) {
-    io::write_all(STDOUT_FILENO, s);
+fn put<W: Write>(out: &mut W, s: &[u8]) -> io::Result<()> {
+    out.write_all(s)
 }
 
-fn put_refused(refusal: u8, line: u32) {
-    put(b"refused ");
-    io::print_decimal(STDOUT_FILENO, refusal as u64);
-    put(b" at line ");
-    io::print_decimal(STDOUT_FILENO, line as u64);
-    put(b"\n");
+fn put_refused<W: Write>(out: &mut W, refusal: u8, line: u32) -> io::Result<()> {
+    put(out, b"refused ")?;
+    write!(out, "{refusal}")?;
+    put(out, b" at line ")?;
+    write!(out, "{line}")?;
+    put(out, b"\n")
 }
 
-fn assemble(text: &[u8]) {
+fn assemble<F: Files, W: Write>(rt: &F, out: &mut W, text: &[u8]) -> io::Result<()> {
     let mut mask = [0u8; MASK];
     let answer = assembler::assemble::assemble(text, &mut mask);
     if answer.refusal != 0 {
-        put_refused(answer.refusal, answer.line);
-        return;
+        return put_refused(out, answer.refusal, answer.line);
     }
-    if write_file(b"mask.bin", &mask) != MASK {
-        put(b"mask.bin cannot be written\n");
+    if write_file(rt, "mask.bin", &mask) != MASK {
+        return put(out, b"mask.bin cannot be written\n");
     }
+    Ok(())
 }
 
 // One byte more than a text may have is read, so that a longer file is refused.
-fn main() {
+fn main(rt: HostRuntime) -> io::Result<()> {
     let mut text = [0u8; 65536];
-    let n = read_file(b"source.asm", &mut text);
-    assemble(&text[..n]);
+    let n = read_file(&rt, "source.asm", &mut text);
+    assemble(&rt, &mut io::writer(&rt), &text[..n])
 }

@@ -12,187 +12,189 @@ use checker::way::{Listing, way};
 use files::read_file;
 use isa::decoder::{Decoded, decode};
 use isa::{ADDRESSES, Instruction, PLACES};
-use libc::STDOUT_FILENO;
 use mnemonic::letters::digit;
 use mnemonic::line::{placed, text_of};
 use rom::reader::{MASK, code_at, moved_by};
+use std::io;
+use std::io::{BufWriter, Write};
 
 // A list with room for a way through every pair: three bytes each, an address in three levels.
 const WAY: usize = PLACES * 3 * 3;
 
-fn put(text: &[u8]) {
-    io::write_all(STDOUT_FILENO, text);
+fn put<W: Write>(out: &mut W, text: &[u8]) -> io::Result<()> {
+    out.write_all(text)
 }
 
-fn put_byte(x: u8) {
+fn put_byte<W: Write>(out: &mut W, x: u8) -> io::Result<()> {
     let text = [digit(x as u16 / 16), digit(x as u16)];
-    put(&text);
+    put(out, &text)
 }
 
-fn put_address(at: u16) {
+fn put_address<W: Write>(out: &mut W, at: u16) -> io::Result<()> {
     let text = [digit(at / 256), digit(at / 16), digit(at)];
-    put(&text);
+    put(out, &text)
 }
 
 // Padded to the longest word.
-fn put_level(level: u8) {
+fn put_level<W: Write>(out: &mut W, level: u8) -> io::Result<()> {
     match level {
-        0 => put(b" main       "),
-        1 => put(b" subroutine "),
-        _ => put(b" interrupt  "),
+        0 => put(out, b" main       "),
+        1 => put(out, b" subroutine "),
+        _ => put(out, b" interrupt  "),
     }
 }
 
 // As many bytes as the list of lengths has for the first one; one where it has none.
-fn put_bytes(first: u8, second: u8, length: u8) {
-    put_byte(first);
+fn put_bytes<W: Write>(out: &mut W, first: u8, second: u8, length: u8) -> io::Result<()> {
+    put_byte(out, first)?;
     if length == 2 {
-        put(b" ");
-        put_byte(second);
-        put(b" ");
+        put(out, b" ")?;
+        put_byte(out, second)?;
+        put(out, b" ")
     } else {
-        put(b"    ");
+        put(out, b"    ")
     }
 }
 
-fn put_instruction(instruction: Instruction) {
+fn put_instruction<W: Write>(out: &mut W, instruction: Instruction) -> io::Result<()> {
     let text = text_of(instruction);
     let bytes = text.bytes;
     let n = text.length;
-    put(&bytes[..n]);
+    put(out, &bytes[..n])
 }
 
 // A line of the way, for a pair's three bytes.
-fn put_pair(mask: &[u8], low: u8, high: u8, level: u8) {
+fn put_pair<W: Write>(out: &mut W, mask: &[u8], low: u8, high: u8, level: u8) -> io::Result<()> {
     let address = (low as u16 + high as u16 * 256) % ADDRESSES;
-    put_address(address);
-    put_level(level);
+    put_address(out, address)?;
+    put_level(out, level)?;
     let code = code_at(mask, address);
     let length = rom::timing::length(code.first);
-    put_bytes(code.first, code.second, length);
+    put_bytes(out, code.first, code.second, length)?;
     match decode(code.first, code.second) {
-        Decoded::Read(instruction) => put_instruction(placed(
+        Decoded::Read(instruction) => put_instruction(out, placed(
             instruction,
             moved_by(address, length),
-        )),
-        Decoded::Unreadable => put(b"cannot be read"),
+        ))?,
+        Decoded::Unreadable => put(out, b"cannot be read")?,
     }
-    put(b"\n");
+    put(out, b"\n")
 }
 
-fn put_pairs(mask: &[u8], list: &[u8; WAY], count: u16)
+fn put_pairs<W: Write>(out: &mut W, mask: &[u8], list: &[u8; WAY], count: u16) -> io::Result<()>
     requires { 3 * count ≤ 36864 }
 {
     let mut number: u16 = 0;
     while number < count {
         let at = number as usize * 3;
-        put_pair(mask, list[at], list[at + 1], list[at + 2]);
+        put_pair(out, mask, list[at], list[at + 1], list[at + 2])?;
         number += 1;
     }
+    Ok(())
 }
 
 // A mask that fails always has a way here.
-fn put_way(mask: &[u8]) {
+fn put_way<W: Write>(out: &mut W, mask: &[u8]) -> io::Result<()> {
     let mut list = [0u8; WAY];
     let listing = way(mask, &mut list);
     match listing {
-        Listing::Listed(count) => put_pairs(mask, &list, count),
-        _ => {}
+        Listing::Listed(count) => put_pairs(out, mask, &list, count),
+        _ => Ok(()),
     }
 }
 
 // " at ", a pair, and the end of its line or what follows.
-fn put_place(address: u16, level: u8, end: &[u8]) {
-    put(b" at ");
-    put_address(address);
-    put(b" level ");
-    io::print_decimal(STDOUT_FILENO, level as u64);
-    put(end);
+fn put_place<W: Write>(out: &mut W, address: u16, level: u8, end: &[u8]) -> io::Result<()> {
+    put(out, b" at ")?;
+    put_address(out, address)?;
+    put(out, b" level ")?;
+    write!(out, "{level}")?;
+    put(out, end)
 }
 
-fn put_failed(fault: u8, address: u16, level: u8) {
-    put(b"fault ");
-    io::print_decimal(STDOUT_FILENO, fault as u64);
-    put_place(address, level, b"\n");
+fn put_failed<W: Write>(out: &mut W, fault: u8, address: u16, level: u8) -> io::Result<()> {
+    put(out, b"fault ")?;
+    write!(out, "{fault}")?;
+    put_place(out, address, level, b"\n")
 }
 
 // Cycles, or what the list of bounds has in their place.
-fn put_cycles(cycles: u16) {
+fn put_cycles<W: Write>(out: &mut W, cycles: u16) -> io::Result<()> {
     match cycles {
-        0 => put(b"not reached"),
-        65535 => put(b"no bound"),
-        _ => {
-            io::print_decimal(STDOUT_FILENO, cycles as u64);
-        }
+        0 => put(out, b"not reached"),
+        65535 => put(out, b"no bound"),
+        _ => write!(out, "{cycles}"),
     }
 }
 
 // The bound of a pair above main.
-fn put_bound(list: &[u16], address: u16, level: u8) {
-    put(b"bound");
-    put_place(address, level, b": ");
-    put_cycles(entry_of(list, address, level));
-    put(b"\n");
+fn put_bound<W: Write>(out: &mut W, list: &[u16], address: u16, level: u8) -> io::Result<()> {
+    put(out, b"bound")?;
+    put_place(out, address, level, b": ")?;
+    put_cycles(out, entry_of(list, address, level))?;
+    put(out, b"\n")
 }
 
-fn put_targets(list: &[u16], targets: &[u8; PLACES]) {
+fn put_targets<W: Write>(out: &mut W, list: &[u16], targets: &[u8; PLACES]) -> io::Result<()> {
     let mut address: u16 = 0;
     while address < ADDRESSES {
         if targets[address as usize] == 1 {
-            put_bound(list, address, 1);
+            put_bound(out, list, address, 1)?;
         }
         address += 1;
     }
+    Ok(())
 }
 
 // The longest of all, and the first pair that has it.
-fn put_wait(list: &[u16])
+fn put_wait<W: Write>(out: &mut W, list: &[u16]) -> io::Result<()>
     requires { length list.now ≡ bounds_size }
 {
     let place = largest(list);
     let address = (place / 2) as u16;
     let level = (place % 2) as u8 + 1;
     let cycles = entry_of(list, address, level);
-    put(b"longest wait: ");
-    put_cycles(cycles);
+    put(out, b"longest wait: ")?;
+    put_cycles(out, cycles)?;
     if cycles == 0 {
-        put(b"\n");
-        return;
+        return put(out, b"\n");
     }
-    put_place(address, level, b"\n");
+    put_place(out, address, level, b"\n")
 }
 
 // How long an edge can be held under a mask that passes: from both vectors, from each CALL target, and the longest of all.
-fn put_bounds(mask: &[u8], marks: &[u8; MARKS]) {
+fn put_bounds<W: Write>(out: &mut W, mask: &[u8], marks: &[u8; MARKS]) -> io::Result<()> {
     let mut list = [0u16; BOUNDS];
     bounds_of(mask, &mut list); // not refused: the mask passed, and the list has its length
-    put_bound(&list, 4, 2);
-    put_bound(&list, 8, 2);
+    put_bound(out, &list, 4, 2)?;
+    put_bound(out, &list, 8, 2)?;
     let targets = call_targets(mask, marks);
-    put_targets(&list, &targets);
-    put_wait(&list);
+    put_targets(out, &list, &targets)?;
+    put_wait(out, &list)
 }
 
-fn checkmask(mask: &[u8]) {
+fn checkmask<W: Write>(out: &mut W, mask: &[u8]) -> io::Result<()> {
     let mut marks = [0u8; MARKS];
     let verdict = check(mask, &mut marks);
     match verdict {
         Verdict::Passed => {
-            put(b"passed\n");
-            put_bounds(mask, &marks);
+            put(out, b"passed\n")?;
+            put_bounds(out, mask, &marks)
         }
         Verdict::Failed(fault, address, level) => {
-            put_failed(fault, address, level);
-            put_way(mask);
+            put_failed(out, fault, address, level)?;
+            put_way(out, mask)
         }
-        Verdict::BadMask => put(b"refused 1\n"),
-        Verdict::BadMarks => put(b"refused 2\n"),
+        Verdict::BadMask => put(out, b"refused 1\n"),
+        Verdict::BadMarks => put(out, b"refused 2\n"),
     }
 }
 
 // One byte more than a mask has is read, so that a longer file is refused.
-fn main() {
+fn main(rt: HostRuntime) -> io::Result<()> {
     let mut mask = [0u8; MASK + 1];
-    let n = read_file(b"mask.bin", &mut mask);
-    checkmask(&mask[..n]);
+    let n = read_file(&rt, "mask.bin", &mut mask);
+    let mut out = BufWriter::new(rt.alloc(), io::writer(&rt))?;
+    checkmask(&mut out, &mask[..n])?;
+    out.flush()
 }

@@ -7,25 +7,30 @@
 //     read BYTES: dark | VALUE PLACES, and its text after a colon | refused N | refused 16 at digit K
 //     draw dark | VALUE PLACES on LENGTH: the answer's number, and the bytes afterwards
 #![tactic(auto)]
+
 mod text;
 
+use files::read_full;
 use glass::Reading;
 use glass::draw::draw;
 use glass::read::read;
+use std::fs::File;
+use std::io;
+use std::io::{BufReader, BufWriter, Read, Write};
 use text::{put, put_bytes, put_number, put_reading, put_seen};
 
 // What a picture holds before a reading is drawn on it: no nibble.
 const KEPT: u8 = 255;
 
-fn byte(fd: i32) -> u8 {
+fn byte<R: Read>(file: &mut R) -> u8 {
     let mut one = [0u8; 1];
-    io::read_full(fd, &mut one);
+    read_full(file, &mut one);
     one[0]
 }
 
-fn word(fd: i32) -> u16 {
-    let low = byte(fd);
-    let high = byte(fd);
+fn word<R: Read>(file: &mut R) -> u16 {
+    let low = byte(file);
+    let high = byte(file);
     low as u16 + high as u16 * 256
 }
 
@@ -44,69 +49,70 @@ fn value(sort: u8, size: u16) -> i32 {
     }
 }
 
-fn reading(fd: i32) -> Reading {
-    let sort = byte(fd);
-    let size = word(fd);
-    let places = byte(fd);
+fn reading<R: Read>(file: &mut R) -> Reading {
+    let sort = byte(file);
+    let size = word(file);
+    let places = byte(file);
     if sort == 0 {
         return Reading::Dark;
     }
     Reading::Number(value(sort, size), places)
 }
 
-fn put_read(picture: &[u8]) {
-    put(b"read ");
-    put_bytes(picture);
-    put(b": ");
-    put_seen(read(picture));
+fn put_read<W: Write>(out: &mut W, picture: &[u8]) -> io::Result<()> {
+    put(out, b"read ")?;
+    put_bytes(out, picture)?;
+    put(out, b": ")?;
+    put_seen(out, read(picture))
 }
 
-fn put_draw(reading: Reading, picture: &mut [u8]) {
-    put(b"draw ");
-    put_reading(reading);
-    put_number(b" on ", picture.len() as u64);
-    put_number(b": ", draw(reading, picture) as u64);
-    put(b" ");
-    put_bytes(picture);
+fn put_draw<W: Write>(out: &mut W, reading: Reading, picture: &mut [u8]) -> io::Result<()> {
+    put(out, b"draw ")?;
+    put_reading(out, reading)?;
+    put_number(out, b" on ", picture.len() as u64)?;
+    put_number(out, b": ", draw(reading, picture) as u64)?;
+    put(out, b" ")?;
+    put_bytes(out, picture)
 }
 
-fn picture_case(fd: i32, length: u8) {
+fn picture_case<R: Read, W: Write>(file: &mut R, out: &mut W, length: u8) -> io::Result<()> {
     let mut picture = [0u8; 9];
-    io::read_full(fd, &mut picture);
-    let n = io::count(length as isize, &picture);
-    put_read(&picture[..n]);
+    read_full(file, &mut picture);
+    let n = (length as usize).min(9);
+    put_read(out, &picture[..n])
 }
 
-fn reading_case(fd: i32, length: u8) {
-    let reading = reading(fd);
+fn reading_case<R: Read, W: Write>(file: &mut R, out: &mut W, length: u8) -> io::Result<()> {
+    let reading = reading(file);
     let mut picture = [KEPT; 9];
-    let n = io::count(length as isize, &picture);
-    put_draw(reading, &mut picture[..n]);
+    let n = (length as usize).min(9);
+    put_draw(out, reading, &mut picture[..n])
 }
 
-fn case(fd: i32) {
-    let kind = byte(fd);
-    let length = byte(fd);
+fn case<R: Read, W: Write>(file: &mut R, out: &mut W) -> io::Result<()> {
+    let kind = byte(file);
+    let length = byte(file);
     match kind {
-        0 => picture_case(fd, length),
-        _ => reading_case(fd, length),
+        0 => picture_case(file, out, length)?,
+        _ => reading_case(file, out, length)?,
     }
-    put(b"\n");
+    put(out, b"\n")
 }
 
-fn cases(fd: i32) {
-    let mut left = word(fd);
+fn cases<R: Read, W: Write>(file: &mut R, out: &mut W) -> io::Result<()> {
+    let mut left = word(file);
     while 0 < left {
-        case(fd);
+        case(file, out)?;
         left -= 1;
     }
+    Ok(())
 }
 
-fn main() {
-    let fd = os::open_read(b"cases.bin");
-    if fd < 0 {
-        put(b"no cases.bin\n");
-        return;
+fn main(rt: HostRuntime) -> io::Result<()> {
+    let mut out = BufWriter::new(rt.alloc(), io::writer(&rt))?;
+    match File::open(&rt, "cases.bin") {
+        Ok(file) => cases(&mut BufReader::new(rt.alloc(), file)?, &mut out)?,
+        Err(_) => put(&mut out, b"no cases.bin\n")?,
     }
-    cases(fd);
+    out.flush()
 }

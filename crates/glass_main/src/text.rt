@@ -2,65 +2,66 @@
 use glass::signed::{negative, size};
 use glass::text::text;
 use glass::{Reading, Seen};
-use libc::STDOUT_FILENO;
+use std::io;
+use std::io::Write;
 
-pub fn put(text: &[u8]) {
-    io::write_all(STDOUT_FILENO, text);
+pub fn put<W: Write>(out: &mut W, text: &[u8]) -> io::Result<()> {
+    out.write_all(text)
 }
 
-pub fn put_number(front: &[u8], x: u64) {
-    put(front);
-    io::print_decimal(STDOUT_FILENO, x);
+pub fn put_number<W: Write>(out: &mut W, front: &[u8], x: u64) -> io::Result<()> {
+    put(out, front)?;
+    write!(out, "{x}")
 }
 
-fn put_byte(x: u8) {
-    io::print_hex(STDOUT_FILENO, x as u64, 2);
+fn put_byte<W: Write>(out: &mut W, x: u8) -> io::Result<()> {
+    write!(out, "{x:02x}")
 }
 
-pub fn put_bytes(bytes: &[u8]) {
-    let mut i = 0;
-    while i < bytes.len() {
-        put_byte(bytes[i]);
-        i += 1;
+pub fn put_bytes<W: Write>(out: &mut W, bytes: &[u8]) -> io::Result<()> {
+    for byte in bytes {
+        put_byte(out, *byte)?;
     }
+    Ok(())
 }
 
 // The characters of a text, the lowest byte first.
-fn put_text(text: u64) {
+fn put_text<W: Write>(out: &mut W, text: u64) -> io::Result<()> {
     let mut rest = text;
     while rest != 0 {
         let character = [(rest % 256) as u8];
-        put(&character);
+        put(out, &character)?;
         rest /= 256;
     }
+    Ok(())
 }
 
-fn put_value(value: i32) {
+fn put_value<W: Write>(out: &mut W, value: i32) -> io::Result<()> {
     if negative(value) {
-        put(b"-");
+        put(out, b"-")?;
     }
-    io::print_decimal(STDOUT_FILENO, size(value) as u64);
+    put_number(out, b"", size(value) as u64)
 }
 
-pub fn put_reading(reading: Reading) {
+pub fn put_reading<W: Write>(out: &mut W, reading: Reading) -> io::Result<()> {
     match reading {
-        Reading::Dark => put(b"dark"),
+        Reading::Dark => put(out, b"dark"),
         Reading::Number(value, places) => {
-            put_value(value);
-            put_number(b" ", places as u64);
+            put_value(out, value)?;
+            put_number(out, b" ", places as u64)
         }
     }
 }
 
-pub fn put_seen(seen: Seen) {
+pub fn put_seen<W: Write>(out: &mut W, seen: Seen) -> io::Result<()> {
     match seen {
         Seen::Shown(reading) => {
-            put_reading(reading);
-            put(b": ");
-            put_text(text(reading));
+            put_reading(out, reading)?;
+            put(out, b": ")?;
+            put_text(out, text(reading))
         }
-        Seen::BadLength => put(b"refused 2"),
-        Seen::BadNibble => put(b"refused 3"),
-        Seen::Unreadable(digit) => put_number(b"refused 16 at digit ", digit as u64),
+        Seen::BadLength => put(out, b"refused 2"),
+        Seen::BadNibble => put(out, b"refused 3"),
+        Seen::Unreadable(digit) => put_number(out, b"refused 16 at digit ", digit as u64),
     }
 }

@@ -9,63 +9,71 @@ use isa::Instruction;
 use isa::decoder::Decoded;
 use mnemonic::line::{placed, text_of};
 use rom::encoder::Written;
+use std::io;
+use std::io::{BufWriter, Write};
 use text::{put, put_byte, put_digit};
 
 // An instruction as document 001 writes it.
-fn put_instruction(instruction: Instruction) {
+fn put_instruction<W: Write>(out: &mut W, instruction: Instruction) -> io::Result<()> {
     let text = text_of(instruction);
     let bytes = text.bytes;
     let n = text.length;
-    put(&bytes[..n]);
+    put(out, &bytes[..n])
 }
 
 // What the encoder makes of an instruction.
-fn put_written(written: Written) {
+fn put_written<W: Write>(out: &mut W, written: Written) -> io::Result<()> {
     match written {
-        Written::One(a) => put_byte(a),
+        Written::One(a) => put_byte(out, a),
         Written::Two(a, b) => {
-            put_byte(a);
-            put(b" ");
-            put_byte(b);
+            put_byte(out, a)?;
+            put(out, b" ")?;
+            put_byte(out, b)
         }
-        Written::Refused => put(b"refused"),
+        Written::Refused => put(out, b"refused"),
     }
 }
 
-fn put_timing(first: u8) {
-    put(b" ");
-    put_digit(rom::timing::length(first));
-    put(b" ");
-    put_digit(rom::timing::cycles(first));
-    put(b" ");
+fn put_timing<W: Write>(out: &mut W, first: u8) -> io::Result<()> {
+    put(out, b" ")?;
+    put_digit(out, rom::timing::length(first))?;
+    put(out, b" ")?;
+    put_digit(out, rom::timing::cycles(first))?;
+    put(out, b" ")
 }
 
-fn put_line(first: u8, second: u8) {
-    put_byte(first);
-    put(b" ");
-    put_byte(second);
-    put(b" ");
+fn put_line<W: Write>(out: &mut W, first: u8, second: u8) -> io::Result<()> {
+    put_byte(out, first)?;
+    put(out, b" ")?;
+    put_byte(out, second)?;
+    put(out, b" ")?;
     match isa::decoder::decode(first, second) {
         Decoded::Read(instruction) => {
-            put_instruction(placed(instruction, 16 * (second as u16)));
-            put_timing(first);
-            put_written(rom::encoder::encode(instruction));
+            put_instruction(out, placed(instruction, 16 * (second as u16)))?;
+            put_timing(out, first)?;
+            put_written(out, rom::encoder::encode(instruction))?;
         }
         Decoded::Unreadable => {
-            put(b"unreadable");
-            put_timing(first);
-            put(b"-");
+            put(out, b"unreadable")?;
+            put_timing(out, first)?;
+            put(out, b"-")?;
         }
     }
-    put(b"\n");
+    put(out, b"\n")
 }
 
-fn main() {
+fn put_lines<W: Write>(out: &mut W, first: u8) -> io::Result<()> {
+    put_line(out, first, 0x00)?;
+    put_line(out, first, 0x0f)?;
+    put_line(out, first, 0x10)?;
+    put_line(out, first, 0x3e)?;
+    put_line(out, first, 0xff)
+}
+
+fn main(rt: HostRuntime) -> io::Result<()> {
+    let mut out = BufWriter::new(rt.alloc(), io::writer(&rt))?;
     for first in 0..=255u8 {
-        put_line(first, 0x00);
-        put_line(first, 0x0f);
-        put_line(first, 0x10);
-        put_line(first, 0x3e);
-        put_line(first, 0xff);
+        put_lines(&mut out, first)?;
     }
+    out.flush()
 }

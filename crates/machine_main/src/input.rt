@@ -1,115 +1,117 @@
 // Numbers of a file, little-endian, and a processor field by field. Past the end of the file all is 0.
 use cpu::{Control, Cpu, Interrupts, Options, Outputs, Pins, Registers, Stack, Status, Timer};
+use files::read_full;
 use isa::ProgramAddress;
+use std::io::Read;
 
-pub fn byte(fd: i32) -> u8 {
+pub fn byte<R: Read>(file: &mut R) -> u8 {
     let mut one = [0u8; 1];
-    io::read_full(fd, &mut one);
+    read_full(file, &mut one);
     one[0]
 }
 
-pub fn word(fd: i32) -> u16 {
-    let low = byte(fd);
-    let high = byte(fd);
+pub fn word<R: Read>(file: &mut R) -> u16 {
+    let low = byte(file);
+    let high = byte(file);
     low as u16 + high as u16 * 256
 }
 
-fn long(fd: i32) -> u32 {
-    let low = word(fd);
-    let high = word(fd);
+fn long<R: Read>(file: &mut R) -> u32 {
+    let low = word(file);
+    let high = word(file);
     low as u32 + high as u32 * 65536
 }
 
-fn address(fd: i32) -> ProgramAddress {
-    ProgramAddress(word(fd))
+fn address<R: Read>(file: &mut R) -> ProgramAddress {
+    ProgramAddress(word(file))
 }
 
-fn registers(fd: i32) -> Registers {
+fn registers<R: Read>(file: &mut R) -> Registers {
     Registers {
-        acc: byte(fd),
-        r0: byte(fd),
-        r1: byte(fd),
-        r2: byte(fd),
-        r3: byte(fd),
-        r4: byte(fd),
+        acc: byte(file),
+        r0: byte(file),
+        r1: byte(file),
+        r2: byte(file),
+        r3: byte(file),
+        r4: byte(file),
     }
 }
 
-fn control(fd: i32) -> Control {
+fn control<R: Read>(file: &mut R) -> Control {
     Control {
-        pc: address(fd),
-        cf: byte(fd),
-        tf: byte(fd),
+        pc: address(file),
+        cf: byte(file),
+        tf: byte(file),
     }
 }
 
-fn timer(fd: i32) -> Timer {
+fn timer<R: Read>(file: &mut R) -> Timer {
     Timer {
-        count: byte(fd),
-        running: byte(fd),
+        count: byte(file),
+        running: byte(file),
     }
 }
 
-fn interrupts(fd: i32) -> Interrupts {
+fn interrupts<R: Read>(file: &mut R) -> Interrupts {
     Interrupts {
-        enabled: byte(fd),
-        held: byte(fd),
-        level: byte(fd),
+        enabled: byte(file),
+        held: byte(file),
+        level: byte(file),
     }
 }
 
-fn stack(fd: i32) -> Stack {
+fn stack<R: Read>(file: &mut R) -> Stack {
     Stack {
-        address: address(fd),
-        carry: byte(fd),
+        address: address(file),
+        carry: byte(file),
     }
 }
 
-fn status(fd: i32) -> Status {
+fn status<R: Read>(file: &mut R) -> Status {
     Status {
-        halted: byte(fd),
-        fault: byte(fd),
+        halted: byte(file),
+        fault: byte(file),
     }
 }
 
-fn outputs(fd: i32) -> Outputs {
+fn outputs<R: Read>(file: &mut R) -> Outputs {
     Outputs {
-        pa: byte(fd),
-        channel: byte(fd),
-        mode: byte(fd),
+        pa: byte(file),
+        channel: byte(file),
+        mode: byte(file),
     }
 }
 
-fn pins(fd: i32) -> Pins {
+fn pins<R: Read>(file: &mut R) -> Pins {
     Pins {
-        pm: byte(fd),
-        ps: byte(fd),
-        pp: byte(fd),
-        int: byte(fd),
+        pm: byte(file),
+        ps: byte(file),
+        pp: byte(file),
+        int: byte(file),
     }
 }
 
-pub fn options(fd: i32) -> Options {
+pub fn options<R: Read>(file: &mut R) -> Options {
     Options {
-        rate: byte(fd),
-        commons: byte(fd),
-        pm: byte(fd),
-        ps: byte(fd),
-        pp: byte(fd),
+        rate: byte(file),
+        commons: byte(file),
+        pm: byte(file),
+        ps: byte(file),
+        pp: byte(file),
     }
 }
 
-pub fn cpu(fd: i32) -> Cpu {
+pub fn cpu<R: Read>(file: &mut R) -> Cpu {
     Cpu {
-        registers: registers(fd),
-        control: control(fd),
-        timer: timer(fd),
-        interrupts: interrupts(fd),
-        stack: stack(fd),
-        status: status(fd),
-        outputs: outputs(fd),
-        pins: pins(fd),
-        options: options(fd),
-        cycles: long(fd),
+        registers: registers(file),
+        control: control(file),
+        timer: timer(file),
+        interrupts: interrupts(file),
+        stack: stack(file),
+        status: status(file),
+        outputs: outputs(file),
+        pins: pins(file),
+        options: options(file),
+        cycles: long(file),
     }
 }

@@ -12,123 +12,139 @@ mod input;
 mod text;
 
 use datapath::memory::MEMORY;
+use files::read_full;
 use input::{byte, options, word};
 use machine::events::Event;
 use machine::{Answer, Machine};
 use rom::reader::MASK;
+use std::fs::File;
+use std::io;
+use std::io::{BufReader, BufWriter, Read, Write};
 use text::{put, put_answer, put_count};
 
 // The image has room for a longer one than a whole one.
-fn power_on(fd: i32, machine: Machine) -> Answer {
-    let length = byte(fd);
-    let options = options(fd);
+fn power_on<R: Read>(file: &mut R, machine: Machine) -> Answer {
+    let length = byte(file);
+    let options = options(file);
     let mut image = [0u8; 168];
-    io::read_full(fd, &mut image);
-    let n = io::count(length as isize, &image);
+    read_full(file, &mut image);
+    let n = (length as usize).min(168);
     machine.power_on(options, &image[..n])
 }
 
 // A mask that is too long is one of zeros.
-fn run(fd: i32, machine: Machine, mask: &[u8]) -> Answer {
-    let steps = word(fd);
-    let length = word(fd);
+fn run<R: Read>(file: &mut R, machine: Machine, mask: &[u8]) -> Answer {
+    let steps = word(file);
+    let length = word(file);
     if MASK < length as usize {
         let long = [0u8; MASK + 1];
         return machine.apply(Event::Run(steps), &long);
     }
-    let n = io::count(length as isize, mask);
+    let n = (length as usize).min(mask.len());
     machine.apply(Event::Run(steps), &mask[..n])
 }
 
-fn pins(fd: i32, machine: Machine, mask: &[u8]) -> Answer {
-    let pm = byte(fd);
-    let ps = byte(fd);
-    let pp = byte(fd);
+fn pins<R: Read>(file: &mut R, machine: Machine, mask: &[u8]) -> Answer {
+    let pm = byte(file);
+    let ps = byte(file);
+    let pp = byte(file);
     machine.apply(Event::Pins(pm, ps, pp), mask)
 }
 
-fn set_cpu(fd: i32, mut machine: Machine) -> Machine {
-    let cpu = input::cpu(fd);
+fn set_cpu<R: Read>(file: &mut R, mut machine: Machine) -> Machine {
+    let cpu = input::cpu(file);
     machine.cpu = cpu;
     machine
 }
 
-fn set_nibble(fd: i32, mut machine: Machine) -> Machine {
-    let index = byte(fd) as usize;
-    let value = byte(fd);
+fn set_nibble<R: Read>(file: &mut R, mut machine: Machine) -> Machine {
+    let index = byte(file) as usize;
+    let value = byte(file);
     if index < MEMORY {
         machine.memory[index] = value;
     }
     machine
 }
 
-fn set_gap(fd: i32, mut machine: Machine) -> Machine {
-    let gap = word(fd);
+fn set_gap<R: Read>(file: &mut R, mut machine: Machine) -> Machine {
+    let gap = word(file);
     machine.trace.gap = gap;
     machine
 }
 
-fn query(machine: Machine) -> Machine {
-    put_count(machine.gap_count());
-    machine
+fn query<W: Write>(out: &mut W, machine: Machine) -> io::Result<Machine> {
+    put_count(out, machine.gap_count())?;
+    Ok(machine)
 }
 
-fn answer(kind: u8, fd: i32, machine: Machine, mask: &[u8]) -> Answer {
+fn answer<R: Read>(kind: u8, file: &mut R, machine: Machine, mask: &[u8]) -> Answer {
     match kind {
-        1 => power_on(fd, machine),
-        2 => run(fd, machine, mask),
-        3 => pins(fd, machine, mask),
-        4 => machine.apply(Event::Int(byte(fd)), mask),
-        5 => machine.apply(Event::Tmclk(word(fd)), mask),
+        1 => power_on(file, machine),
+        2 => run(file, machine, mask),
+        3 => pins(file, machine, mask),
+        4 => machine.apply(Event::Int(byte(file)), mask),
+        5 => machine.apply(Event::Tmclk(word(file)), mask),
         6 => machine.apply(Event::Res, mask),
         _ => machine.step(mask),
     }
 }
 
-fn command(fd: i32, machine: Machine, mask: &[u8]) -> Machine {
-    let kind = byte(fd);
+fn command<R: Read, W: Write>(
+    file: &mut R,
+    out: &mut W,
+    machine: Machine,
+    mask: &[u8],
+) -> io::Result<Machine> {
+    let kind = byte(file);
     match kind {
-        8 => set_cpu(fd, machine),
-        9 => set_nibble(fd, machine),
-        10 => set_gap(fd, machine),
-        11 => query(machine),
+        8 => Ok(set_cpu(file, machine)),
+        9 => Ok(set_nibble(file, machine)),
+        10 => Ok(set_gap(file, machine)),
+        11 => query(out, machine),
         _ => {
-            let a = answer(kind, fd, machine, mask);
-            put_answer(a);
-            a.machine
+            let a = answer(kind, file, machine, mask);
+            put_answer(out, a)?;
+            Ok(a.machine)
         }
     }
 }
 
-fn commands(fd: i32, count: u16, mask: &[u8]) {
+fn commands<R: Read, W: Write>(
+    file: &mut R,
+    out: &mut W,
+    count: u16,
+    mask: &[u8],
+) -> io::Result<()> {
     let mut machine = Machine::blank();
     let mut left = count;
     while 0 < left {
-        machine = command(fd, machine, mask);
+        machine = command(file, out, machine, mask)?;
         left -= 1;
     }
+    Ok(())
 }
 
-fn case(fd: i32) {
-    let mut mask = io::buffer();
-    io::read_full(fd, &mut mask);
-    let count = word(fd);
-    commands(fd, count, &mask);
+fn case<R: Read, W: Write>(file: &mut R, out: &mut W) -> io::Result<()> {
+    let mut mask = [0u8; MASK];
+    read_full(file, &mut mask);
+    let count = word(file);
+    commands(file, out, count, &mask)
 }
 
-fn cases(fd: i32) {
-    let mut left = word(fd);
+fn cases<R: Read, W: Write>(file: &mut R, out: &mut W) -> io::Result<()> {
+    let mut left = word(file);
     while 0 < left {
-        case(fd);
+        case(file, out)?;
         left -= 1;
     }
+    Ok(())
 }
 
-fn main() {
-    let fd = os::open_read(b"vectors.bin");
-    if fd < 0 {
-        put(b"no vectors.bin\n");
-        return;
+fn main(rt: HostRuntime) -> io::Result<()> {
+    let mut out = BufWriter::new(rt.alloc(), io::writer(&rt))?;
+    match File::open(&rt, "vectors.bin") {
+        Ok(file) => cases(&mut BufReader::new(rt.alloc(), file)?, &mut out)?,
+        Err(_) => put(&mut out, b"no vectors.bin\n")?,
     }
-    cases(fd);
+    out.flush()
 }

@@ -8,9 +8,11 @@ use cpu::{Control, Cpu, Interrupts, Options, Outputs, Pins, Registers, Stack, St
 use datapath::memory::MEMORY;
 use machine::Answer;
 use machine::gap::GapCount;
+use std::io;
+use std::io::Write;
 
-pub fn put(text: &[u8]) {
-    io::write_all(libc::STDOUT_FILENO, text);
+pub fn put<W: Write>(out: &mut W, text: &[u8]) -> io::Result<()> {
+    out.write_all(text)
 }
 
 // The last digit of a number.
@@ -19,124 +21,123 @@ fn digit(x: u8) -> u8 {
     if d < 10 { b'0' + d } else { b'A' + (d - 10) }
 }
 
-fn put_byte(x: u8) {
+fn put_byte<W: Write>(out: &mut W, x: u8) -> io::Result<()> {
     let text = [digit(x / 16), digit(x)];
-    put(&text);
+    put(out, &text)
 }
 
-fn put_word(x: u16) {
-    put_byte((x / 256) as u8);
-    put_byte((x % 256) as u8);
+fn put_word<W: Write>(out: &mut W, x: u16) -> io::Result<()> {
+    put_byte(out, (x / 256) as u8)?;
+    put_byte(out, (x % 256) as u8)
 }
 
-fn put_long(x: u32) {
-    put_word((x / 65536) as u16);
-    put_word((x % 65536) as u16);
+fn put_long<W: Write>(out: &mut W, x: u32) -> io::Result<()> {
+    put_word(out, (x / 65536) as u16)?;
+    put_word(out, (x % 65536) as u16)
 }
 
 // A number that is to be a nibble.
-fn put_small(x: u8) {
+fn put_small<W: Write>(out: &mut W, x: u8) -> io::Result<()> {
     if 15 < x {
-        put(b"(");
-        put_byte(x);
-        put(b")");
-        return;
+        put(out, b"(")?;
+        put_byte(out, x)?;
+        return put(out, b")");
     }
     let text = [digit(x)];
-    put(&text);
+    put(out, &text)
 }
 
-fn put_registers(r: Registers) {
-    put(b" ");
-    put_small(r.acc);
-    put_small(r.r0);
-    put_small(r.r1);
-    put_small(r.r2);
-    put_small(r.r3);
-    put_small(r.r4);
+fn put_registers<W: Write>(out: &mut W, r: Registers) -> io::Result<()> {
+    put(out, b" ")?;
+    put_small(out, r.acc)?;
+    put_small(out, r.r0)?;
+    put_small(out, r.r1)?;
+    put_small(out, r.r2)?;
+    put_small(out, r.r3)?;
+    put_small(out, r.r4)
 }
 
-fn put_control(c: Control) {
-    put(b" ");
-    put_word(c.pc.0);
-    put(b" ");
-    put_small(c.cf);
-    put_small(c.tf);
+fn put_control<W: Write>(out: &mut W, c: Control) -> io::Result<()> {
+    put(out, b" ")?;
+    put_word(out, c.pc.0)?;
+    put(out, b" ")?;
+    put_small(out, c.cf)?;
+    put_small(out, c.tf)
 }
 
-fn put_timer(t: Timer) {
-    put(b" ");
-    put_byte(t.count);
-    put_small(t.running);
+fn put_timer<W: Write>(out: &mut W, t: Timer) -> io::Result<()> {
+    put(out, b" ")?;
+    put_byte(out, t.count)?;
+    put_small(out, t.running)
 }
 
-fn put_interrupts(i: Interrupts) {
-    put(b" ");
-    put_small(i.enabled);
-    put_small(i.held);
-    put_small(i.level);
+fn put_interrupts<W: Write>(out: &mut W, i: Interrupts) -> io::Result<()> {
+    put(out, b" ")?;
+    put_small(out, i.enabled)?;
+    put_small(out, i.held)?;
+    put_small(out, i.level)
 }
 
-fn put_stack(s: Stack) {
-    put(b" ");
-    put_word(s.address.0);
-    put_small(s.carry);
+fn put_stack<W: Write>(out: &mut W, s: Stack) -> io::Result<()> {
+    put(out, b" ")?;
+    put_word(out, s.address.0)?;
+    put_small(out, s.carry)
 }
 
-fn put_status(s: Status) {
-    put(b" ");
-    put_small(s.halted);
-    put_small(s.fault);
+fn put_status<W: Write>(out: &mut W, s: Status) -> io::Result<()> {
+    put(out, b" ")?;
+    put_small(out, s.halted)?;
+    put_small(out, s.fault)
 }
 
-fn put_outputs(o: Outputs) {
-    put(b" ");
-    put_small(o.pa);
-    put_byte(o.channel);
-    put_small(o.mode);
+fn put_outputs<W: Write>(out: &mut W, o: Outputs) -> io::Result<()> {
+    put(out, b" ")?;
+    put_small(out, o.pa)?;
+    put_byte(out, o.channel)?;
+    put_small(out, o.mode)
 }
 
-fn put_pins(p: Pins) {
-    put(b" ");
-    put_small(p.pm);
-    put_small(p.ps);
-    put_small(p.pp);
-    put_small(p.int);
+fn put_pins<W: Write>(out: &mut W, p: Pins) -> io::Result<()> {
+    put(out, b" ")?;
+    put_small(out, p.pm)?;
+    put_small(out, p.ps)?;
+    put_small(out, p.pp)?;
+    put_small(out, p.int)
 }
 
-fn put_options(o: Options) {
-    put(b" ");
-    put_byte(o.rate);
-    put_small(o.commons);
-    put_small(o.pm);
-    put_small(o.ps);
-    put_small(o.pp);
+fn put_options<W: Write>(out: &mut W, o: Options) -> io::Result<()> {
+    put(out, b" ")?;
+    put_byte(out, o.rate)?;
+    put_small(out, o.commons)?;
+    put_small(out, o.pm)?;
+    put_small(out, o.ps)?;
+    put_small(out, o.pp)
 }
 
-fn put_cpu(c: Cpu) {
-    put_registers(c.registers);
-    put_control(c.control);
-    put_timer(c.timer);
-    put_interrupts(c.interrupts);
-    put_stack(c.stack);
-    put_status(c.status);
-    put_outputs(c.outputs);
-    put_pins(c.pins);
-    put_options(c.options);
-    put(b" ");
-    put_long(c.cycles);
+fn put_cpu<W: Write>(out: &mut W, c: Cpu) -> io::Result<()> {
+    put_registers(out, c.registers)?;
+    put_control(out, c.control)?;
+    put_timer(out, c.timer)?;
+    put_interrupts(out, c.interrupts)?;
+    put_stack(out, c.stack)?;
+    put_status(out, c.status)?;
+    put_outputs(out, c.outputs)?;
+    put_pins(out, c.pins)?;
+    put_options(out, c.options)?;
+    put(out, b" ")?;
+    put_long(out, c.cycles)
 }
 
 // The last digit of each number.
-fn put_digits(memory: &[u8; MEMORY]) {
+fn put_digits<W: Write>(out: &mut W, memory: &[u8; MEMORY]) -> io::Result<()> {
     let mut text = [0u8; MEMORY];
     let mut i = 0;
     while i < MEMORY {
         text[i] = digit(memory[i]);
         i += 1;
     }
-    put(b" ");
-    put(&text);
+    put(out, b" ")?;
+    put(out, &text)
 }
 
 // The first digit of each number.
@@ -150,28 +151,29 @@ fn high_digits(memory: &[u8; MEMORY]) -> [u8; MEMORY] {
     high
 }
 
-fn put_memory(memory: &[u8; MEMORY]) {
-    put_digits(memory);
+fn put_memory<W: Write>(out: &mut W, memory: &[u8; MEMORY]) -> io::Result<()> {
+    put_digits(out, memory)?;
     if !machine::ranges::all_nibbles(memory) {
         let high = high_digits(memory);
-        put_digits(&high);
+        put_digits(out, &high)?;
     }
+    Ok(())
 }
 
-pub fn put_answer(answer: Answer) {
+pub fn put_answer<W: Write>(out: &mut W, answer: Answer) -> io::Result<()> {
     let machine = answer.machine;
     let memory = machine.memory;
-    put_small(answer.refusal);
-    put_cpu(machine.cpu);
-    put(b" ");
-    put_word(machine.trace.gap);
-    put_memory(&memory);
-    put(b"\n");
+    put_small(out, answer.refusal)?;
+    put_cpu(out, machine.cpu)?;
+    put(out, b" ")?;
+    put_word(out, machine.trace.gap)?;
+    put_memory(out, &memory)?;
+    put(out, b"\n")
 }
 
-pub fn put_count(answer: GapCount) {
-    put_small(answer.refusal);
-    put(b" ");
-    put_word(answer.count);
-    put(b"\n");
+pub fn put_count<W: Write>(out: &mut W, answer: GapCount) -> io::Result<()> {
+    put_small(out, answer.refusal)?;
+    put(out, b" ")?;
+    put_word(out, answer.count)?;
+    put(out, b"\n")
 }

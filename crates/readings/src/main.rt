@@ -4,12 +4,16 @@
 use files::read_file;
 use player::{Shown, play};
 use rom::reader::MASK;
+use std::io;
+use std::io::{BufWriter, Write};
 
 // One byte more than each limit is read, so that a longer file is refused.
-fn main() {
+fn main(rt: HostRuntime) -> io::Result<()> {
     let mut mask = [0u8; MASK + 1];
     let mut script = [0u8; 65536];
-    let m = read_file(b"mask.bin", &mut mask);
-    let s = read_file(b"script.bin", &mut script);
-    play(&mask[..m], &script[..s], Shown::Readings);
+    let m = read_file(&rt, "mask.bin", &mut mask);
+    let s = read_file(&rt, "script.bin", &mut script);
+    let mut out = BufWriter::new(rt.alloc(), io::writer(&rt))?;
+    play(&mut out, &mask[..m], &script[..s], Shown::Readings)?;
+    out.flush()
 }
