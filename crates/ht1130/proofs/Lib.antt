@@ -1,4 +1,3 @@
 pub mod Gap
 pub mod Property2
 pub mod Refused
-pub mod Wrapper

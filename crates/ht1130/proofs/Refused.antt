@@ -1,9 +1,10 @@
--- A refused call stores nothing: where an answer refuses, its machine is the one that was handed in. Assumes nothing.
-use mathlib.Core.Path.{◌≡◌, refl}
+-- A refused call stores nothing: where an answer refuses, its machine is the one that was handed in. So the record that was lent, which then stays
+-- as it was, is what the answer has. Assumes nothing.
+use mathlib.Core.Path.{◌≡◌, refl, ap, ◌∙◌}
 use Prim.Native.Nat.{ℕ}
-use mathlib.Core.Bool.{Bool, true, false, not}
+use mathlib.Core.Bool.{Bool, true, false}
 use mathlib.Core.List.{List}
-use lib.Dec.{T, eqb}
+use lib.Dec.{T, eqb, eqb→eq}
 use Rattle.isa.specs.Choice.{pick}
 use Rattle.cpu.specs.declared.Options.{Options}
 use Rattle.machine.specs.Power.{powered, power_refusal, answered, power_on}
@@ -12,27 +13,37 @@ use Rattle.machine.specs.declared.Machine.{Machine}
 use Rattle.machine.specs.declared.Answer.{Answer}
 use Rattle.machine.specs.declared.events.Named.{Named}
 use Rattle.machine.specs.declared.events.Named.TheVariants.{Known, Unknown}
-use Rattle.machine.specs.contracts.Machine as M
-use Rattle.machine.specs.contracts.Answer as A
 use Rattle.ht1130.specs.Lent.{left}
-use Rattle.ht1130.proofs.Wrapper.{Answers, Keeps}
 
--- the machine's answers
-abbrev pub answers : Answers M.the_type
-answers = record { name = (A.the_type).name; Answer = Answer; held = λ r. r.machine; refusal = λ r. r.refusal; one = (A.the_type).to_one; left = left; left_is = λ r. refl }
+-- where the answer refuses, it has the machine that was handed in
+abbrev pub Keeps : Machine → Answer → Type 0
+Keeps m a = (a.refusal ≡ 0 → ⊥) → m ≡ a.machine
 
-answered-keeps : (n : ℕ) (new old : Machine) → Keeps answers old (answered n new old)
-answered-keeps n new old = go (eqb n 0)
+answered-keeps : (n : ℕ) (new old : Machine) → Keeps old (answered n new old)
+answered-keeps n new old refuses = go (eqb n 0) (λ z. refuses (eqb→eq n 0 z))
   where
-    go : (t : Bool) → T (not t) → old ≡ pick t new old
-    go true z = absurd z
-    go false z = refl
+    go : (t : Bool) → (T t → ⊥) → old ≡ pick t new old
+    go true f = absurd (f tt)
+    go false f = refl
 
-pub power-keeps : (options : Options) (image : List ℕ) (m : Machine) → Keeps answers m (power_on options image m)
+pub power-keeps : (options : Options) (image : List ℕ) (m : Machine) → Keeps m (power_on options image m)
 unfolding power_on
 power-keeps options image m = answered-keeps (power_refusal options image) (powered options image) m
 
-pub event-keeps : (mask : List ℕ) (e : Named) (m : Machine) → Keeps answers m (named_answer mask e m)
+pub event-keeps : (mask : List ℕ) (e : Named) (m : Machine) → Keeps m (named_answer mask e m)
 unfolding applied
 event-keeps mask (Known e) m = answered-keeps (refusal_of mask e m) (happened mask e m) m
 event-keeps mask Unknown m = answered-keeps (named_answer mask Unknown m).refusal m m
+
+-- an answer a, computed as r
+left-as-it-was : (m : Machine) (a r : Answer) → Keeps m a → r ≡ a → (r.refusal ≡ 0 → ⊥) → left r.refusal m ≡ a
+left-as-it-was m a r keeps e refuses =
+    ap (λ (x : Answer). left x.refusal m) e ∙ ap (left a.refusal) (keeps (λ z. refuses (ap (λ (x : Answer). x.refusal) e ∙ z)))
+
+pub power_refused : (options : Options) (image : List ℕ) (m : Machine) (r : Answer) → r ≡ power_on options image m → (r.refusal ≡ 0 → ⊥)
+    → left r.refusal m ≡ power_on options image m
+power_refused options image m r = left-as-it-was m (power_on options image m) r (power-keeps options image m)
+
+pub event_refused : (mask : List ℕ) (e : Named) (m : Machine) (r : Answer) → r ≡ named_answer mask e m → (r.refusal ≡ 0 → ⊥)
+    → left r.refusal m ≡ named_answer mask e m
+event_refused mask e m r = left-as-it-was m (named_answer mask e m) r (event-keeps mask e m)

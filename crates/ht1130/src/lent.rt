@@ -9,8 +9,8 @@ ghost use Rattle.machine.specs.Report.{report, reporting};
 use crate::events::{event, gap_number, power, shown};
 use machine::Machine;
 
-#[unsafe(no_mangle)]
-pub extern "C" fn ht1130_power_on(
+#[tactic(auto, using(crate::proofs::Refused::power_refused))]
+pub fn ht1130_power_on(
     machine: &mut Machine,
     rate: u8,
     commons: u8,
@@ -28,8 +28,8 @@ pub extern "C" fn ht1130_power_on(
     answer.refusal
 }
 
-#[unsafe(no_mangle)]
-pub extern "C" fn ht1130_apply(
+#[tactic(auto, using(crate::proofs::Refused::event_refused))]
+pub fn ht1130_apply(
     machine: &mut Machine,
     kind: u16,
     count: u16,
@@ -47,15 +47,13 @@ pub extern "C" fn ht1130_apply(
     applied.refusal
 }
 
-#[unsafe(no_mangle)]
-pub extern "C" fn ht1130_report(machine: &Machine, out: &mut [u8]) -> u8
+pub fn ht1130_report(machine: &Machine, out: &mut [u8]) -> u8
     ensures { reporting result out.new ≡ report machine.now out.old }
 {
     shown(*machine, out)
 }
 
-#[unsafe(no_mangle)]
-pub extern "C" fn ht1130_gap_count(machine: &Machine) -> u64
+pub fn ht1130_gap_count(machine: &Machine) -> u64
     ensures { result ≡ gap_number (gap_count machine.now) }
 {
     gap_number(*machine)

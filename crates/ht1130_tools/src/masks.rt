@@ -25,8 +25,7 @@ fn packed(verdict: Verdict) -> u64
     }
 }
 
-#[unsafe(no_mangle)]
-pub extern "C" fn ht1130_check(mask: &[u8], marks: &mut [u8]) -> u64
+pub fn ht1130_check(mask: &[u8], marks: &mut [u8]) -> u64
     ensures { Checks mask.now marks.old marks.new result }
 {
     packed(check(mask, marks))
@@ -43,8 +42,7 @@ fn counted(listing: Listing) -> u64
     }
 }
 
-#[unsafe(no_mangle)]
-pub extern "C" fn ht1130_way(mask: &[u8], list: &mut [u8]) -> u64
+pub fn ht1130_way(mask: &[u8], list: &mut [u8]) -> u64
     ensures { Ways mask.now list.old list.new result }
 {
     counted(way(mask, list))
@@ -70,8 +68,7 @@ fn told(answer: Bound) -> u64
     }
 }
 
-#[unsafe(no_mangle)]
-pub extern "C" fn ht1130_bound(mask: &[u8], address: u16, level: u8) -> u64
+pub fn ht1130_bound(mask: &[u8], address: u16, level: u8) -> u64
     ensures { BoundTold mask.now (pair address level) result }
 {
     told(bound_of(mask, address, level))

@@ -47,8 +47,7 @@ fn seen_number(seen: Seen) -> u64
     }
 }
 
-#[unsafe(no_mangle)]
-pub extern "C" fn ht1130_glass_read(picture: &[u8]) -> u64
+pub fn ht1130_glass_read(picture: &[u8]) -> u64
     ensures { GlassRead picture.now result }
 {
     seen_number(read(picture))
@@ -63,8 +62,7 @@ fn given(dark: u8, value: i32, places: u8) -> Reading
     Reading::Dark
 }
 
-#[unsafe(no_mangle)]
-pub extern "C" fn ht1130_glass_draw(dark: u8, value: i32, places: u8, picture: &mut [u8]) -> u64
+pub fn ht1130_glass_draw(dark: u8, value: i32, places: u8, picture: &mut [u8]) -> u64
     ensures { GlassDrawn (drawn_over (given dark value places) picture.old) picture.new result }
 {
     draw(given(dark, value, places), picture) as u64
@@ -85,8 +83,7 @@ fn told(machine: Machine) -> u64
     sight_number(sight_of(machine))
 }
 
-#[unsafe(no_mangle)]
-pub extern "C" fn ht1130_reading(machine: &Machine) -> u64
+pub fn ht1130_reading(machine: &Machine) -> u64
     ensures { SightTold machine.now result }
 {
     told(*machine)

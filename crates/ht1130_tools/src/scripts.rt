@@ -15,15 +15,13 @@ fn packed(answer: Checked) -> u64
     answer.number as u64 + answer.offset as u64 * 0x100000000
 }
 
-#[unsafe(no_mangle)]
-pub extern "C" fn ht1130_check_script(mask: &[u8], script: &[u8], room: usize) -> u64
+pub fn ht1130_check_script(mask: &[u8], script: &[u8], room: usize) -> u64
     ensures { result ≡ script_number (checked mask.now script.now room) }
 {
     packed(check_script(mask, script, room))
 }
 
-#[unsafe(no_mangle)]
-pub extern "C" fn ht1130_run_script(mask: &[u8], script: &[u8], out: &mut [u8]) -> u64
+pub fn ht1130_run_script(mask: &[u8], script: &[u8], out: &mut [u8]) -> u64
     ensures { Ran (applied mask.now script.now out.old) out.new result }
 {
     packed(apply_script(mask, script, out))

@@ -11,8 +11,7 @@ fn packed(answer: Answer) -> u64
     answer.refusal as u64 + answer.line as u64 * 0x100000000
 }
 
-#[unsafe(no_mangle)]
-pub extern "C" fn ht1130_assemble(text: &[u8], out: &mut [u8]) -> u64
+pub fn ht1130_assemble(text: &[u8], out: &mut [u8]) -> u64
     ensures { Assembled (answered text.now out.old) out.old out.new result }
 {
     packed(assemble(text, out))

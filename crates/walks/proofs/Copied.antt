@@ -5,16 +5,16 @@ use Prim.Native.Nat.{ℕ, suc}
 use mathlib.Core.List.{[], ◌∷◌, List}
 use lib.Dec.{T}
 use seplogic.Ra.Ura.{Ura}
-use seplogic.Ra.TreeShare.{full_share}
+use base.Fraction.{full_share}
 use mir.Syntax.{Ty, place, deref, copy, rv_opd, Body, seq, assign}
 use mir.Val.{Val, WT, has_ty, vptr}
-use base.Fml.{Lft, Share, fat, froom, flft, fshr_bor}
+use base.Fml.{Lft, Share, fat, froom, flft}
 use prog.Wp.{Env, Calls, Loops, spot_of}
 use types.Logic.{Logic}
 use types.Kit.{Item, ‵, Post, runs, Seq, ◌$◌, nth, put, move}
 use types.Run.{look, look_raw, init, stop, hop, from, load, of_opd, assigns}
 use denote.Laws.{Is, shows}
-use denote.Memory.{part_at, cell_at}
+use denote.Memory.{hidden_shr, cell_at}
 use denote.Steps.{looks, shuts, peeks}
 use denote.Struct.Declared.{Declared, shape, row}
 use denote.Struct.Laws as LL
@@ -44,8 +44,8 @@ module _ {M : Type 1} {𝓤 : Ura M} {𝓛 : Logic 𝓤} {K : Type 0} {Γ : List
 
   pub lent-copied : K → (D : Declared) (L : LL.Laws D) (cs : LL.Copyables D.parts) (i k n m b o : ℕ) {κ : Lft} {q : Share} (h : D.D)
       → (spot_of 𝓤 H E k).0 ≡ laid D → nth 𝓛 n Γ ≡ ‵ (fat full_share (spot_of 𝓤 H E i).0 (spot_of 𝓤 H E i).1 0 (vptr b o)) → nth 𝓛 m Γ ≡ ‵ (froom (spot_of 𝓤 H E k).0 (spot_of 𝓤 H E k).1 0)
-      → (Is (row D) h (LL.vals D L h) → Seq K 𝓛 (‵ (flft κ q) ∷ ‵ (fshr_bor κ (λ s. part_at (row D) s h b o)) ∷ put 𝓛 m (‵ (fat full_share (spot_of 𝓤 H E k).0 (spot_of 𝓤 H E k).1 0 (LL.val D L h))) Γ) (runs C Λ E rest ret))
-      → Seq K 𝓛 (‵ (fshr_bor κ (λ s. part_at (row D) s h b o)) ∷ ‵ (flft κ q) ∷ Γ) (runs C Λ E (seq (assign (place k []) (rv_opd (copy (place i (deref (laid D) ∷ []))))) rest) ret)
+      → (Is (row D) h (LL.vals D L h) → Seq K 𝓛 (‵ (flft κ q) ∷ ‵ (hidden_shr (row D) κ h b o) ∷ put 𝓛 m (‵ (fat full_share (spot_of 𝓤 H E k).0 (spot_of 𝓤 H E k).1 0 (LL.val D L h))) Γ) (runs C Λ E rest ret))
+      → Seq K 𝓛 (‵ (hidden_shr (row D) κ h b o) ∷ ‵ (flft κ q) ∷ Γ) (runs C Λ E (seq (assign (place k []) (rv_opd (copy (place i (deref (laid D) ∷ []))))) rest) ret)
   lent-copied t D L cs i k n m b o h typed at_ref at_room go =
-      looks t tt (row D) (Is (row D)) (shows 𝓛 (row D)) (LL.vals D L) (LL.tells D L) (LL.copy D cs 𝓛) h b o (λ s vs.
+      looks t tt (row D) (LL.copied D cs 𝓛).opens h b o (λ s vs.
       copied t D L i k (suc (suc n)) (suc (suc m)) b o s h vs typed at_ref at_room (λ was. shuts t tt (row D) s h (LL.vals D L h) b o $ go was))

@@ -6,23 +6,25 @@ use Prim.Native.Nat.{ℕ}
 use mathlib.Core.List.{[], ◌∷◌, List}
 use lib.ListN.{length}
 use seplogic.Ra.Ura.{Ura}
-use mir.Syntax.{Name, Width, Ty, Lifetime, ty_int, ty_ref, imm, mut, named, erased, place, field, deref, copy, rv_opd, addr_of, aggregate, seq, assign, call, return, local, value_local, Fn}
+use mir.Syntax.{Callee, Width, Ty, Lifetime, ty_int, ty_ref, imm, mut, named, erased, place, field, deref, copy, rv_opd, addr_of, aggregate, seq, assign, call, return, local, value_local, Fn}
 use mir.Val.{Val, vptr}
 use base.Logic.{SProp, ent, sep, emp, via, fst∗, id⊢}
-use base.Fml.{GName, Lft, Share, ftrue, flft, fres, fshr_bor}
+use base.Fml.{Lft, Share, Fml, fsep, ftrue, flft, fbor}
 use prog.Model.{Model}
 use prog.Routine.{Routine, Env}
 use prog.Wp.{Calls, Loops, WpFn, Closed}
 use types.Logic.{Logic, sem}
 use contract.Monad.{fact}
 use contract.Running.{Running, tables}
-use types.Kit.{‵, raw, some, later, ◌⊛◌, ⋆, ◌$◌, ◌∵◌, !, qed, by, move, keep, drop, use1, use2, split, join, pick, fsplit, fsplit3, fjoin, fjoin3, feq_l, feq_i, suffices, frame, await, done}
+use types.Kit.{‵, raw, some, later, ◌⊛◌, ⋆, ◌$◌, ◌∵◌, !, qed, by, move, keep, drop, use1, use2, split, join, pick, fsplit, fjoin, feq_l, feq_i, suffices, frame, await, done}
 use types.Run.{look, init, forget, stop, hop, fld, from, load, addr, and_then, no_more, assigns, land, returns, enter, alloc1, alloc0, params1, pass1, pass0, free1, free0}
 use types.Part.{agg, whole, sub, look_in}
+use types.SemTy.{Body, Arr}
+use types.Hole.{Holey}
 use sound.WpLaws.{FmC}
 use denote.RattleType.{RattleType, owns}
 use denote.Laws.{Is, shows}
-use denote.Memory.{lone, part_at, pointee}
+use denote.Memory.{lone, mem, hidden_shr, pointee}
 use denote.Plain.{UInt, uint_Lawful}
 use denote.Builtin.{RefOf}
 use denote.Ref.{Bor, MutBor, ShrRef, shr_vals, shr_Tells}
@@ -51,10 +53,12 @@ module _ (D : Declared) (E : RattleType) (w : Width) where
   slice ℓ = slice_ty (element ℓ)
 
   -- the function, at the name of the one that it calls
-  abbrev pub function : Name → Fn
+  abbrev pub function : Callee → Fn
   function g = record {
     lifetimes = 2;
     outlives = [];
+    ty_params = [];
+    givens = 0;
     params = 2;
     locals = local (ty_int w) value_local ∷ local (ty_ref (named 0) imm (pointee (row D).written)) value_local ∷ local (slice (named 1)) value_local ∷ local (laid D) value_local ∷ local (element erased) value_local ∷ local (slice erased) value_local ∷ [];
     body = seq (assign (place 3 []) (rv_opd (copy (place 1 (deref (laid D) ∷ [])))))
@@ -101,9 +105,9 @@ module _ (D : Declared) (E : RattleType) (w : Width) where
   module _ (L : LL.Laws D) (pl : Plains (fields D)) (cs : LL.Copyables D.parts) (P : Promise) {M : Type 1} {𝓤 : Ura M} (𝓛 : Logic 𝓤) where
     open 𝓛 use {H, A}
 
-    module _ (κ κ' : Lft) (q q' : Share) (b o : ℕ) (γ : GName) (h : D.D) (s : MutBor (List E.Denot)) where
-      abbrev x : MutBor D.D × (MutBor (List E.Denot) × Unit {0})
-      x = (record { ref_ptr = (b, o); ghost_name = γ; now = h }, (s, tt))
+    module _ (κ κ' : Lft) (q q' : Share) (b o : ℕ) (h : D.D) (s : MutBor (List E.Denot)) where
+      abbrev x : Bor D.D × (MutBor (List E.Denot) × Unit {0})
+      x = (record { ref_ptr = (b, o); now = h }, (s, tt))
 
       -- the slice's machine value
       abbrev u : Val
@@ -116,7 +120,7 @@ module _ (D : Declared) (E : RattleType) (w : Width) where
       Post = (walk_of 𝓛 outer stayed (asked P 𝓤)).post (((κ, (κ', tt)), (q, (q', tt)), tt, x, vals), tt)
 
       -- what is passed on
-      abbrev args : D.D × (Bor (List E.Denot) × Unit {0})
+      abbrev args : D.D × (MutBor (List E.Denot) × Unit {0})
       args = (h, (s, tt))
 
       abbrev to : (Called P 𝓤 𝓛).Ghost
@@ -127,49 +131,53 @@ module _ (D : Declared) (E : RattleType) (w : Width) where
           qed 𝓛 ((‵ (flft κ' q') ⊛ ‵ ftrue) ∷ ‵ ((MutSlice (named 0) κ' E).own_val s (u ∷ [])) ∷ []) ∵
           nothing ! $ move ! (2 ∷ 0 ∷ []) $ fjoin ! $ owned ! (row D) (Is (row D)) (LL.makes D pl 𝓛) h _ was $ fjoin ! $ move ! (1 ∷ 0 ∷ []) $ join ! $ frame ! $ done !
 
-      exits : (r : ℕ) (v : Val) (zs : List E.Denot) → P h s.now zs r → length zs ≡ length s.now
-          → ent 𝓤 (⋆ 𝓛 (‵ (flft κ q) ∷ (‵ (flft κ' q') ⊛ ‵ ftrue) ∷ ‵ (fres γ ((row D).coded.code h)) ∷ ‵ (fshr_bor κ (λ t. part_at (row D) t h b o)) ∷ ‵ (finally E s.name zs) ∷ ‵ ((UInt w).own_val r (v ∷ [])) ∷ [])) (Post v)
-      exits r v zs e l =
-          qed 𝓛 (‵ (flft κ q) ∷ (‵ (flft κ' q') ⊛ ‵ ftrue) ∷ ‵ (fres γ ((row D).coded.code h)) ∷ ‵ (fshr_bor κ (λ t. part_at (row D) t h b o)) ∷ ‵ (finally E s.name zs) ∷ ‵ ((UInt w).own_val r (v ∷ [])) ∷ []) ∵
-          suffices ! _ (ends_at 𝓛 outer stayed (asked P 𝓤) (((κ, (κ', tt)), (q, (q', tt)), tt, x, vals), tt) v r (tt, (zs, tt)) (tt, (l, tt))) $ says ! e $
-          join ! $ frame ! $ feq_i ! (List Val) (vptr b o ∷ []) (vptr b o ∷ []) refl $ fjoin3 ! $ nothing ! $ move ! (2 ∷ 0 ∷ []) $ fjoin ! $ move ! (1 ∷ 0 ∷ []) $ fjoin ! $ done !
+      -- what is had of the slice at the end: what says its last elements, and the borrow, closed
+      abbrev given : List E.Denot → Fml
+      given zs = fsep (finally E s.ghost_name zs) (fbor κ' (Body (Arr (Holey (mem E)) (length s.now)) s.ref_ptr.0 s.ref_ptr.1 s.ghost_name))
 
-      walk : (C : Calls 𝓤 H) (Λ : Loops 𝓤 H) (g : Name) → FmC 𝓤 H 𝓛.laws C → Triple 𝓤 (C g) (Called P 𝓤 𝓛) → Is (MutSlice (named 1) κ' E) s (u ∷ [])
+      exits : (r : ℕ) (v : Val) (zs : List E.Denot) → P h s.now zs r → length zs ≡ length s.now
+          → ent 𝓤 (⋆ 𝓛 (‵ (flft κ q) ∷ (‵ (flft κ' q') ⊛ ‵ ftrue) ∷ ‵ (hidden_shr (row D) κ h b o) ∷ ‵ (given zs) ∷ ‵ ((UInt w).own_val r (v ∷ [])) ∷ [])) (Post v)
+      exits r v zs e l =
+          qed 𝓛 (‵ (flft κ q) ∷ (‵ (flft κ' q') ⊛ ‵ ftrue) ∷ ‵ (hidden_shr (row D) κ h b o) ∷ ‵ (given zs) ∷ ‵ ((UInt w).own_val r (v ∷ [])) ∷ []) ∵
+          suffices ! _ (ends_at 𝓛 outer stayed (asked P 𝓤) (((κ, (κ', tt)), (q, (q', tt)), tt, x, vals), tt) v r (tt, (zs, tt)) (tt, (l, tt))) $ says ! e $
+          join ! $ frame ! $ feq_i ! (List Val) (vptr b o ∷ []) (vptr b o ∷ []) refl $ fjoin ! $ nothing ! $ move ! (2 ∷ 0 ∷ []) $ fjoin ! $ move ! (1 ∷ 0 ∷ []) $ fjoin ! $ done !
+
+      walk : (C : Calls 𝓤 H) (Λ : Loops 𝓤 H) (g : Callee) → FmC 𝓤 H 𝓛.laws C → Triple 𝓤 (C g) (Called P 𝓤 𝓛) → Is (MutSlice (named 1) κ' E) s (u ∷ [])
           → ent 𝓤 (on_entry 𝓛 outer.signature (κ, (κ', tt)) (q, (q', tt)) x vals) (WpFn 𝓤 H C Λ (function g) (vptr b o ∷ u ∷ []) Post)
       walk C Λ g fm known is_Slice =
           qed 𝓛 ((‵ (flft κ q) ⊛ ‵ (flft κ' q') ⊛ ‵ ftrue) ∷ ‵ (owns (ShrRef (named 0) κ (row D) ∷ MutSlice (named 1) κ' E ∷ []) x vals) ∷ []) ∵ enter ! C Λ (function g) (vptr b o ∷ u ∷ []) _ $
           alloc1 ! (λ l₀. alloc1 ! (λ l₁. alloc1 ! (λ l₂. alloc1 ! (λ l₃. alloc1 ! (λ l₄. alloc1 ! (λ l₅. alloc0 ! $ params1 ! $
           pass1 ! (init ! 8 refl (tt, tt)) $ pass1 ! (init ! 6 refl ((mut_slice_Lawful 𝓛 (named 1) κ' E).typed s (u ∷ []) is_Slice).0) $ pass0 ! $
           -- what the parameters own is taken apart
-          move ! (13 ∷ []) $ fsplit ! $ fsplit3 ! $ drop ! $ move ! (2 ∷ []) $ fsplit ! $ move ! (16 ∷ []) $ split ! $ move ! (5 ∷ 0 ∷ []) $
-          -- [the borrow; its token; the slice's token; what the slice owns; true; res; _5; …; _4; …; _3; …; _2; …; _1; …; room for _0; …]
-          lent-copied ! D L cs 1 3 12 8 b o h refl refl refl (λ was.
-          assigns ! (addr ! (from ! (fld ! refl (hop ! (look_in ! 12 (sub ! 0 refl (whole !))) (stop !))))) (from ! (stop !)) (init ! 8 refl (tt, tt)) $
-          assigns ! (agg ! (and_then ! (load ! (from ! (stop !)) (look ! 8 refl)) (and_then ! (load ! (from ! (fld ! refl (stop !))) (look_in ! 12 (sub ! 1 refl (whole !)))) (no_more !)))) (from ! (stop !)) (init ! 6 refl (tt, (tt, (record { fits = is_Slice.0.1.0 }, tt)))) $
+          move ! (13 ∷ []) $ fsplit ! $ fsplit ! $ drop ! $ move ! (1 ∷ []) $ fsplit ! $ move ! (15 ∷ []) $ split ! $ move ! (4 ∷ 0 ∷ []) $
+          -- [the borrow; its token; the slice's token; what the slice owns; true; _5; …; _4; …; _3; …; _2; …; _1; …; room for _0; …]
+          lent-copied ! D L cs 1 3 11 7 b o h refl refl refl (λ was.
+          assigns ! (addr ! (from ! (fld ! refl (hop ! (look_in ! 11 (sub ! 0 refl (whole !))) (stop !))))) (from ! (stop !)) (init ! 7 refl (tt, tt)) $
+          assigns ! (agg ! (and_then ! (load ! (from ! (stop !)) (look ! 7 refl)) (and_then ! (load ! (from ! (fld ! refl (stop !))) (look_in ! 11 (sub ! 1 refl (whole !)))) (no_more !)))) (from ! (stop !)) (init ! 5 refl (tt, (tt, (record { fits = is_Slice.0.1.0 }, tt)))) $
           move ! (2 ∷ 3 ∷ []) $ use2 𝓛 (raw ((Called P 𝓤 𝓛).pre to)) (goes was) $
-          calls_at ! fm (Called P 𝓤 𝓛) known to (and_then ! (load ! (from ! (stop !)) (look ! 9 refl)) (and_then ! (load ! (from ! (stop !)) (look ! 5 refl)) (no_more !))) (λ v.
+          calls_at ! fm (Called P 𝓤 𝓛) known to (and_then ! (load ! (from ! (stop !)) (look ! 8 refl)) (and_then ! (load ! (from ! (stop !)) (look ! 4 refl)) (no_more !))) (λ v.
           use1 𝓛 (later (some (λ (r : ℕ). ((‵ (flft κ' q') ⊛ ‵ ftrue) ⊛ ‵ ((UInt w).own_val r (v ∷ []))) ⊛ raw (ensured 𝓛 inner (answered P 𝓤) (κ', tt) args tt r)))) (id⊢ 𝓤 _) $ await ! tt $ pick ! (λ r.
           -- what g ensures, at some last elements
           split ! $ move ! (1 ∷ []) $ use1 𝓛 (some (λ (zs : Lasts inner (κ', tt) args). ‵ (lasts inner (κ', tt) args zs) ⊛ raw (fact 𝓤 (P h s.now zs.1.0 r)))) (id⊢ 𝓤 _) $ pick ! (λ zs.
-          split ! $ move ! (1 ∷ []) $ heard ! (P h s.now zs.1.0 r) (λ e. fsplit ! $ drop ! $ fsplit ! $ fsplit ! $ move ! (1 ∷ []) $ feq_l ! (λ l.
+          split ! $ move ! (1 ∷ []) $ heard ! (P h s.now zs.1.0 r) (λ e. fsplit ! $ drop ! $ fsplit ! $ fsplit ! $ fsplit ! $ move ! (1 ∷ []) $ feq_l ! (λ l. fjoin ! $
           move ! (2 ∷ []) $ split ! $ move ! (1 ∷ []) $ peeks ! (UInt w) (Is (UInt w)) (shows 𝓛 (UInt w)) r (v ∷ []) (λ is.
-          -- [the answer; the slice's token; the last elements; …; the record's token; the borrow; true; res; _5; …; .. room for _0; …]
-          land ! (from ! (stop !)) (init ! 18 refl ((uint_Lawful 𝓛 w).typed r _ is).0) $
-          returns ! (look ! 18 refl) $ forget ! 8 refl $ forget ! 10 refl $ forget ! 12 refl $ forget ! 14 refl $ forget ! 16 refl $ forget ! 18 refl $
-          move ! (18 ∷ 19 ∷ []) $ free1 ! $ move ! (16 ∷ 17 ∷ []) $ free1 ! $ move ! (14 ∷ 15 ∷ []) $ free1 ! $ move ! (12 ∷ 13 ∷ []) $ free1 ! $ move ! (10 ∷ 11 ∷ []) $ free1 ! $ move ! (8 ∷ 9 ∷ []) $ free1 ! $ free0 ! $
-          keep ! (4 ∷ 1 ∷ 7 ∷ 5 ∷ 2 ∷ 0 ∷ []) $ by ! (exits r v zs.1.0 e l))))))))))))))
+          -- [the answer; the slice's token; what is had of the slice; …; the record's token; the borrow; true; _5; …; .. room for _0; …]
+          land ! (from ! (stop !)) (init ! 17 refl ((uint_Lawful 𝓛 w).typed r _ is).0) $
+          returns ! (look ! 17 refl) $ forget ! 7 refl $ forget ! 9 refl $ forget ! 11 refl $ forget ! 13 refl $ forget ! 15 refl $ forget ! 17 refl $
+          move ! (17 ∷ 18 ∷ []) $ free1 ! $ move ! (15 ∷ 16 ∷ []) $ free1 ! $ move ! (13 ∷ 14 ∷ []) $ free1 ! $ move ! (11 ∷ 12 ∷ []) $ free1 ! $ move ! (9 ∷ 10 ∷ []) $ free1 ! $ move ! (7 ∷ 8 ∷ []) $ free1 ! $ free0 ! $
+          keep ! (4 ∷ 1 ∷ 5 ∷ 2 ∷ 0 ∷ []) $ by ! (exits r v zs.1.0 e l))))))))))))))
 
-    walks : (C : Calls 𝓤 H) (Λ : Loops 𝓤 H) (g : Name) → FmC 𝓤 H 𝓛.laws C → Triple 𝓤 (C g) (Called P 𝓤 𝓛) → Walks 𝓛 outer stayed (WpFn 𝓤 H C Λ (function g)) (asked P 𝓤)
+    walks : (C : Calls 𝓤 H) (Λ : Loops 𝓤 H) (g : Callee) → FmC 𝓤 H 𝓛.laws C → Triple 𝓤 (C g) (Called P 𝓤 𝓛) → Walks 𝓛 outer stayed (WpFn 𝓤 H C Λ (function g)) (asked P 𝓤)
     walks C Λ g fm known =
         walked 𝓛 outer stayed (asked P 𝓤) (WpFn 𝓤 H C Λ (function g)) (λ κs. (shr_vals, (mut_slice_vals, tt))) (λ κs. (shr_Tells (named 0) κs.0 (row D), (mut_slice_Tells (named 1) κs.1.0 E, tt)))
-        (λ κs qs bounds x _ are. via 𝓤 _ (fst∗ 𝓤 _ (emp 𝓤)) (walk κs.0 κs.1.0 qs.0 qs.1.0 x.0.ref_ptr.0 x.0.ref_ptr.1 x.0.ghost_name x.0.now x.1.0 C Λ g fm known are.1.0))
+        (λ κs qs bounds x _ are. via 𝓤 _ (fst∗ 𝓤 _ (emp 𝓤)) (walk κs.0 κs.1.0 qs.0 qs.1.0 x.0.ref_ptr.0 x.0.ref_ptr.1 x.0.now x.1.0 C Λ g fm known are.1.0))
 
     all_go : AllGo 𝓛 2 outer.signature.params outer.kept stayed
     all_go = (Goes-none_ref 𝓛 2 (0 ∷ []) tt (plain (λ _. row D)) yes, (Goes-gave_slice 𝓛 2 1 tt (plain (λ _. E)), tt))
 
 -- the function f over g, where g's routine is known to meet its contract
 pub filling : (D : Declared) (L : LL.Laws D) (pl : Plains (fields D)) (cs : LL.Copyables D.parts) (E : RattleType) (w : Width) (P : Promise D E w) {M : Type 1} {𝓤 : Ura M} (𝓛 : Logic 𝓤) (𝓜 : Model 𝓤 𝓛.H) (𝓡 : Running 𝓤 𝓛.H 𝓜)
-    (env : Env) (f g : Name) (r : Routine) → env g ≡ r → Closed 𝓤 𝓛.H (tables 𝓤 𝓛.H 𝓜 𝓡 env).C (tables 𝓤 𝓛.H 𝓜 𝓡 env).Λ f (function D E w g) → Triple 𝓤 (𝓡.run r) (Called D E w P 𝓤 𝓛)
+    (env : Env) (f g : Callee) (r : Routine) → env g ≡ r → Closed 𝓤 𝓛.H (tables 𝓤 𝓛.H 𝓜 𝓡 env).C (tables 𝓤 𝓛.H 𝓜 𝓡 env).Λ f (function D E w g) → Triple 𝓤 (𝓡.run r) (Called D E w P 𝓤 𝓛)
     → Meets 𝓛 (outer D E w).signature (𝓡.run (env f)) (closing 𝓛 (outer D E w) (asked D E w P 𝓤))
 filling D L pl cs E w P {𝓤 = 𝓤} 𝓛 𝓜 𝓡 env f g =
     calling 𝓛 𝓜 𝓡 (outer D E w) (stayed D E w) (all_go D E w L pl cs P 𝓛) (asked D E w P 𝓤) (function D E w g) g (Called D E w P 𝓤 𝓛)
