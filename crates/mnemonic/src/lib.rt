@@ -1,5 +1,6 @@
 // An instruction as document 001 writes it.
 #![tactic(auto)]
+
 mod fronts;
 pub mod letters;
 pub mod line;

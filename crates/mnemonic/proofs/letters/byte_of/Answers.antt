@@ -5,7 +5,6 @@ use mathlib.Core.List.{List, ◌++◌}
 use native.Mathlib.Omega.{arith}
 use lib.ListN.{length, get_or, get_or-append, get_or-eq_default}
 use lib.Seq.{get_or-append-add}
-use borrow.Author.Rules.{rules}
 use Rattle.mnemonic.proofs.letters.byte_of.Goals as goal
 
 -- past the front, a place is the front's length and the place in the back

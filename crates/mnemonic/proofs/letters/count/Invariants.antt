@@ -1,10 +1,6 @@
 use Prim.Native.Nat.{ℕ, ◌-◌, ◌≤◌, ◌<◌}
 use mathlib.Core.Path.{◌≡◌}
-use native.Mathlib.Omega.{arith}
-use lib.ListN.{length, get_or, get_or-eq_default}
-use borrow.Author.Count.{below_more}
-use borrow.Author.Rules.{rules}
-use Rattle.mnemonic.proofs.Cut.{cut}
+use lib.ListN.{get_or}
 use Rattle.mnemonic.proofs.letters.count.Given as goal
 
 abbrev pub invariant-loop-n : goal.invariant-loop-n

@@ -1,7 +1,6 @@
 -- `mnemonic::letters::digit` meets its contract: each branch rewrites with its test. Assumes nothing.
 use mathlib.Core.Path.{refl}
 use borrow.Author.Tests.{lt-ltb, le-ltb}
-use borrow.Author.Rules.{rules}
 use Rattle.mnemonic.proofs.letters.digit.Goals as goal
 
 pub returns-then-d-lt10 : goal.returns-then-d-lt10

@@ -2,7 +2,6 @@
 use Prim.Native.Nat.{ℕ}
 use mathlib.Core.Path.{◌≡◌, ap}
 use mathlib.Core.List.{[], ◌∷◌}
-use borrow.Author.Rules.{rules}
 use Rattle.mnemonic.specs.Held.{up_to}
 use Rattle.mnemonic.specs.Spelling.{hex_digits}
 use Rattle.mnemonic.proofs.Numbers.{bare, zeroed}

@@ -1,5 +1,4 @@
 -- `mnemonic::letters::register` meets its contract: the digit is the one that `digit` promises. Assumes nothing.
-use borrow.Author.Rules.{rules}
 use Rattle.mnemonic.proofs.letters.register.Goals as goal
 
 pub returns : goal.returns

@@ -1,11 +1,8 @@
-use Prim.Native.Nat.{ℕ, ◌-◌, ◌≤◌}
-use mathlib.Core.Path.{◌≡◌, refl, sym, ◌∙◌}
+use Prim.Native.Nat.{◌-◌, ◌≤◌}
+use mathlib.Core.Path.{◌≡◌}
 use mathlib.Core.List.{◌++◌}
-use native.Mathlib.Omega.{arith}
-use lib.ListN.{length, take, length-set, length-replicate, length-append}
-use borrow.Author.Rules.{rules}
+use lib.ListN.{length, take}
 use Rattle.mnemonic.specs.Held.{padded}
-use Rattle.mnemonic.proofs.Padding.{more, whole}
 use Rattle.mnemonic.proofs.letters.row.Given as goal
 
 abbrev pub invariant-loop-i : goal.invariant-loop-i

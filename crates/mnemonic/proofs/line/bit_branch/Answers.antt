@@ -10,7 +10,6 @@ use Rattle.mnemonic.specs.Held.{up_to}
 use Rattle.mnemonic.specs.Line.{line_of, text_of}
 use Rattle.mnemonic.specs.Spelling.{codes, digit}
 use Rattle.mnemonic.proofs.Cut.{kept}
-use borrow.Author.Rules.{rules}
 use Rattle.mnemonic.proofs.line.bit_branch.Goals as goal
 
 either : (t : Bool) (d : ℕ) → 0 < pick t (48 + d) (65 + (d - 10))

@@ -6,7 +6,6 @@ use Rattle.isa.specs.declared.Instruction.TheVariants as I
 use Rattle.mnemonic.specs.Line.{line_of, text_of}
 use Rattle.mnemonic.specs.Held.{Holds}
 use Rattle.mnemonic.specs.declared.Text.{Text}
-use borrow.Author.Rules.{rules}
 use Rattle.mnemonic.proofs.line.branch.Goals as goal
 
 -- an arm knows the condition

@@ -9,7 +9,6 @@ use Rattle.isa.specs.declared.Instruction.{Instruction}
 use Rattle.isa.specs.declared.Instruction.TheVariants as I
 use Rattle.isa.specs.contracts.Instruction.{the_type}
 use Rattle.mnemonic.specs.Placing.{placed_by, placed_at}
-use borrow.Author.Rules.{rules}
 use borrow.Enum.Refused.{opened}
 use Rattle.mnemonic.proofs.line.placed.Goals as goal
 
