@@ -1,6 +1,6 @@
 -- The data memory: 00h-7Fh and E0h-FFh in nibbles, 160 in that order. Document 01: "Data addresses 80h-DFh read 0 and ignore
 -- writes. M(R1,R0) is the nibble at 16 times R1 + R0, likewise M(R3,R2)". And its gap, document 02, wish 6. Assumes nothing.
-use Rattle.std.specs.Prelude.{ℕ, zero, suc, ◌+◌, ◌-◌, ◌*◌, ◌%◌, Bool, true, false, not, ◌&&◌, List, [], ◌∷◌, ltb, get_or, set}
+use Rattle.std.specs.Prelude.{ℕ, zero, suc, ◌+◌, ◌-◌, ◌*◌, ◌%◌, Bool, not, ◌&&◌, List, [], ◌∷◌, ltb, get_or, set}
 use Rattle.isa.specs.Choice.{pick}
 use Rattle.isa.specs.declared.DataAddress.{DataAddress}
 use Rattle.datapath.specs.Alu.{flag}

@@ -1,7 +1,7 @@
 -- The timer. Document 01: "With c cycles spent and T = 4 times the old cycle count modulo 8,192, a timer running after the effect on
 -- rate n moves on by floor((T + 4c)/2^n) - floor(T/2^n); passing 255 to 0 sets TF". A rate over 13 is no internal clock.
 -- Assumes nothing.
-use Rattle.std.specs.Prelude.{ℕ, ◌+◌, ◌-◌, ◌*◌, ◌/◌, ◌%◌, ◌^◌, Bool, true, false, ltb}
+use Rattle.std.specs.Prelude.{ℕ, ◌+◌, ◌-◌, ◌*◌, ◌/◌, ◌%◌, ◌^◌, ltb}
 use Rattle.isa.specs.Choice.{pick}
 use Rattle.datapath.specs.Alu.{flag}
 use Rattle.datapath.specs.declared.timer.Count.{Count}

@@ -1,4 +1,6 @@
 // What an operator reads on the glass: document 02, wish 7. Four digits, two nibbles each; numbers alone, no machine.
+#![tactic(auto)]
+
 pub mod draw;
 pub mod read;
 mod shapes;

@@ -18,9 +18,7 @@ use Rattle.isa.specs.declared.decoder.Decoded.{Decoded}
 use Rattle.isa.specs.declared.decoder.Decoded.TheVariants.{Read, Unreadable}
 use Rattle.isa.specs.declared.Pointer.{Pointer}
 use Rattle.isa.specs.declared.Pointer.TheVariants.{R1R0, R3R2}
-use Rattle.isa.specs.declared.Port.{Port}
 use Rattle.isa.specs.declared.Port.TheVariants.{Pm, Ps, Pp}
-use Rattle.isa.specs.declared.Page.{Page}
 use Rattle.isa.specs.declared.Page.TheVariants.{Current, F}
 use Rattle.isa.specs.declared.ProgramAddress.{ProgramAddress}
 use Rattle.isa.specs.declared.Condition.{Condition}

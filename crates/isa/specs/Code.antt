@@ -2,12 +2,9 @@
 -- its "Machine code" line, and the range of the fields. Document 01, "Codes", says how the lines are read: nnn is 0 to 4, d a nibble,
 -- and the first byte's nibble of 5d and 6d goes to R0 (R2), the second's to R1 (R3).
 -- A binary numeral is the printed pattern with its field at 0. Assumes nothing.
-use Rattle.std.specs.Prelude.{ℕ, ◌+◌, ◌*◌, ◌/◌, ◌%◌, Bool, true, false, ◌&&◌, List, [], ◌∷◌, ltb}
-use Rattle.isa.specs.declared.Pointer.{Pointer}
+use Rattle.std.specs.Prelude.{ℕ, ◌+◌, ◌*◌, ◌/◌, ◌%◌, Bool, true, ◌&&◌, List, [], ◌∷◌, ltb}
 use Rattle.isa.specs.declared.Pointer.TheVariants.{R1R0, R3R2}
-use Rattle.isa.specs.declared.Port.{Port}
 use Rattle.isa.specs.declared.Port.TheVariants.{Pm, Ps, Pp}
-use Rattle.isa.specs.declared.Page.{Page}
 use Rattle.isa.specs.declared.Page.TheVariants.{Current, F}
 use Rattle.isa.specs.declared.Condition.{Condition}
 use Rattle.isa.specs.declared.Condition.TheVariants.{Ja, JnzR0, JnzR1, JnzR4, Jz, JnzA, Jc, Jnc, Jtmr}

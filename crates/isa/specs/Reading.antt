@@ -1,15 +1,13 @@
 -- What two bytes read as. The meaning is `Reads`, stated from `Code` alone. `decoded` computes it from a map by first byte, `opcodes`:
 -- the laws of proofs/Exact.antt show that the two agree, so a reader believes `Reads` and not the map. Assumes nothing.
-use Rattle.std.specs.Prelude.{ℕ, zero, suc, ◌+◌, ◌*◌, ◌<◌, ◌≡◌, Bool, true, false, List, [], ◌∷◌, ◌++◌, ltb, eqb, length, take, get_or}
+use Rattle.std.specs.Prelude.{ℕ, zero, suc, ◌+◌, ◌*◌, ◌<◌, ◌≡◌, true, List, [], ◌∷◌, ltb, eqb, length, take, get_or}
 use Rattle.isa.specs.Choice.{pick}
 use Rattle.isa.specs.Code.{bytes_of, in_range}
 use Rattle.isa.specs.declared.decoder.Decoded.{Decoded}
 use Rattle.isa.specs.declared.decoder.Decoded.TheVariants.{Read, Unreadable}
 use Rattle.isa.specs.declared.Pointer.{Pointer}
 use Rattle.isa.specs.declared.Pointer.TheVariants.{R1R0, R3R2}
-use Rattle.isa.specs.declared.Port.{Port}
 use Rattle.isa.specs.declared.Port.TheVariants.{Pm, Ps, Pp}
-use Rattle.isa.specs.declared.Page.{Page}
 use Rattle.isa.specs.declared.Page.TheVariants.{Current, F}
 use Rattle.isa.specs.declared.Condition.{Condition}
 use Rattle.isa.specs.declared.Condition.TheVariants.{Ja, JnzR0, JnzR1, JnzR4, Jz, JnzA, Jc, Jnc, Jtmr}

@@ -1,5 +1,6 @@
 // The instruction set of the HT1130: its addresses and instructions, and the decoder.
 #![tactic(auto)]
+
 pub mod decoder;
 
 // How many addresses the program ROM has.

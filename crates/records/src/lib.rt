@@ -1,5 +1,6 @@
 // Records on bytes, whatever their kinds mean: payload length, kind, payload, and where each record starts. Past the end every byte reads as 0.
 #![tactic(auto)]
+
 ghost use Rattle.std.specs.Prelude.{◌≡◌, ◌≤◌, get_or, length};
 ghost use Rattle.records.specs.Records.{cut_off, kind_at, offsets, payload_at, size_at, size_refusal, word_at};
 

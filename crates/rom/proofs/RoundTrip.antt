@@ -8,14 +8,14 @@ use mathlib.Core.List.{List, [], ◌∷◌}
 use native.Mathlib.Omega.{arith}
 use lib.ListN.{length, take}
 use Rattle.isa.specs.Code.{bytes_of, in_range}
-use Rattle.isa.specs.Reading.{Reads, Reading, decoded}
+use Rattle.isa.specs.Reading.{Reading}
 use Rattle.rom.specs.RoundTrip.{RoundTrip}
 use Rattle.rom.specs.Writing.{Answer, answer_of, fitting, writing}
 use Rattle.isa.specs.declared.Instruction.{Instruction}
 use Rattle.isa.specs.declared.decoder.Decoded.{Decoded}
-use Rattle.isa.specs.declared.decoder.Decoded.TheVariants.{Read, Unreadable}
+use Rattle.isa.specs.declared.decoder.Decoded.TheVariants.{Read}
 use Rattle.rom.specs.declared.encoder.Written.{Written}
-use Rattle.rom.specs.declared.encoder.Written.TheVariants.{One, Two, Refused}
+use Rattle.rom.specs.declared.encoder.Written.TheVariants.{One, Two}
 use Rattle.isa.proofs.Exact.{back, reading, one_byte, two-byte}
 
 -- what two bytes read as writes back to these bytes

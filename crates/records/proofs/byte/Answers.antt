@@ -1,7 +1,6 @@
 -- `records::byte` meets its contract: past the end the definition reads 0 too. Assumes nothing.
 use mathlib.Core.Path.{refl, sym}
 use lib.ListN.{get_or-eq_default}
-use borrow.Author.Rules.{rules}
 use Rattle.records.proofs.byte.Goals as goal
 
 pub returns-then-i-s : goal.returns-then-i-s

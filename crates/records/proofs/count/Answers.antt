@@ -1,9 +1,9 @@
 -- `records::count` meets its contract. The loop's invariant: the records passed and those from `at` on are all. Assumes nothing.
-use Prim.Native.Nat.{ℕ, ◌+◌, ◌-◌}
-use mathlib.Core.Path.{◌≡◌, ap}
+use Prim.Native.Nat.{ℕ, ◌+◌}
+use mathlib.Core.Path.{ap}
 use native.Mathlib.Omega.{arith}
 use lib.ListN.{length}
-use Rattle.records.specs.Records.{offsets_from, offsets}
+use Rattle.records.specs.Records.{offsets_from}
 use Rattle.records.proofs.Offsets.{from_end, from_next, few}
 use Rattle.records.proofs.count.Goals as goal
 

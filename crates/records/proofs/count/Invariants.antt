@@ -1,9 +1,7 @@
-use Prim.Native.Nat.{ℕ, ◌+◌, ◌-◌}
-use mathlib.Core.Path.{◌≡◌, ap}
-use native.Mathlib.Omega.{arith}
+use Prim.Native.Nat.{◌+◌, ◌-◌}
+use mathlib.Core.Path.{◌≡◌}
 use lib.ListN.{length}
 use Rattle.records.specs.Records.{offsets_from, offsets}
-use Rattle.records.proofs.Offsets.{from_end, from_next, few}
 use Rattle.records.proofs.count.Given as goal
 
 abbrev pub invariant-loop-at : goal.invariant-loop-at

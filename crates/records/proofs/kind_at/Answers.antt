@@ -1,6 +1,5 @@
 -- `records::kind_at` meets its contract: past the end it is 0. Assumes nothing.
 use mathlib.Core.Path.{sym}
-use borrow.Author.Rules.{rules}
 use Rattle.records.proofs.Ends.{kind-past}
 use Rattle.records.proofs.kind_at.Goals as goal
 

@@ -1,6 +1,5 @@
 -- `records::payload_at` meets its contract: past the end it is 0. Assumes nothing.
 use mathlib.Core.Path.{sym}
-use borrow.Author.Rules.{rules}
 use Rattle.records.proofs.Ends.{payload-past}
 use Rattle.records.proofs.payload_at.Goals as goal
 

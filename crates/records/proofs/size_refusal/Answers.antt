@@ -1,7 +1,6 @@
 -- `records::size_refusal` meets its contract: an arm knows what the kind says. Assumes nothing.
 use Prim.Native.Nat.{ℕ}
 use mathlib.Core.Path.{◌≡◌, refl, sym, ap}
-use borrow.Author.Rules.{rules}
 use borrow.Author.Tests.{eq-eqb, ne_eqb}
 use Rattle.records.specs.Records.{size_refusal}
 use Rattle.records.specs.declared.Size.{Size}

@@ -1,7 +1,6 @@
 -- `records::word` meets its contract: past the end both bytes are 0. Assumes nothing.
 use Prim.Native.Nat.{ℕ, ◌+◌, ◌*◌}
 use mathlib.Core.Path.{sym, ap₂}
-use borrow.Author.Rules.{rules}
 use Rattle.records.proofs.Ends.{word-past}
 use Rattle.records.proofs.word.Goals as goal
 

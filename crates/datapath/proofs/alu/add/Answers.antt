@@ -1,7 +1,6 @@
 -- `datapath::alu::add` meets its contract: each return rewrites with the tests that led there. Assumes nothing.
 use mathlib.Core.Path.{refl}
 use borrow.Author.Tests.{lt-ltb, le-ltb}
-use borrow.Author.Rules.{rules}
 use Rattle.datapath.proofs.alu.add.Goals as goal
 
 -- over 15

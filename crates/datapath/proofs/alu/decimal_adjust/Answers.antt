@@ -1,7 +1,6 @@
 -- `datapath::alu::decimal_adjust` meets its contract: each return rewrites with the tests that led there. Assumes nothing.
 use mathlib.Core.Path.{refl}
 use borrow.Author.Tests.{lt-ltb, le-ltb, eq-eqb, ne_eqb}
-use borrow.Author.Rules.{rules}
 use Rattle.datapath.proofs.alu.decimal_adjust.Goals as goal
 
 -- over 9

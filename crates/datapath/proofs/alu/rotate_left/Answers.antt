@@ -1,6 +1,5 @@
 -- `datapath::alu::rotate_left` meets its contract, by the law of the moved nibble. Assumes nothing.
 use Rattle.datapath.proofs.Rotate.{last, left}
-use borrow.Author.Rules.{rules}
 use Rattle.datapath.proofs.alu.rotate_left.Goals as goal
 
 -- the nibble and CF

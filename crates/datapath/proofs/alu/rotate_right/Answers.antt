@@ -1,6 +1,5 @@
 -- `datapath::alu::rotate_right` meets its contract, by the law of the moved nibble. Assumes nothing.
 use Rattle.datapath.proofs.Rotate.{first, right}
-use borrow.Author.Rules.{rules}
 use Rattle.datapath.proofs.alu.rotate_right.Goals as goal
 
 -- the nibble and CF

@@ -4,7 +4,6 @@ use mathlib.Core.Path.{◌≡◌, ap, ◌∙◌}
 use native.Mathlib.Omega.{arith}
 use Rattle.datapath.specs.Alu.{summed}
 use Prim.Native.Nat.{ℕ, ◌-◌}
-use borrow.Author.Rules.{rules}
 use Rattle.datapath.proofs.alu.subtract.Goals as goal
 
 zero : {b : ℕ} → 16 ≤ b → 0 ≡ 15 - b

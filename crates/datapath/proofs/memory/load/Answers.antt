@@ -2,7 +2,6 @@
 use mathlib.Core.Path.{refl}
 use borrow.Author.Tests.{lt-ltb, le-ltb}
 use Rattle.datapath.specs.Memory.{loaded}
-use borrow.Author.Rules.{rules}
 use Rattle.datapath.proofs.memory.load.Goals as goal
 
 -- below 80h

@@ -4,7 +4,6 @@ use mathlib.Core.Path.{refl}
 use native.Mathlib.Omega.{arith}
 use borrow.Author.Tests.{lt-ltb, le-ltb}
 use Rattle.datapath.specs.Memory.{stored}
-use borrow.Author.Rules.{rules}
 use Rattle.datapath.proofs.memory.store.Goals as goal
 
 below : {a : ℕ} → a ≤ 0xdf → a < 0xe0

@@ -2,7 +2,6 @@
 use mathlib.Core.Path.{refl}
 use borrow.Author.Tests.{lt-ltb, le-ltb}
 use Rattle.datapath.specs.Memory.{tallied}
-use borrow.Author.Rules.{rules}
 use Rattle.datapath.proofs.memory.tally.Goals as goal
 
 -- a stray, counted

@@ -6,7 +6,6 @@ use lib.Pow.{shr_mono}
 use mathlib.Core.Path.{◌≡◌}
 use native.Mathlib.Omega.{arith}
 use borrow.Author.Tests.{lt-ltb, le-ltb}
-use borrow.Author.Rules.{rules}
 use Rattle.datapath.proofs.timer.clock.Goals as goal
 
 phase : (n : ℕ) → 4 * n % 8192 ≡ n % 2048 * 4

@@ -4,7 +4,6 @@ use mathlib.Core.Path.{◌≡◌, ap}
 use mathlib.Core.List.{List}
 use lib.ListN.{length, replicate}
 use borrow.Author.Tests.{eq-eqb}
-use borrow.Author.Rules.{rules}
 use Rattle.glass.specs.Drawing.{Drawing, drawing, drawn_over}
 use Rattle.glass.specs.declared.Reading.TheVariants.{Dark}
 use Rattle.glass.proofs.draw.draw_blank.Goals as goal

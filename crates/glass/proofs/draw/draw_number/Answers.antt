@@ -8,7 +8,6 @@ use lib.IntN.{ℤ, nat_abs}
 use mir.Syntax.{w32}
 use mir.ValLaws.{to_z-of_z}
 use borrow.Author.Tests.{eq-eqb}
-use borrow.Author.Rules.{rules}
 use Rattle.glass.specs.Shapes.{nibbles}
 use Rattle.glass.specs.Drawing.{Drawing, drawing, drawn_over, fewest, fits, is_negative}
 use Rattle.glass.specs.Walk.{row}

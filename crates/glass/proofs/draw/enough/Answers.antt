@@ -4,7 +4,6 @@ use mathlib.Core.Path.{◌≡◌, sym, ap, ◌∙◌}
 use mathlib.Core.Bool.{Bool, true, false, ◌&&◌}
 use lib.Dec.{ltb}
 use borrow.Author.Tests.{lt-ltb, le-ltb}
-use borrow.Author.Rules.{rules}
 use Rattle.glass.proofs.draw.enough.Goals as goal
 
 first : (size power : ℕ) (t b : Bool) → ltb size power ≡ t → {p : ℕ} → power ≡ p → t && b ≡ ltb size p && b

@@ -28,11 +28,11 @@ returns-then-enough c = sym (here c.args.size c.args.places c.loop-n.n true c.lo
 
 pub loop-n-preserved : goal.loop-n-preserved
 loop-n-preserved c = (
-      omega arith,
-      omega arith,
-      here c.args.size c.args.places c.loop-n.n false c.loop-n-test.true
-          (sym c.enough.ensures ∙ c.if-enough.false) c.loop-n.invariant.2,
-    )
+  omega arith,
+  omega arith,
+  here c.args.size c.args.places c.loop-n.n false c.loop-n-test.true
+      (sym c.enough.ensures ∙ c.if-enough.false) c.loop-n.invariant.2,
+)
 
 pub returns : goal.returns
 returns c = none c.args.size c.args.places c.loop-n.n c.loop-n.invariant.0 c.loop-n-test.false c.loop-n.invariant.2

@@ -6,7 +6,6 @@ use native.Mathlib.Nat.{one-le-pow}
 use native.Mathlib.Omega.{arith}
 use lib.Dec.{lit<}
 use borrow.Author.Tests.{lt-ltb, le-ltb, eq-eqb, ne_eqb}
-use borrow.Author.Rules.{rules}
 use Rattle.glass.specs.Shapes.{shape}
 use Rattle.glass.specs.Pictures.{digit, lit}
 use Rattle.glass.specs.Drawing.{point_at}

@@ -1,5 +1,5 @@
 -- `glass::draw::put` meets its contract: a copy, nibble by nibble. Assumes nothing.
-use Prim.Native.Nat.{ℕ, ◌+◌, ◌-◌, ◌<◌, ◌≤◌}
+use Prim.Native.Nat.{ℕ, ◌+◌, ◌<◌, ◌≤◌}
 use mathlib.Core.Path.{◌≡◌, refl, sym, ap, ◌∙◌}
 use mathlib.Core.List.{List, [], ◌∷◌, ◌++◌}
 use native.Mathlib.Numerals.{add-one}
@@ -24,10 +24,10 @@ bounds-nibbles-i c = c.loop-i-test.true
 
 pub loop-i-preserved : goal.loop-i-preserved
 loop-i-preserved c = let n : length c.args.nibbles ≡ 8 = search rules in (
-      omega arith,
-      length-set c.loop-i.picture c.loop-i.i (get_or c.args.nibbles c.loop-i.i 0) ∙ c.loop-i.invariant.1,
-      more c.args.nibbles c.loop-i.picture c.loop-i.i (omega arith) (omega arith) c.loop-i.invariant.2,
-    )
+  omega arith,
+  length-set c.loop-i.picture c.loop-i.i (get_or c.args.nibbles c.loop-i.i 0) ∙ c.loop-i.invariant.1,
+  more c.args.nibbles c.loop-i.picture c.loop-i.i (omega arith) (omega arith) c.loop-i.invariant.2,
+)
 
 pub shape_of-picture : goal.shape_of-picture
 shape_of-picture c = c.loop-i.invariant.1 ∙ sym c.requires

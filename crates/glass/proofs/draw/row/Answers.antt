@@ -3,7 +3,6 @@ use Prim.Native.Nat.{ℕ, ◌/◌, ◌%◌, ◌<◌}
 use mathlib.Core.Path.{◌≡◌, refl, ap, ap₂, ◌∙◌}
 use mathlib.Core.Bool.{Bool}
 use mathlib.Core.List.{List, [], ◌∷◌}
-use native.Mathlib.Omega.{arith}
 use Rattle.glass.specs.Shapes.{Cell}
 use Rattle.glass.specs.Walk.{byte_of, placed}
 use Rattle.glass.proofs.Cells.{low, high, placed-small}

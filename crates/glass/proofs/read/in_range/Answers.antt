@@ -1,5 +1,5 @@
 -- `glass::read::in_range` meets its contract. The invariant: no element before `i` is over 15. Assumes nothing.
-use Prim.Native.Nat.{ℕ, suc, ◌+◌, ◌-◌, ◌<◌, ◌≤◌}
+use Prim.Native.Nat.{ℕ, suc, ◌+◌, ◌<◌, ◌≤◌}
 use mathlib.Core.Path.{◌≡◌, refl, sym, ap, ◌∙◌}
 use mathlib.Core.Bool.{Bool, true, false, ◌&&◌}
 use mathlib.Core.List.{List}
@@ -9,7 +9,6 @@ use lib.Dec.{ltb}
 use lib.ListN.{length, get_or, drop, drop_of_length-le}
 use lib.Seq.{drop-cons}
 use borrow.Author.Tests.{lt-ltb, le-ltb}
-use borrow.Author.Rules.{rules}
 use Rattle.glass.specs.Reading.{all_nibbles}
 use Rattle.glass.proofs.read.in_range.Goals as goal
 
@@ -31,9 +30,9 @@ returns-then-picture-i-gt15 c = sym (c.loop-i.invariant.1 ∙ here c.args.pictur
 
 pub loop-i-preserved : goal.loop-i-preserved
 loop-i-preserved c = (
-      omega arith,
-      c.loop-i.invariant.1 ∙ here c.args.picture.now c.loop-i.i true c.loop-i-test.true (lt-ltb (get_or c.args.picture.now c.loop-i.i 0) 16 (omega (arith, c.if-picture-i-gt15.false))),
-    )
+  omega arith,
+  c.loop-i.invariant.1 ∙ here c.args.picture.now c.loop-i.i true c.loop-i-test.true (lt-ltb (get_or c.args.picture.now c.loop-i.i 0) 16 (omega (arith, c.if-picture-i-gt15.false))),
+)
 
 pub returns : goal.returns
 returns c = end c.args.picture.now c.loop-i.i c.loop-i-test.false ∙ sym c.loop-i.invariant.1

@@ -1,6 +1,5 @@
 -- `glass::read::read` meets its contract. Assumes nothing.
 use mathlib.Core.Path.{sym, ◌∙◌}
-use borrow.Author.Rules.{rules}
 use Rattle.glass.proofs.read.read.Goals as goal
 
 pub returns-then-picture-ne8 : goal.returns-then-picture-ne8

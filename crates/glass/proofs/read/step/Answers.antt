@@ -5,7 +5,6 @@ use mathlib.Core.Bool.{Bool, true, false}
 use native.Mathlib.Omega.{arith}
 use lib.Dec.{eqb}
 use borrow.Author.Tests.{lt-ltb, le-ltb, eq-eqb, ne_eqb}
-use borrow.Author.Rules.{rules}
 use Rattle.glass.specs.Walk.{front, numeral_taken, stepped}
 use Rattle.glass.specs.declared.read.Front.{Front}
 use Rattle.glass.specs.declared.read.Next.{Next}

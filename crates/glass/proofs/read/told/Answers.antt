@@ -6,7 +6,6 @@ use mir.Syntax.{w32}
 use mir.Val.{SFits, of_z, to_z}
 use mir.ValLaws.{to_z-of_z}
 use borrow.Author.Tests.{eq-eqb, ne_eqb}
-use borrow.Author.Rules.{rules}
 use Rattle.glass.specs.Pictures.{signed}
 use Rattle.glass.specs.Walk.{reading_of}
 use Rattle.glass.specs.declared.Reading.TheVariants.{Dark, Number}

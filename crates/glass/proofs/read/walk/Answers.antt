@@ -1,16 +1,11 @@
 -- `glass::read::walk` meets its contract. The invariant: the reader ends as it does from here, with what it holds now. Assumes nothing.
-use Prim.Native.Nat.{◌*◌, ◌-◌, ◌≤◌}
-use mathlib.Core.Path.{◌≡◌, refl, sym, subst}
+use Prim.Native.Nat.{◌*◌}
+use mathlib.Core.Path.{refl, sym, subst}
 use native.Mathlib.Omega.{arith}
 use lib.Dec.{lit<}
-use lib.ListN.{drop}
-use borrow.Author.Rules.{rules}
-use Rattle.glass.specs.Shapes.{cells}
 use Rattle.glass.specs.Reading.{SeenAnswers}
-use Rattle.glass.specs.Walk.{start}
 use Rattle.glass.proofs.Pairs.{in-range-at}
-use Rattle.glass.proofs.Walks.{walked, Held}
-use Rattle.glass.proofs.Turns.{laters, turn_on, held_on, held_small, answer-off, answer-end}
+use Rattle.glass.proofs.Turns.{turn_on, held_on, held_small, answer-off, answer-end}
 use Rattle.glass.proofs.read.walk.Goals as goal
 
 pub loop-k-init : goal.loop-k-init
@@ -43,10 +38,10 @@ loop-k-smaller c = omega (arith, c.loop-k-test.true)
 
 pub loop-k-preserved : goal.loop-k-preserved
 loop-k-preserved c = (
-      omega (arith, c.loop-k-test.true),
-      held_on c.args.picture.now c.loop-k.k c.loop-k.front c.in-On.next c.step.result c.requires.1 c.step.ensures c.in-On.is c.loop-k.invariant.1,
-      turn_on c.args.picture.now c.loop-k.k c.loop-k.front c.in-On.next c.step.result c.requires.0 c.loop-k-test.true c.step.ensures c.in-On.is c.loop-k.invariant.2,
-    )
+  omega (arith, c.loop-k-test.true),
+  held_on c.args.picture.now c.loop-k.k c.loop-k.front c.in-On.next c.step.result c.requires.1 c.step.ensures c.in-On.is c.loop-k.invariant.1,
+  turn_on c.args.picture.now c.loop-k.k c.loop-k.front c.in-On.next c.step.result c.requires.0 c.loop-k-test.true c.step.ensures c.in-On.is c.loop-k.invariant.2,
+)
 
 pub returns : goal.returns
 returns c = subst (SeenAnswers c.args.picture.now) (sym c.told.ensures)

@@ -1,15 +1,10 @@
-use Prim.Native.Nat.{◌*◌, ◌-◌, ◌≤◌}
-use mathlib.Core.Path.{◌≡◌, refl, sym, subst}
-use native.Mathlib.Omega.{arith}
-use lib.Dec.{lit<}
+use Prim.Native.Nat.{◌-◌, ◌≤◌}
+use mathlib.Core.Path.{◌≡◌}
 use lib.ListN.{drop}
-use borrow.Author.Rules.{rules}
 use Rattle.glass.specs.Shapes.{cells}
-use Rattle.glass.specs.Reading.{SeenAnswers}
 use Rattle.glass.specs.Walk.{start}
-use Rattle.glass.proofs.Pairs.{in-range-at}
 use Rattle.glass.proofs.Walks.{walked, Held}
-use Rattle.glass.proofs.Turns.{laters, turn_on, held_on, held_small, answer-off, answer-end}
+use Rattle.glass.proofs.Turns.{laters}
 use Rattle.glass.proofs.read.walk.Given as goal
 
 abbrev pub invariant-loop-k : goal.invariant-loop-k

@@ -8,7 +8,6 @@ use mir.Syntax.{w16, w32}
 use mir.Val.{Fits, SFits, of_z, to_z}
 use mir.ValLaws.{to_z-of_z}
 use mir.Facts.{to_z_pos}
-use borrow.Author.Rules.{rules}
 use Rattle.glass.specs.Pictures.{signed}
 use Rattle.glass.proofs.Integers.{less}
 use Rattle.glass.proofs.signed.signed.Goals as goal

@@ -1,11 +1,10 @@
 -- `glass::text::digits` meets its contract. The invariant: the text so far is that of the digits so far. Assumes nothing.
-use Prim.Native.Nat.{ℕ, ◌+◌, ◌*◌, ◌-◌, ◌/◌, ◌%◌, ◌^◌, ◌<◌, ◌≤◌}
+use Prim.Native.Nat.{ℕ, ◌+◌, ◌*◌, ◌/◌, ◌%◌, ◌^◌, ◌<◌}
 use mathlib.Core.Path.{◌≡◌, refl, sym, ap, ◌∙◌, subst}
 use native.Mathlib.Nat.{mod-lt, one-le-pow}
 use native.Mathlib.Numerals.{add-one}
 use native.Mathlib.Omega.{arith}
 use lib.Dec.{lit<}
-use borrow.Author.Rules.{rules}
 use Rattle.glass.specs.Drawing.{digits_of, point_at}
 use Rattle.glass.specs.Text.{packed, spelt}
 use Rattle.glass.proofs.Texts.{more, at_most, wider, narrow, fit}
@@ -49,14 +48,14 @@ loop-after-smaller c = omega (arith, c.loop-after-test.true)
 
 pub loop-after-preserved : goal.loop-after-preserved
 loop-after-preserved c = (
-      omega (arith, c.loop-after-test.true),
-      more c.args.size c.args.places c.loop-after.after c.loop-after.text c.power.result c.pointed.result c.power.ensures c.loop-after.invariant.1 c.pointed.ensures
-          ∙ ap (λ (k : ℕ). packed (spelt (digits_of k c.args.size c.args.places))) (sym (add-one c.loop-after.after)),
-      subst (λ (k : ℕ). c.pointed.result * 256 + 48 + numeral c < 65536 ^ k) (sym (add-one c.loop-after.after))
-          (wider c.loop-after.text c.pointed.result (numeral c) c.loop-after.after c.loop-after.invariant.2
-          (at_most c.loop-after.text c.pointed.result (point_at c.loop-after.after c.args.places) c.pointed.ensures)
-          (mod-lt (c.args.size / c.power.result) (lit< tt))),
-    )
+  omega (arith, c.loop-after-test.true),
+  more c.args.size c.args.places c.loop-after.after c.loop-after.text c.power.result c.pointed.result c.power.ensures c.loop-after.invariant.1 c.pointed.ensures
+      ∙ ap (λ (k : ℕ). packed (spelt (digits_of k c.args.size c.args.places))) (sym (add-one c.loop-after.after)),
+  subst (λ (k : ℕ). c.pointed.result * 256 + 48 + numeral c < 65536 ^ k) (sym (add-one c.loop-after.after))
+      (wider c.loop-after.text c.pointed.result (numeral c) c.loop-after.after c.loop-after.invariant.2
+      (at_most c.loop-after.text c.pointed.result (point_at c.loop-after.after c.args.places) c.pointed.ensures)
+      (mod-lt (c.args.size / c.power.result) (lit< tt))),
+)
 
 pub returns : goal.returns
 returns c = let e : c.loop-after.after ≡ c.args.n = omega (arith, c.loop-after-test.false, c.loop-after.invariant.0) in

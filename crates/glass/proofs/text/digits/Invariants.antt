@@ -1,13 +1,7 @@
-use Prim.Native.Nat.{ℕ, ◌+◌, ◌*◌, ◌-◌, ◌/◌, ◌%◌, ◌^◌, ◌<◌, ◌≤◌}
-use mathlib.Core.Path.{◌≡◌, refl, sym, ap, ◌∙◌, subst}
-use native.Mathlib.Nat.{mod-lt, one-le-pow}
-use native.Mathlib.Numerals.{add-one}
-use native.Mathlib.Omega.{arith}
-use lib.Dec.{lit<}
-use borrow.Author.Rules.{rules}
-use Rattle.glass.specs.Drawing.{digits_of, point_at}
+use Prim.Native.Nat.{◌-◌, ◌^◌, ◌<◌, ◌≤◌}
+use mathlib.Core.Path.{◌≡◌}
+use Rattle.glass.specs.Drawing.{digits_of}
 use Rattle.glass.specs.Text.{packed, spelt}
-use Rattle.glass.proofs.Texts.{more, at_most, wider, narrow, fit}
 use Rattle.glass.proofs.text.digits.Given as goal
 
 abbrev pub invariant-loop-after : goal.invariant-loop-after

@@ -2,7 +2,6 @@
 use Prim.Native.Nat.{ℕ, ◌+◌, ◌*◌}
 use mathlib.Core.Path.{◌≡◌, refl, sym, ◌∙◌}
 use native.Mathlib.Omega.{arith}
-use borrow.Author.Rules.{rules}
 use Rattle.glass.proofs.text.pointed.Goals as goal
 
 swapped : (t : ℕ) → t * 256 + 46 ≡ 46 + 256 * t

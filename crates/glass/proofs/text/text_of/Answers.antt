@@ -6,7 +6,6 @@ use native.Mathlib.Omega.{arith}
 use lib.IntN.{ℤ, nat_abs}
 use mir.Syntax.{w32}
 use mir.ValLaws.{to_z-of_z}
-use borrow.Author.Rules.{rules}
 use Rattle.glass.specs.Drawing.{digits_of, fewest, fits, is_negative}
 use Rattle.glass.specs.Text.{packed, spelt, text_of}
 use Rattle.glass.specs.declared.Reading.TheVariants.{Number}

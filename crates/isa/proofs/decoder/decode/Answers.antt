@@ -9,7 +9,6 @@ use lib.Dec.{eqb, ltb}
 use mathlib.Core.Logic.{⊎_elim}
 use native.Mathlib.Omega.{arith}
 use types.Run.{OneOf}
-use borrow.Author.Rules.{rules}
 use borrow.Author.Tests.{lt-ltb, eqb-true, ltb-true, ltb-false}
 use Rattle.isa.specs.Code.{bytes_of, in_range, leading, bit_in_range}
 use Rattle.isa.specs.Reading.{decoded, opcodes}

@@ -8,7 +8,6 @@ use Rattle.isa.specs.Code.{bytes_of, in_range}
 use Rattle.isa.specs.declared.Pointer.{Pointer}
 use Rattle.isa.specs.declared.Instruction.{Instruction}
 use Rattle.isa.specs.declared.Instruction.TheVariants as I
-use borrow.Author.Rules.{rules}
 use Rattle.rom.proofs.encoder.encode.Goals as goal
 
 -- an arm knows the instruction

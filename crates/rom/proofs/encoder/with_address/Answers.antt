@@ -1,7 +1,6 @@
 -- `rom::encoder::with_address` meets its contract: each branch rewrites with its test. Assumes nothing.
 use mathlib.Core.Path.{refl}
 use borrow.Author.Tests.{lt-ltb, le-ltb}
-use borrow.Author.Rules.{rules}
 use Rattle.rom.proofs.encoder.with_address.Goals as goal
 
 -- below the limit

@@ -10,7 +10,6 @@ use Rattle.isa.specs.declared.ProgramAddress.{ProgramAddress}
 use Rattle.isa.specs.declared.Condition.{Condition}
 use Rattle.isa.specs.declared.Condition.TheVariants.{Ja}
 use Rattle.isa.specs.declared.Instruction.TheVariants as I
-use borrow.Author.Rules.{rules}
 use Rattle.rom.proofs.encoder.with_condition.Goals as goal
 
 -- the arm of JAn, by whether its bit is one of the four

@@ -6,7 +6,6 @@ use native.Mathlib.Omega.{arith}
 use lib.ListN.{get_or}
 use Rattle.isa.specs.Code.{addresses}
 use Rattle.rom.specs.Fetching.{byte_at, code_at}
-use borrow.Author.Rules.{rules}
 use Rattle.rom.proofs.reader.code_at.Goals as goal
 
 -- the byte k on, from an address or from what is left of it

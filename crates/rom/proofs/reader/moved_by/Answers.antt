@@ -4,7 +4,6 @@ use mathlib.Core.Path.{◌≡◌}
 use native.Mathlib.Omega.{arith}
 use Rattle.isa.specs.Code.{addresses}
 use Rattle.rom.specs.Fetching.{moved_by}
-use borrow.Author.Rules.{rules}
 use Rattle.rom.proofs.reader.moved_by.Goals as goal
 
 same : (a n : ℕ) → (a % addresses + n) % addresses ≡ moved_by n a

@@ -5,7 +5,7 @@ use mathlib.Core.Path.{◌≡◌, refl, sym, ap, ap₂, ◌∙◌}
 use mathlib.Core.Bool.{true, false}
 use mathlib.Core.List.{List}
 use native.Mathlib.Omega.{arith}
-use borrow.Author.Tests.{lt-ltb, le-ltb, not-true, not-false}
+use borrow.Author.Tests.{lt-ltb, le-ltb}
 use Rattle.isa.specs.Reading.{Reading}
 use Rattle.isa.specs.Timing.{length_of, cycles_of}
 use Rattle.isa.specs.Code.{addresses}
@@ -13,7 +13,6 @@ use Rattle.rom.specs.Fetching.{sized, code_at, instruction, with_timing, fetchin
 use Rattle.rom.specs.declared.reader.Code.{Code}
 use Rattle.rom.proofs.Fetching.{read-there, length-code, cycles-code}
 use Rattle.isa.specs.declared.decoder.Decoded.{Decoded}
-use borrow.Author.Rules.{rules}
 use Rattle.rom.proofs.reader.read_at.Goals as goal
 
 -- what stands there, from the code and the decoder's answer

@@ -1,5 +1,4 @@
 -- `rom::timing::cycles` meets its contract: the entry is the list's, and taken apart it gives the columns. Assumes nothing.
-use borrow.Author.Rules.{rules}
 use mathlib.Core.Path.{ap, ◌∙◌}
 use Prim.Native.Nat.{ℕ, ◌%◌}
 use Rattle.isa.proofs.List.{cycles-at}

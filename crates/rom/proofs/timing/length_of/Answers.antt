@@ -1,15 +1,14 @@
 -- `rom::timing::length_of` meets its contract: an arm knows the instruction, at which the columns compute; the last one knows its place.
 -- Assumes nothing.
-use Prim.Native.Nat.{ℕ, zero, suc}
+use Prim.Native.Nat.{ℕ}
 use mathlib.Core.Path.{◌≡◌, refl, sym, ap, ◌∙◌}
 use mathlib.Core.Bool.{Bool, true}
-use mathlib.Core.List.{List, [], ◌∷◌}
+use mathlib.Core.List.{List, []}
 use lib.Dec.{eqb}
 use lib.ListN.{get_or}
 use types.Run.{OneOf}
 use borrow.Enum.Refused.{opened}
 use denote.Enum.Declared.{tag_of}
-use borrow.Author.Rules.{rules}
 use borrow.Author.Tests.{eqb-true}
 use Rattle.isa.specs.contracts.Instruction.{the_type}
 use Rattle.isa.specs.Timing.{Columns, columns, columns_of}
