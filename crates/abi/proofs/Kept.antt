@@ -11,7 +11,7 @@ use Rattle.isa.specs.declared.Pointer.TheVariants.{R1R0, R3R2}
 use Rattle.isa.specs.declared.Condition.{Condition}
 use Rattle.isa.specs.declared.Instruction.{Instruction}
 use Rattle.isa.specs.declared.Instruction.TheVariants as I
-use Rattle.abi.specs.Forms.{Named, numbers, numbers_of, Meant, one, nothing, listed, provided, conditions, branch_named, pair_named}
+use Rattle.abi.specs.Forms.{Named, numbers, numbers_of, Meant, one, listed, provided, conditions, branch_named, pair_named}
 use Rattle.abi.specs.Forms.{Form, plain, number, choice, target, pair, branch, meant, having, forms, named, kept}
 
 -- the first n values of a function

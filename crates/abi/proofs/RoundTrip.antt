@@ -1,6 +1,6 @@
 -- Reading and writing as numbers are inverse, over what the two exported functions promise. The two tables are inverse, what two bytes read as has
 -- these bytes as its code, and each part stands in its own place of an answer. Assumes nothing.
-use Prim.Native.Nat.{ℕ, ◌+◌, ◌*◌, ◌/◌, ◌%◌, ◌^◌, ◌<◌, ◌≤◌}
+use Prim.Native.Nat.{ℕ, ◌+◌, ◌%◌, ◌^◌, ◌<◌}
 use mathlib.Core.Path.{◌≡◌, refl, sym, ap, subst, ◌∙◌}
 use mathlib.Core.Bool.{Bool, true, false, ◌&&◌}
 use mathlib.Core.List.{List, [], ◌∷◌}
@@ -12,7 +12,7 @@ use Rattle.isa.specs.Choice.{pick}
 use Rattle.isa.specs.Code.{addresses, bytes_of, in_range}
 use Rattle.isa.specs.Reading.{Reads, Reading, Entry, undefined, opcodes, complete, decoded}
 use Rattle.isa.specs.Timing.{Columns, length_of, cycles_of}
-use Rattle.rom.specs.Fetching.{refused, sized, Bytes, byte_at, with_timing, fetching}
+use Rattle.rom.specs.Fetching.{refused, sized, byte_at, with_timing, fetching}
 use Rattle.rom.proofs.Fetching.{byte_small, read-bytes, length-bytes, cycles-bytes}
 use Rattle.rom.specs.Writing as Writing
 use Rattle.rom.specs.Writing.{fitting, writing}
@@ -21,8 +21,8 @@ use Rattle.isa.specs.declared.decoder.Decoded.{Decoded}
 use Rattle.isa.specs.declared.decoder.Decoded.TheVariants.{Read, Unreadable}
 use Rattle.isa.proofs.Exact.{and_left, and_right, back, exact, timed}
 use Rattle.abi.specs.Forms.{Named, numbers_of, Meant, one, nothing, named, kept}
-use Rattle.abi.specs.Answers.{packed, packed_named, read_number, form_of, aOf, bOf, size_of, packed_bytes, refusal_of, count_of, first_of, second_of, write_number, writing_by, writing_of}
-use Rattle.abi.specs.RoundTrip.{bytes_at, Gives, ReadThenWrite, WriteThenRead}
+use Rattle.abi.specs.Answers.{packed, packed_named, read_number, form_of, aOf, bOf, size_of, packed_bytes, count_of, first_of, second_of, write_number, writing_by, writing_of}
+use Rattle.abi.specs.RoundTrip.{Gives, ReadThenWrite, WriteThenRead}
 use Rattle.abi.proofs.Inverse as Inverse
 use Rattle.abi.proofs.Inverse.{by_form, inverse}
 use Rattle.abi.proofs.Kept.{named-kept}

@@ -1,5 +1,6 @@
 // Instructions as numbers, for hosts in other languages: an instruction is a form and two operands, and an answer is one number.
 #![tactic(auto)]
+
 mod names;
 mod numbers;
 

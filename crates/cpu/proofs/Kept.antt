@@ -2,7 +2,7 @@
 -- remainder, a nibble made of bits, a value of the machine in the same range, the AND, OR or XOR of two nibbles, half of a byte, two
 -- nibbles put together, or a field of the instruction; and `sound` says that the fields of what two bytes read as are in range. A step
 -- changes only a machine with neither halt nor fault, and sets at most one of the two, so that it never halts with a fault. Assumes nothing.
-use Rattle.std.proofs.Common.{◌≡◌, ℕ, ◌+◌, ◌*◌, ◌/◌, ◌%◌, ◌^◌, ◌<◌, Bool, true, false, ◌&&◌, ◌||◌, eqb, ltb, List, get_or, refl, arith, ltb-true, eqb-true}
+use Rattle.std.proofs.Common.{◌≡◌, ℕ, ◌+◌, ◌*◌, ◌/◌, ◌%◌, ◌^◌, ◌<◌, Bool, true, false, ◌&&◌, ◌||◌, eqb, ltb, List, refl, arith, ltb-true, eqb-true}
 use lib.Bits.{and_lt, or_lt, xor_lt}
 use borrow.Author.Tests.{not-false}
 use Rattle.isa.specs.Choice.{pick}

@@ -1,5 +1,5 @@
 -- The laws of Run: a state that a step does not change is where Run ends, and n steps are one and then the rest. Assumes nothing.
-use Rattle.std.proofs.Common.{◌≡◌, ℕ, zero, suc, ◌+◌, ◌-◌, ◌<◌, List, sym, refl, ap, ◌∙◌, subst, suc-add, zero-add, arith}
+use Rattle.std.proofs.Common.{◌≡◌, ℕ, zero, suc, ◌+◌, ◌-◌, ◌<◌, List, refl, ap, ◌∙◌, subst, suc-add, zero-add, arith}
 use Rattle.cpu.specs.State.{State}
 use Rattle.cpu.specs.Step.{step}
 use Rattle.cpu.specs.Run.{ran}

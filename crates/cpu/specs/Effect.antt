@@ -1,6 +1,6 @@
 -- Document 01, "Effects": what each instruction does, in the order of document 001's summary, on a processor whose PC has moved on
 -- by the length. A fault is set in the status here; `Step` says that it leaves all else as before. Assumes nothing.
-use Rattle.std.specs.Prelude.{ℕ, ◌+◌, ◌-◌, ◌*◌, ◌/◌, ◌%◌, Bool, true, false, not, List, ◌==◌, bit_and, bit_or, bit_xor}
+use Rattle.std.specs.Prelude.{ℕ, ◌+◌, ◌*◌, ◌/◌, ◌%◌, Bool, List, ◌==◌, bit_and, bit_or, bit_xor}
 use Rattle.isa.specs.Choice.{pick}
 use Rattle.rom.specs.Fetching.{byte_at, branch_to}
 use Rattle.datapath.specs.Alu.{summed, subtracted, adjusted, rotated_left, rotated_left_through, rotated_right, rotated_right_through, incremented, decremented, bit_set, not_zero}

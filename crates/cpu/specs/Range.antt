@@ -1,6 +1,6 @@
 -- The ranges of the machine's fields, in document 01's order ("The machine"). Refusal 5 is "machine field outside its range (its
 -- nibbles and options too), .. or halted with a fault"; refusal 4 tests the options alone. Assumes nothing.
-use Rattle.std.specs.Prelude.{ℕ, ◌^◌, Bool, true, false, not, ◌&&◌, ◌||◌, List, [], ◌∷◌, length, ◌==◌, nat_lt}
+use Rattle.std.specs.Prelude.{ℕ, ◌^◌, Bool, true, not, ◌&&◌, ◌||◌, List, [], ◌∷◌, length, ◌==◌, nat_lt}
 use Rattle.cpu.specs.State.{State}
 use Rattle.cpu.specs.declared.Registers.{Registers}
 use Rattle.cpu.specs.declared.Control.{Control}

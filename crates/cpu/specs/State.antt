@@ -10,7 +10,6 @@ use Rattle.cpu.specs.declared.Stack.{Stack}
 use Rattle.cpu.specs.declared.Status.{Status}
 use Rattle.cpu.specs.declared.Outputs.{Outputs}
 use Rattle.cpu.specs.declared.Pins.{Pins}
-use Rattle.cpu.specs.declared.Options.{Options}
 use Rattle.cpu.specs.declared.Cpu.{Cpu}
 
 pub record State : Type 0 where

@@ -3,12 +3,11 @@ use Rattle.std.specs.Prelude.{ℕ, ◌+◌, ◌%◌, ◌^◌, Bool, not, ◌&&�
 use Rattle.isa.specs.Choice.{pick}
 use Rattle.isa.specs.Reading.{fault_number}
 use Rattle.rom.specs.Fetching.{read_at, length_at, cycles_at, moved_by}
-use Rattle.isa.specs.declared.Instruction.{Instruction}
 use Rattle.isa.specs.declared.decoder.Decoded.{Decoded}
 use Rattle.isa.specs.declared.decoder.Decoded.TheVariants.{Read, Unreadable}
 use Rattle.datapath.specs.Timer.{clocks, counted}
 use Rattle.datapath.specs.declared.timer.Count.{Count}
-use Rattle.cpu.specs.State.{State, state, on_cpu, address, with_pc, with_tf, with_count, with_held, with_level, with_stack, with_fault, with_cycles}
+use Rattle.cpu.specs.State.{State, on_cpu, address, with_pc, with_tf, with_count, with_held, with_level, with_stack, with_fault, with_cycles}
 use Rattle.cpu.specs.Effect.{effect}
 use Rattle.cpu.specs.declared.Cpu.{Cpu}
 

@@ -2,6 +2,7 @@
 // Structs of numbers alone are kept in registers once their callees are inlined; the data memory and the count of strays are lent beside them. They are laid out as C
 // does, for hosts that lend a machine.
 #![tactic(auto)]
+
 mod effect;
 mod flow;
 mod moves;

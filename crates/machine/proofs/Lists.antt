@@ -1,33 +1,31 @@
 -- Whole lists of inputs. A power-on that is not refused gives a machine in range, and every input keeps one in range, so every list does;
 -- and machines that the exported functions hand on, one to the next, end where the definition `after` ends. Assumes nothing.
-use Prim.Native.Nat.{ℕ, zero, suc, ◌+◌, ◌%◌, ◌<◌, ◌≤◌, ◌^◌}
-use native.Mathlib.Nat.{le_of_suc-le-suc, not-suc-le-zero}
+use Prim.Native.Nat.{ℕ, zero, suc, ◌+◌, ◌%◌, ◌<◌, ◌^◌}
 use native.Mathlib.Omega.{arith}
-use mathlib.Core.Path.{◌≡◌, refl, sym, ap, subst, ◌∙◌}
+use mathlib.Core.Path.{◌≡◌, refl, sym, ap, ◌∙◌}
 use mathlib.Core.Bool.{Bool, true, false, ◌&&◌}
 use mathlib.Core.List.{List, [], ◌∷◌}
-use lib.Dec.{ltb, eqb, lit<}
+use lib.Dec.{eqb, lit<}
 use lib.ListN.{length, get_or, drop, length-drop}
 use borrow.Author.Tests.{ltb-true, eqb-true, eq-eqb}
 use Rattle.datapath.specs.Memory.{memory_size}
 use Rattle.isa.specs.Choice.{pick}
 use Rattle.isa.proofs.Exact.{and_left, and_right, and_both}
-use Rattle.datapath.specs.Alu.{flag}
 use Rattle.datapath.specs.Timer.{counted}
-use Rattle.cpu.specs.State.{State, state, with_tf, with_halted, with_pins}
+use Rattle.cpu.specs.State.{State, with_tf, with_halted, with_pins}
 use Rattle.cpu.specs.Step.{step, timed}
 use Rattle.cpu.specs.Range.{nibble, nibbles, valid, memory_ok, options_ok}
 use Rattle.cpu.specs.declared.Cpu.{Cpu}
 use Rattle.cpu.specs.declared.Options.{Options}
 use Rattle.cpu.specs.declared.Pins.{Pins}
 use Rattle.cpu.specs.declared.Registers.{Registers}
-use Rattle.cpu.proofs.Ranges.{Valid, CpuIn, RegistersIn, PinsIn, StatusIn, from, to, held_in, tf-in, count-in}
+use Rattle.cpu.proofs.Ranges.{CpuIn, RegistersIn, PinsIn, from, to, held_in, tf-in, count-in}
 use Rattle.rom.specs.Fetching.{Bytes}
 use Rattle.cpu.proofs.Kept.{step-valid}
-use Rattle.machine.specs.Machine.{state_of, machine_of}
-use Rattle.machine.specs.Power.{after_res, reset, powered, power_refusal, answered, power_on}
+use Rattle.machine.specs.Machine.{state_of}
+use Rattle.machine.specs.Power.{after_res, powered, power_refusal, answered, power_on}
 use Rattle.cpu.specs.Run.{ran}
-use Rattle.machine.specs.Events.{woken, wakes, with_ports, with_int, pinned, interrupted, clocked, counting, happened, mask_ok, values_ok, refusal_of, applied, Input, power, named, answer_to, Call, after, Every, Session, ended, calling}
+use Rattle.machine.specs.Events.{woken, wakes, with_int, pinned, interrupted, clocked, counting, happened, mask_ok, values_ok, refusal_of, applied, Input, power, named, answer_to, Call, after, Every, Session, ended, calling}
 use Rattle.machine.specs.Report.{reporting, report, reported}
 use Rattle.machine.specs.Property2.{Property2}
 use Rattle.machine.specs.declared.Machine.{Machine}

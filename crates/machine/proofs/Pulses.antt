@@ -14,7 +14,7 @@ use Rattle.isa.specs.declared.Instruction.TheVariants as I
 use Rattle.rom.specs.Fetching.{byte_at}
 use Rattle.rom.proofs.Fetching.{read-bytes, length-bytes, cycles-bytes}
 use Rattle.datapath.specs.Timer.{clocks, counted}
-use Rattle.cpu.specs.State.{State, state, on_cpu, with_cf, with_pc, with_tf, with_count, with_held, with_level, with_halted, with_cycles}
+use Rattle.cpu.specs.State.{State, state, with_cf, with_pc, with_tf, with_count, with_held, with_level, with_halted, with_cycles}
 use Rattle.cpu.specs.Effect.{effect, returned_with_carry}
 use Rattle.cpu.specs.Step.{ticked, entered, moved, settled, instructed, executed, vector_of, step}
 use Rattle.cpu.specs.declared.Cpu.{Cpu}
@@ -23,7 +23,7 @@ use Rattle.cpu.specs.declared.Status.{Status}
 use Rattle.cpu.proofs.Leaves.{Standing, ticked-same}
 use Rattle.cpu.proofs.Steps.{takes-edge, takes-timer, runs}
 use Rattle.machine.specs.Events.{with_int, woken, clocked, interrupted, counting}
-use Rattle.machine.specs.Pulses.{Sleeps, Overflows, first_step, PulsesAsleep}
+use Rattle.machine.specs.Pulses.{Overflows, first_step, PulsesAsleep}
 
 -- `timed` where it is chosen, with its test apart
 abbrev counts : Bool → Bool → ℕ → Cpu → Cpu

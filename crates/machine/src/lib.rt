@@ -1,5 +1,6 @@
 // The machine: processor, data memory and trace by value, power-on, Run and the other events, display, report and the count's query.
 #![tactic(auto)]
+
 pub mod events;
 pub mod gap;
 pub mod power;

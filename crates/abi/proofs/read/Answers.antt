@@ -5,7 +5,6 @@ use Rattle.rom.specs.Fetching.{Answer, answer_of}
 use Rattle.rom.specs.declared.reader.Fetched.{Fetched}
 use Rattle.abi.specs.Forms.{Named}
 use Rattle.abi.specs.Answers.{packed_named, read_number}
-use borrow.Author.Rules.{rules}
 use Rattle.abi.proofs.read.Goals as goal
 
 -- the number of the reader's answer, at the answer that an arm knows

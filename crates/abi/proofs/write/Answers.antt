@@ -3,7 +3,6 @@ use mathlib.Core.Path.{◌≡◌, sym, ap, ◌∙◌}
 use Rattle.rom.specs.Writing.{Answer, answer_of}
 use Rattle.rom.specs.declared.encoder.Written.{Written}
 use Rattle.abi.specs.Answers.{write_number}
-use borrow.Author.Rules.{rules}
 use Rattle.abi.proofs.write.Goals as goal
 
 -- the number of the encoder's answer, at the answer that an arm knows

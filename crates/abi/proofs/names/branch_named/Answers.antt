@@ -4,7 +4,6 @@ use mathlib.Core.Path.{◌≡◌, sym, ap, ◌∙◌}
 use Rattle.abi.specs.Forms.{branch_named}
 use Rattle.abi.specs.Answers.{writing_by}
 use Rattle.abi.proofs.Arms.{past, no-condition}
-use borrow.Author.Rules.{rules}
 use Rattle.abi.proofs.names.branch_named.Goals as goal
 
 -- an arm knows the operand a

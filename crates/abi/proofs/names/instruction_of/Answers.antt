@@ -5,7 +5,6 @@ use Rattle.isa.specs.declared.Instruction.TheVariants as I
 use Rattle.abi.specs.Answers.{writing_by}
 use Rattle.abi.specs.Forms.{forms, named}
 use Rattle.abi.proofs.Arms.{at, at_both, past, no_pointer, no-port, no-page, no-form}
-use borrow.Author.Rules.{rules}
 use Rattle.abi.proofs.names.instruction_of.Goals as goal
 
 -- ADD A,[R1R0]

@@ -8,7 +8,6 @@ use Rattle.isa.specs.declared.Instruction.TheVariants as I
 use Rattle.abi.specs.Forms.{pair_named}
 use Rattle.abi.specs.Answers.{writing_by}
 use Rattle.abi.proofs.Arms.{past, no_pointer}
-use borrow.Author.Rules.{rules}
 use Rattle.abi.proofs.names.pair_named.Goals as goal
 
 -- XX over 255

@@ -3,7 +3,6 @@ use Prim.Native.Nat.{ℕ, ◌+◌, ◌*◌}
 use mathlib.Core.Path.{◌≡◌, sym, ap, ◌∙◌}
 use Rattle.isa.specs.declared.Instruction.{Instruction}
 use Rattle.abi.specs.Forms.{numbers, numbers_of}
-use borrow.Author.Rules.{rules}
 use Rattle.abi.proofs.numbers.numbers_of.Goals as goal
 
 -- an arm knows the instruction

@@ -2,7 +2,7 @@
 -- marks that were written and what is named. Assumes nothing.
 use mathlib.Core.Path.{refl, sym, ap, subst, ◌∙◌}
 use mathlib.Core.Bool.{true≢false}
-use borrow.Author.Tests.{eq-eqb, ne_eqb, not-true, not-false}
+use borrow.Author.Tests.{eq-eqb, ne_eqb}
 use Rattle.checker.specs.Verdicts.{marks_size, Answers, number_of}
 use Rattle.checker.proofs.Answer.{answered, not-refused}
 use borrow.Author.Rules.{rules}
@@ -21,6 +21,9 @@ returns-then-marks-ne-MARKS c =
 pub returns : goal.returns
 returns c =
     let full = sym c.mask_ok.ensures ∙ c.if-not-mask_ok.false in
-    record { answers = subst (Answers c.args.mask.now c.args.marks.now c.pack.new.marks) (sym c.judge.ensures)
+    record {
+      answers = subst (Answers c.args.mask.now c.args.marks.now c.pack.new.marks) (sym c.judge.ensures)
           (answered c.args.mask.now c.walk-named.new.seen c.walk-named.ensures.found c.walk-named.result c.walk-named.ensures.names c.args.marks.now c.pack.new.marks full
-          c.if-marks-ne-MARKS.false c.pack.ensures); result_value = ap number_of c.judge.ensures ∙ not-refused c.walk-named.result ∙ rw (full, eq-eqb _ marks_size c.if-marks-ne-MARKS.false) refl }
+          c.if-marks-ne-MARKS.false c.pack.ensures);
+      result_value = ap number_of c.judge.ensures ∙ not-refused c.walk-named.result ∙ rw (full, eq-eqb _ marks_size c.if-marks-ne-MARKS.false) refl;
+    }

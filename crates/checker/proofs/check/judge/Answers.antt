@@ -1,7 +1,6 @@
 -- `checker::check::judge` meets its contract: the two ways are the definition's two cases. Assumes nothing.
 use mathlib.Core.Path.{refl}
 use borrow.Author.Tests.{lt-ltb, le-ltb}
-use borrow.Author.Rules.{rules}
 use Rattle.checker.specs.Walk.{pairs}
 use Rattle.checker.proofs.check.judge.Goals as goal
 

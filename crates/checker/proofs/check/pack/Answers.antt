@@ -1,5 +1,5 @@
 -- `checker::check::pack` meets its contract. The loop's invariant: the marks before `address` are written. Assumes nothing.
-use Prim.Native.Nat.{ℕ, ◌+◌, ◌-◌, ◌*◌, ◌≤◌, ◌<◌}
+use Prim.Native.Nat.{ℕ, ◌+◌, ◌*◌, ◌<◌}
 use mathlib.Core.Path.{◌≡◌, sym, ap, ◌∙◌}
 use mathlib.Core.List.{List}
 use native.Mathlib.Omega.{arith}
@@ -38,12 +38,11 @@ overflow_add-marks-in-loop-address-3 c =
     omega (arith, c.requires.by_index (c.loop-address.address * 3), c.requires.by_index (c.loop-address.address * 3 + 1), c.requires.by_index (c.loop-address.address * 3 + 2))
 
 pub loop-address-preserved : goal.loop-address-preserved
-loop-address-preserved c =
-    (
-      omega arith,
-      length-set c.loop-address.marks c.loop-address.address (mark_of c.args.seen.now c.loop-address.address) ∙ c.loop-address.invariant.1,
-      more c.args.seen.now c.loop-address.marks c.loop-address.address c.loop-address.invariant.1 c.loop-address-test.true c.loop-address.invariant.2,
-    )
+loop-address-preserved c = (
+  omega arith,
+  length-set c.loop-address.marks c.loop-address.address (mark_of c.args.seen.now c.loop-address.address) ∙ c.loop-address.invariant.1,
+  more c.args.seen.now c.loop-address.marks c.loop-address.address c.loop-address.invariant.1 c.loop-address-test.true c.loop-address.invariant.2,
+)
 
 pub returns : goal.returns
 returns c =

@@ -1,7 +1,6 @@
 -- `checker::flow::flow_at` meets its contract: the flow of the bytes at the address is the definition's. Assumes nothing.
 use mathlib.Core.Path.{◌∙◌}
 use Rattle.checker.proofs.Successors.{flow-there}
-use borrow.Author.Rules.{rules}
 use Rattle.checker.proofs.flow.flow_at.Goals as goal
 
 pub returns : goal.returns

@@ -9,7 +9,6 @@ use Rattle.checker.specs.Marks.{flow_of}
 use Rattle.checker.specs.declared.flow.Flow.{Flow}
 use Rattle.checker.specs.declared.flow.Flow.TheVariants.{Unread, On, Enable, Jump, To, Sub, Back}
 use Rattle.checker.proofs.Flows.{in-run, nibble-run, over-run, halt-run, other-halt}
-use borrow.Author.Rules.{rules}
 use Rattle.checker.proofs.flow.flow_by.Goals as goal
 
 abbrev all : Flow → ℕ → Flow

@@ -20,7 +20,6 @@ use Rattle.checker.specs.Verdicts.{rank}
 use Rattle.checker.specs.Walk.{next_codes, fault_at}
 use Rattle.checker.proofs.Reach.{Targets}
 use Rattle.checker.proofs.Successors.{flow-there, handed-on, fault-flow, next-flow, next-targets}
-use borrow.Author.Rules.{rules}
 use Rattle.checker.proofs.next.next_codes.Goals as goal
 
 -- a fault that is a number from 1 on

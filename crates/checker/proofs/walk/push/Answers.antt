@@ -1,6 +1,5 @@
 -- `checker::walk::push` meets its contract: the two ways are the definition's two cases, and a code that is not found yet has a place in the
 -- queue. Assumes nothing.
-use borrow.Author.Rules.{rules}
 use Rattle.reach.specs.Walk.{work}
 use Rattle.reach.proofs.Count.{push-new, push-old, room-left}
 use Rattle.checker.proofs.walk.push.Goals as goal

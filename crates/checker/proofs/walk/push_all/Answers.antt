@@ -7,7 +7,6 @@ use Rattle.reach.proofs.Count.{room-pushed}
 use Rattle.checker.specs.Walk.{pairs, codes_of}
 use Rattle.checker.specs.declared.next.Codes.{Codes}
 use Rattle.checker.specs.declared.next.Codes.TheVariants.{Forbidden, Nothing, One, Two, Three}
-use borrow.Author.Rules.{rules}
 use Rattle.checker.proofs.walk.push_all.Goals as goal
 
 -- a list's codes are in range where they are these codes

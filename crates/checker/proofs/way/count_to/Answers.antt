@@ -1,6 +1,6 @@
 -- `checker::way::count_to` meets its contract. The loop's invariant: however many places there are to `place`, there are `count - 1` more to
 -- the end. Assumes nothing.
-use Prim.Native.Nat.{ℕ, suc, ◌+◌, ◌-◌, ◌≤◌, ◌<◌}
+use Prim.Native.Nat.{ℕ, suc, ◌+◌, ◌-◌}
 use mathlib.Core.Path.{◌≡◌, subst}
 use native.Mathlib.Omega.{arith}
 use Rattle.reach.specs.Trail.{Counted, origin, onward}
@@ -18,13 +18,12 @@ pub loop-place-smaller : goal.loop-place-smaller
 loop-place-smaller c = c.place_before-place.ensures.earlier
 
 pub loop-place-preserved : goal.loop-place-preserved
-loop-place-preserved c =
-    (
-      omega arith,
-      omega arith,
-      λ n d. let e : suc n + (c.loop-place.count - 1) ≡ n + (c.loop-place.count + 1 - 1) = omega arith in
-          subst (Counted c.args.starts.now c.args.end) e (c.loop-place.invariant.2 (suc n) (onward c.place_before-place.ensures d)),
-    )
+loop-place-preserved c = (
+  omega arith,
+  omega arith,
+  λ n d. let e : suc n + (c.loop-place.count - 1) ≡ n + (c.loop-place.count + 1 - 1) = omega arith in
+      subst (Counted c.args.starts.now c.args.end) e (c.loop-place.invariant.2 (suc n) (onward c.place_before-place.ensures d)),
+)
 
 pub returns : goal.returns
 returns c =

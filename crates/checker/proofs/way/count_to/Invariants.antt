@@ -1,7 +1,5 @@
-use Prim.Native.Nat.{ℕ, suc, ◌+◌, ◌-◌, ◌≤◌, ◌<◌}
-use mathlib.Core.Path.{◌≡◌, subst}
-use native.Mathlib.Omega.{arith}
-use Rattle.reach.specs.Trail.{Counted, origin, onward}
+use Prim.Native.Nat.{ℕ, ◌+◌, ◌-◌, ◌≤◌, ◌<◌}
+use Rattle.reach.specs.Trail.{Counted}
 use Rattle.checker.proofs.way.count_to.Given as goal
 
 abbrev pub invariant-loop-place : goal.invariant-loop-place

@@ -2,7 +2,6 @@
 use mathlib.Core.Path.{refl}
 use native.Mathlib.Omega.{arith}
 use Rattle.checker.specs.Trail.{ShortOf}
-use borrow.Author.Rules.{rules}
 use Rattle.checker.proofs.way.list_to.Goals as goal
 
 pub count_to-count-requires : goal.count_to-count-requires

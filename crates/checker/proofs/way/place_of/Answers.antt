@@ -1,12 +1,11 @@
 -- `checker::way::place_of` meets its contract. The loop's invariant: the code stands at no place before `place`. At the last place it must stand.
 -- Assumes nothing.
-use Prim.Native.Nat.{ℕ, ◌-◌, ◌≤◌, ◌<◌}
+use Prim.Native.Nat.{ℕ, ◌≤◌, ◌<◌}
 use mathlib.Core.Path.{◌≡◌, subst}
 use native.Mathlib.Omega.{arith}
 use native.Mathlib.Decide.{dec_le}
 use lib.ListN.{get_or}
 use borrow.Author.Count.{below_more}
-use Rattle.checker.specs.Walk.{pairs}
 use Rattle.checker.proofs.way.place_of.Goals as goal
 
 -- no place before it holds the code

@@ -6,7 +6,6 @@ use mathlib.Core.Path.{◌≡◌, refl, ap, ◌∙◌}
 use mathlib.Core.List.{List, ◌∷◌}
 use lib.ListN.{length, drop, take, set, length-set}
 use lib.Seq.{set_split, drop_at, length-take-le}
-use borrow.Author.Rules.{rules}
 use Rattle.checker.specs.Ways.{listed}
 use Rattle.checker.proofs.way.put.Goals as goal
 

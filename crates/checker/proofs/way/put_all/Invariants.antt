@@ -1,14 +1,10 @@
-use Prim.Native.Nat.{ℕ, ◌+◌, ◌-◌, ◌*◌, ◌≤◌, ◌<◌}
-use mathlib.Core.Path.{◌≡◌, refl, sym, ap, subst, ◌∙◌}
-use mathlib.Core.List.{List, [], ◌∷◌, ◌++◌}
-use native.Mathlib.Omega.{arith}
-use lib.ListN.{length, get_or, drop}
-use lib.Seq.{drop-drop}
-use Rattle.reach.specs.Trail.{Counted, Up, stay, climb, Before}
-use Rattle.reach.proofs.Back.{counted-some, counted-origin, counted_back}
-use Rattle.checker.specs.Walk.{pair_of}
+use Prim.Native.Nat.{ℕ, ◌+◌, ◌*◌, ◌≤◌}
+use mathlib.Core.Path.{◌≡◌}
+use mathlib.Core.List.{List, ◌++◌}
+use lib.ListN.{length, drop}
+use Rattle.reach.specs.Trail.{Counted, Up}
 use Rattle.checker.specs.Ways.{listed}
-use Rattle.checker.specs.Trail.{pairs_at, Listings}
+use Rattle.checker.specs.Trail.{pairs_at}
 use Rattle.checker.proofs.way.put_all.Given as goal
 
 pub record Putting (old queue starts : List ℕ) (last count : ℕ) (list : List ℕ) (place left : ℕ) : Type 0 where

@@ -4,8 +4,6 @@ use mathlib.Core.Path.{◌≡◌, refl, sym, ◌∙◌}
 use mathlib.Core.Bool.{true, true≢false}
 use mathlib.Core.List.{List}
 use Prim.Native.Nat.{ℕ}
-use borrow.Author.Rules.{rules}
-use borrow.Author.Tests.{not-true, not-false}
 use Rattle.rom.specs.Fetching.{sized}
 use Rattle.checker.proofs.Answer.{safe}
 use Rattle.checker.proofs.Ways.{standing, answered}
@@ -18,11 +16,10 @@ abbrev mask-of-list_to-requires : goal.After-starts-then-named-lt-NO_PAIR-1 → 
 mask-of-list_to-requires w = w.args.mask.now
 
 pub list_to-requires : goal.list_to-requires
-list_to-requires c =
-    (
-      standing (mask-of-list_to-requires c) c.walk-named.new.seen c.walk-named.new.queue c.walk-named.new.starts c.walk-named.ensures.found c.walk-named.ensures.traced c.walk-named.result c.walk-named.ensures.names c.if-named-lt-NO_PAIR.true,
-      c.walk-named.ensures.traced.trail.opens,
-    )
+list_to-requires c = (
+  standing (mask-of-list_to-requires c) c.walk-named.new.seen c.walk-named.new.queue c.walk-named.new.starts c.walk-named.ensures.found c.walk-named.ensures.traced c.walk-named.result c.walk-named.ensures.names c.if-named-lt-NO_PAIR.true,
+  c.walk-named.ensures.traced.trail.opens,
+)
 
 abbrev mask-of-returns-then-named-lt-NO_PAIR : goal.After-slice_known-then-named-lt-NO_PAIR-1 → List ℕ
 mask-of-returns-then-named-lt-NO_PAIR w = w.args.mask.now

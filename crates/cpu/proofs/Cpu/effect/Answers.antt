@@ -1,6 +1,6 @@
 -- `cpu::Cpu::effect` meets its contract: an arm knows the instruction, at which the definition computes, and hands over what its
 -- calls ensure. Assumes nothing.
-use Rattle.std.proofs.Common.{◌≡◌, ℕ, ◌+◌, ◌*◌, ◌/◌, ◌%◌, Bool, true, false, List, [], ◌∷◌, sym, refl, ap, ◌∙◌, ap₂, rules}
+use Rattle.std.proofs.Common.{◌≡◌, ℕ, ◌+◌, ◌*◌, ◌/◌, ◌%◌, Bool, true, false, List, [], ◌∷◌, sym, refl, ap, ◌∙◌, ap₂}
 use lib.Bits.{bit_and, bit_or, bit_xor}
 use Rattle.isa.specs.Choice.{pick}
 use Rattle.rom.specs.Fetching.{branch_to, byte_at}

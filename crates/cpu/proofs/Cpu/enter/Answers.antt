@@ -1,5 +1,5 @@
 -- `cpu::Cpu::enter` meets its contract: the cycles go by on the processor that the code makes. Assumes nothing.
-use Rattle.std.proofs.Common.{◌≡◌, ℕ, Bool, true, false, eqb, refl, ap, ◌∙◌, ap₂, rules}
+use Rattle.std.proofs.Common.{◌≡◌, ℕ, Bool, true, false, eqb, refl, ap, ◌∙◌, ap₂}
 use Rattle.isa.specs.Choice.{pick}
 use Rattle.cpu.specs.State.{with_held, with_tf}
 use Rattle.cpu.specs.Step.{entered}

@@ -12,7 +12,7 @@ use Rattle.rom.specs.Fetching.{code_at, length_at, cycles_at, moved_by}
 use Rattle.datapath.specs.Memory.{strays, tallied}
 use Rattle.cpu.specs.State.{State, state, address, with_pc}
 use Rattle.cpu.specs.Effect.{effect}
-use Rattle.cpu.specs.Step.{instructed, executed}
+use Rattle.cpu.specs.Step.{instructed}
 use Rattle.cpu.specs.declared.Cpu.{Cpu}
 use Rattle.cpu.proofs.Leaves.{Standing, ticked-same}
 use Rattle.cpu.proofs.Steps.{size-read, cycles-read, fetched, read, Ended, whole}
@@ -47,7 +47,7 @@ returns-then-after-ne0 c =
     let after = c.effect-after in
     let faults = c.if-after-ne0.true in
     let e = (ended mask s (state after.result after.new.memory) code.result c.decode.result i c.length_of-size.result c.moved_by-next.result code.ensures (omega arith) c.decode.ensures c.in-Read.is
-      c.length_of-size.ensures c.moved_by-next.ensures after.ensures.memory_after).in-fault c.requires faults in
+    c.length_of-size.ensures c.moved_by-next.ensures after.ensures.memory_after).in-fault c.requires faults in
     record {
       memory_after = e;
       gap_after =
@@ -67,7 +67,7 @@ returns c =
     let on = c.if-after-ne0.false in
     let told = cycles-read mask s code.result c.decode.result code.ensures (omega arith) c.decode.ensures i c.in-Read.is in
     let e = (ended mask s (state after.result after.new.memory) code.result c.decode.result i c.length_of-size.result c.moved_by-next.result code.ensures (omega arith) c.decode.ensures c.in-Read.is
-      c.length_of-size.ensures c.moved_by-next.ensures after.ensures.memory_after).in-time spent.result on (spent.ensures ∙ told) c.tick.ensures in
+    c.length_of-size.ensures c.moved_by-next.ensures after.ensures.memory_after).in-time spent.result on (spent.ensures ∙ told) c.tick.ensures in
     let none : c.tick.result.status.fault ≡ 0 = ap (λ (x : Cpu). x.status.fault) c.tick.ensures ∙ ap (λ (x : Standing). x.fault) (ticked-same spent.result after.result) ∙ on in
     record {
       memory_after = e;

@@ -1,5 +1,5 @@
 -- `cpu::Cpu::go_on` meets its contract: a vector other than 0 is 8 or 4, and each is one of the definition's interrupts. Assumes nothing.
-use Rattle.std.proofs.Common.{◌≡◌, ℕ, Bool, true, false, eqb, List, sym, refl, ap, ◌∙◌, arith, rules, ne_eqb, eqb-true}
+use Rattle.std.proofs.Common.{◌≡◌, ℕ, Bool, true, false, eqb, List, sym, refl, ap, ◌∙◌, arith, eqb-true}
 use borrow.Author.Tests.{eqb-false}
 use Rattle.isa.specs.Choice.{pick}
 use Rattle.cpu.specs.State.{State, state, on_cpu, with_held, with_tf}

@@ -35,14 +35,12 @@ rest mask n s t k l h e =
 -- halted from the start
 pub returns-then-self-ne0 : goal.returns-then-self-ne0
 returns-then-self-ne0 c =
-
     let answer = halted c.args.mask.now c.args.steps (state c.args.self c.args.memory.now) c.args.gap.now c.if-self-ne0.true in
     record { memory_after = answer.0; gap_after = answer.1 }
 
 -- a fault from the start
 pub returns-then-self-ne0-2 : goal.returns-then-self-ne0-2
 returns-then-self-ne0-2 c =
-
     let answer = faulted c.args.mask.now c.args.steps (state c.args.self c.args.memory.now) c.args.gap.now c.if-self-ne0.false c.if-self-ne0-2.true in
     record { memory_after = answer.0; gap_after = answer.1 }
 

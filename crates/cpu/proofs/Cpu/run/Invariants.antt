@@ -1,12 +1,8 @@
-use Rattle.std.proofs.Common.{◌≡◌, ℕ, zero, suc, ◌-◌, ◌<◌, ◌≤◌, List, refl, ap, ◌∙◌, ap₂, arith}
+use Rattle.std.proofs.Common.{◌≡◌}
 use Rattle.datapath.specs.Memory.{tallied}
-use Rattle.cpu.specs.State.{State, state}
-use Rattle.cpu.specs.Step.{step}
-use Rattle.cpu.specs.Gap.{strays_by, strays_in}
-use Rattle.cpu.proofs.Steps.{halted-stops, fault-stops}
-use Rattle.cpu.specs.Run.{ran, yielded}
-use Rattle.cpu.proofs.Runs.{ran-stopped, ran-next}
-use Rattle.cpu.proofs.Strays.{halted-counts-none, fault-counts-none, stopped-counts-none, next-counts}
+use Rattle.cpu.specs.State.{state}
+use Rattle.cpu.specs.Gap.{strays_in}
+use Rattle.cpu.specs.Run.{ran}
 use Rattle.cpu.proofs.Cpu.run.Given as goal
 
 abbrev pub invariant-loop-left : goal.invariant-loop-left

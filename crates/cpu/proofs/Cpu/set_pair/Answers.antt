@@ -1,5 +1,5 @@
 -- `cpu::Cpu::set_pair` meets its contract: an arm knows the value, at which the definition computes. Assumes nothing.
-use Rattle.std.proofs.Common.{sym, ap, ◌∙◌, rules}
+use Rattle.std.proofs.Common.{sym, ap, rules}
 use Rattle.cpu.specs.Effect.{with_pair}
 use Rattle.isa.specs.declared.Pointer.{Pointer}
 use Rattle.cpu.proofs.Cpu.set_pair.Goals as goal

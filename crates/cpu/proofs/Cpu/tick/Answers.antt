@@ -1,5 +1,5 @@
 -- `cpu::Cpu::tick` meets its contract: the clocks, the count and the cycle count are the definitions'. Assumes nothing.
-use Rattle.std.proofs.Common.{ℕ, ap, ◌∙◌, rules}
+use Rattle.std.proofs.Common.{ap, ◌∙◌, rules}
 use Rattle.datapath.specs.Timer.{counted}
 use Rattle.datapath.specs.declared.timer.Count.{Count}
 use Rattle.cpu.specs.Step.{timed}

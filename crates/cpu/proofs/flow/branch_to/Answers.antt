@@ -1,5 +1,5 @@
 -- `cpu::flow::branch_to` meets its contract: each return rewrites with its test. Assumes nothing.
-use Rattle.std.proofs.Common.{refl, rules}
+use Rattle.std.proofs.Common.{refl}
 use Rattle.cpu.proofs.flow.branch_to.Goals as goal
 
 pub returns-then-taken : goal.returns-then-taken

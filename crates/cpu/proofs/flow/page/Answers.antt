@@ -1,5 +1,5 @@
 -- `cpu::flow::page` meets its contract: an arm knows the value, at which the definition computes. Assumes nothing.
-use Rattle.std.proofs.Common.{ℕ, ◌/◌, ◌%◌, sym, ap, ◌∙◌, arith, rules}
+use Rattle.std.proofs.Common.{ℕ, ◌/◌, ◌%◌, sym, ap, ◌∙◌, arith}
 use Rattle.isa.specs.declared.Page.{Page}
 use Rattle.cpu.specs.Effect.{page_of}
 use Rattle.cpu.proofs.flow.page.Goals as goal

@@ -9,7 +9,6 @@ use Rattle.machine.specs.declared.Machine.{Machine}
 use Rattle.machine.specs.declared.events.Event.{Event}
 use Rattle.machine.specs.declared.events.Event.TheVariants.{Run, Res}
 use Rattle.machine.specs.contracts.events.Event.{the_type}
-use borrow.Author.Rules.{rules}
 use borrow.Enum.Refused.{opened}
 use Rattle.machine.proofs.Machine.apply.Goals as goal
 

@@ -2,7 +2,6 @@
 use mathlib.Core.Path.{sym, ap, ◌∙◌}
 use Rattle.machine.specs.Events.{named_answer}
 use Rattle.machine.specs.declared.events.Named.{Named}
-use borrow.Author.Rules.{rules}
 use Rattle.machine.proofs.Machine.apply_named.Goals as goal
 
 pub returns-in-Known : goal.returns-in-Known

@@ -1,13 +1,11 @@
 -- `machine::Machine::blank` meets its contract: the code builds the definition's record. Assumes nothing.
 use mathlib.Core.Path.{ap₂}
-use Prim.Native.Nat.{ℕ}
 use lib.ListN.{replicate}
 use Rattle.cpu.specs.declared.Cpu.{Cpu}
 use Rattle.machine.specs.declared.Trace.{Trace}
 use Rattle.machine.specs.Machine.{machine_of}
 use Rattle.cpu.specs.State.{state}
 use Rattle.machine.specs.Power.{blank}
-use borrow.Author.Rules.{rules}
 use Rattle.datapath.specs.Memory.{memory_size}
 use Rattle.machine.proofs.Machine.blank.Goals as goal
 

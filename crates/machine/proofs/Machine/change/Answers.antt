@@ -7,7 +7,6 @@ use Rattle.machine.specs.Events.{applied, happened, mask_ok, refusal_of}
 use Rattle.machine.specs.declared.events.Event.{Event}
 use Rattle.machine.specs.declared.events.Event.TheVariants.{Run, Pins, Int, Tmclk, Res}
 use Rattle.machine.proofs.Answers.{refused, done}
-use borrow.Author.Rules.{rules}
 use Rattle.machine.proofs.Machine.change.Goals as goal
 
 -- an event other than Run has no mask to test

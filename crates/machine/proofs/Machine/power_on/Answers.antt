@@ -15,7 +15,6 @@ use Rattle.machine.specs.Machine.{machine_of}
 use Rattle.machine.specs.declared.Trace.{Trace}
 use Rattle.machine.specs.Power.{powered, power_on, power_refusal}
 use Rattle.machine.proofs.Answers.{refused, done}
-use borrow.Author.Rules.{rules}
 use Rattle.machine.proofs.Machine.power_on.Goals as goal
 
 -- what is not refused has its 166 nibbles

@@ -3,7 +3,6 @@ use mathlib.Core.Path.{refl, sym, ap, ◌∙◌}
 use borrow.Author.Tests.{eq-eqb, ne_eqb}
 use Rattle.machine.specs.Machine.{no_trace}
 use Rattle.machine.specs.Report.{report, reporting}
-use borrow.Author.Rules.{rules}
 use Rattle.machine.proofs.Machine.report.Goals as goal
 
 pub returns-then-out-ne48 : goal.returns-then-out-ne48

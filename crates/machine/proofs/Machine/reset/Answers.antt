@@ -4,7 +4,6 @@ use Rattle.cpu.specs.declared.Cpu.{Cpu}
 use Rattle.cpu.specs.State.{state}
 use Rattle.machine.specs.Machine.{machine_of}
 use Rattle.machine.specs.Events.{happened, mask_ok, values_ok, refusal_of, applied}
-use borrow.Author.Rules.{rules}
 use Rattle.machine.proofs.Machine.reset.Goals as goal
 
 pub returns-then-sound : goal.returns-then-sound

@@ -6,7 +6,6 @@ use Rattle.machine.specs.Machine.{machine_of, trace_of}
 use Rattle.machine.specs.Events.{applied, happened, refusal_of}
 use Rattle.machine.specs.declared.events.Event.TheVariants.{Run}
 use Rattle.machine.proofs.Answers.{refused, done}
-use borrow.Author.Rules.{rules}
 use Rattle.machine.proofs.Machine.run.Goals as goal
 
 pub returns-then-judged-ne0 : goal.returns-then-judged-ne0

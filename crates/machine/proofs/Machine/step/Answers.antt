@@ -11,7 +11,6 @@ use Rattle.machine.specs.Machine.{state_of, machine_of, trace_of}
 use Rattle.machine.specs.Events.{happened, refusal_of, applied}
 use Rattle.machine.specs.declared.events.Event.TheVariants.{Run}
 use Rattle.machine.proofs.Answers.{refused, done}
-use borrow.Author.Rules.{rules}
 use Rattle.machine.proofs.Machine.step.Goals as goal
 
 -- a step counts what a Run of one step does

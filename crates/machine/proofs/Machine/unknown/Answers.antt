@@ -1,6 +1,5 @@
 -- `machine::Machine::unknown` meets its contract: 7, or 5 where the machine is out of range. Assumes nothing.
 use mathlib.Core.Path.{refl, sym, ◌∙◌}
-use borrow.Author.Rules.{rules}
 use Rattle.machine.proofs.Machine.unknown.Goals as goal
 
 pub returns-then-sound : goal.returns-then-sound

@@ -12,8 +12,6 @@ use Rattle.machine.specs.declared.events.Event.TheVariants.{Run, Pins, Int, Tmcl
 use Rattle.machine.specs.contracts.events.Event.{the_type}
 use Rattle.machine.specs.Machine.{machine_of}
 use Rattle.machine.specs.Events.{happened}
-use borrow.Author.Rules.{rules}
-use borrow.Enum.Refused.{opened}
 use Rattle.machine.proofs.events.changed.Goals as goal
 
 -- what an arm makes of the processor, at the arm's event

@@ -1,12 +1,11 @@
 -- `machine::events::counting` meets its contract: the test, the count and the flag are the definitions'. Assumes nothing.
-use mathlib.Core.Path.{◌≡◌, refl, sym, ap, ◌∙◌}
-use mathlib.Core.Bool.{Bool, true, false}
+use mathlib.Core.Path.{sym, ap, ◌∙◌}
+use mathlib.Core.Bool.{Bool}
 use Rattle.isa.specs.Choice.{pick}
 use Rattle.datapath.specs.declared.timer.Count.{Count}
 use Rattle.datapath.specs.Timer.{counted}
 use Rattle.cpu.specs.Step.{timed}
-use Rattle.machine.specs.Events.{clocked, counting}
-use borrow.Author.Rules.{rules}
+use Rattle.machine.specs.Events.{counting}
 use Rattle.machine.proofs.events.counting.Goals as goal
 
 pub returns-then-clocked : goal.returns-then-clocked

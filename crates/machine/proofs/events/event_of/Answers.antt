@@ -2,7 +2,6 @@
 use mathlib.Core.Path.{refl}
 use borrow.Author.Tests.{ne_eqb}
 use Rattle.machine.specs.Events.{event_of}
-use borrow.Author.Rules.{rules}
 use Rattle.machine.proofs.events.event_of.Goals as goal
 
 pub returns-in-2 : goal.returns-in-2

@@ -13,7 +13,6 @@ use Rattle.machine.specs.declared.events.Event.TheVariants.{Run, Res}
 use Rattle.machine.specs.contracts.events.Event.{the_type}
 use Rattle.machine.specs.Machine.{machine_of, trace_of}
 use Rattle.machine.specs.Events.{happened}
-use borrow.Author.Rules.{rules}
 use borrow.Enum.Refused.{opened}
 use Rattle.machine.proofs.events.happened.Goals as goal
 

@@ -1,8 +1,7 @@
 -- `machine::events::interrupted` meets its contract: each return rewrites with the tests that led there. Assumes nothing.
-use mathlib.Core.Path.{◌≡◌, refl, sym, ap, ◌∙◌}
+use mathlib.Core.Path.{refl, ap, ◌∙◌}
 use borrow.Author.Tests.{eq-eqb, ne_eqb}
 use Rattle.machine.specs.Events.{interrupted, with_int}
-use borrow.Author.Rules.{rules}
 use Rattle.machine.proofs.events.interrupted.Goals as goal
 
 pub returns-then-c-ne1 : goal.returns-then-c-ne1

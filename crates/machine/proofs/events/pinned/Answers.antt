@@ -1,10 +1,8 @@
 -- `machine::events::pinned` meets its contract: the test and the ports are the definitions'. Assumes nothing.
-use mathlib.Core.Path.{◌≡◌, refl, sym, ap, ◌∙◌}
+use mathlib.Core.Path.{sym, ap, ◌∙◌}
 use mathlib.Core.Bool.{Bool}
 use Rattle.isa.specs.Choice.{pick}
-use Rattle.cpu.specs.declared.Cpu.{Cpu}
-use Rattle.machine.specs.Events.{pinned, wakes, with_ports, woken}
-use borrow.Author.Rules.{rules}
+use Rattle.machine.specs.Events.{pinned, with_ports, woken}
 use Rattle.machine.proofs.events.pinned.Goals as goal
 
 pub returns-then-wakes : goal.returns-then-wakes

@@ -1,7 +1,6 @@
 -- `machine::events::refusal` meets its contract: each return rewrites with the tests that led there. Assumes nothing.
 use mathlib.Core.Path.{refl, sym, ◌∙◌}
 use Rattle.machine.specs.Events.{refusal_of}
-use borrow.Author.Rules.{rules}
 use Rattle.machine.proofs.events.refusal.Goals as goal
 
 pub returns-then-sound : goal.returns-then-sound

@@ -3,7 +3,6 @@ use mathlib.Core.Path.{sym, ap, ◌∙◌}
 use mathlib.Core.Bool.{Bool, ◌&&◌}
 use Rattle.machine.specs.Events.{values_ok}
 use lib.Dec.{ltb}
-use borrow.Author.Rules.{rules}
 use Rattle.machine.proofs.events.values_ok.Goals as goal
 
 pub returns-in-Run : goal.returns-in-Run

@@ -1,8 +1,6 @@
 -- `machine::events::wakes` meets its contract: each return rewrites with the tests that led there. Assumes nothing.
-use mathlib.Core.Path.{refl, sym, ap, ◌∙◌}
-use mathlib.Core.Bool.{not}
+use mathlib.Core.Path.{refl, sym, ◌∙◌}
 use borrow.Author.Tests.{eq-eqb, ne_eqb}
-use borrow.Author.Rules.{rules}
 use Rattle.machine.proofs.events.wakes.Goals as goal
 
 pub returns-then-c-ne1 : goal.returns-then-c-ne1

@@ -6,7 +6,6 @@ use Rattle.cpu.specs.State.{state}
 use Rattle.machine.specs.declared.Trace.{Trace}
 use Rattle.machine.specs.Machine.{machine_of}
 use Rattle.machine.specs.Power.{powered}
-use borrow.Author.Rules.{rules}
 use Rattle.datapath.specs.Memory.{memory_size}
 use Rattle.machine.proofs.power.filled.Goals as goal
 

@@ -2,7 +2,6 @@
 use mathlib.Core.Path.{refl, sym, ◌∙◌}
 use borrow.Author.Tests.{eq-eqb, ne_eqb}
 use Rattle.machine.specs.Power.{power_refusal}
-use borrow.Author.Rules.{rules}
 use Rattle.machine.proofs.power.power_refusal.Goals as goal
 
 pub returns-then-image-ne166 : goal.returns-then-image-ne166

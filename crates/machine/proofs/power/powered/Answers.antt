@@ -6,7 +6,6 @@ use Rattle.cpu.specs.declared.Cpu.{Cpu}
 use Rattle.cpu.specs.State.{state}
 use Rattle.machine.specs.Machine.{machine_of, no_trace}
 use Rattle.machine.specs.Power.{powered}
-use borrow.Author.Rules.{rules}
 use Rattle.machine.proofs.power.powered.Goals as goal
 
 pub returns : goal.returns

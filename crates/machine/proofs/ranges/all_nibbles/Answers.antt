@@ -1,6 +1,6 @@
 -- `machine::ranges::all_nibbles` meets its contract. The loop's invariant: the list's answer is that of the largest element so far and of
 -- the elements from `i` on. Assumes nothing.
-use Prim.Native.Nat.{ℕ, suc, ◌+◌, ◌-◌, ◌≤◌, ◌<◌}
+use Prim.Native.Nat.{ℕ, suc, ◌+◌, ◌≤◌, ◌<◌}
 use mathlib.Core.Path.{◌≡◌, refl, sym, ap, ◌∙◌}
 use mathlib.Core.Bool.{Bool, true, false, ◌&&◌}
 use mathlib.Core.List.{List}
@@ -10,7 +10,6 @@ use lib.Dec.{ltb}
 use lib.ListN.{length, get_or, drop, drop_of_length-le}
 use lib.Seq.{drop-cons}
 use Rattle.cpu.specs.Range.{nibbles}
-use borrow.Author.Rules.{rules}
 use Rattle.machine.proofs.ranges.all_nibbles.Goals as goal
 
 joined : (a b c : Bool) → a && (b && c) ≡ (a && b) && c

@@ -1,10 +1,8 @@
 -- `machine::ranges::cpu_ok` meets its contract: the groups' tests are the definition's, and a count has any value of its type. Assumes nothing.
-use Prim.Native.Nat.{◌^◌}
-use mathlib.Core.Path.{◌≡◌, ap₂, ◌∙◌}
+use mathlib.Core.Path.{◌≡◌, ◌∙◌}
 use mathlib.Core.Bool.{Bool, ◌&&◌}
 use native.Mathlib.Omega.{arith}
-use Rattle.machine.proofs.Grouped.{small, flags, others, grouped}
-use borrow.Author.Rules.{rules}
+use Rattle.machine.proofs.Grouped.{grouped}
 use Rattle.machine.proofs.ranges.cpu_ok.Goals as goal
 
 met : (n f p o b1 b2 b3 : Bool) {N F P O : Bool} → b3 ≡ n && b2 → b2 ≡ f && b1 → b1 ≡ p && o → n ≡ N → f ≡ F → p ≡ P → o ≡ O → b3 ≡ N && (F && (P && O))

@@ -1,5 +1,4 @@
 -- `machine::ranges::flags_ok` meets its contract: the tests, joined as the definition joins them. Assumes nothing.
-use borrow.Author.Rules.{rules}
 use Rattle.machine.proofs.ranges.flags_ok.Goals as goal
 
 pub returns : goal.returns

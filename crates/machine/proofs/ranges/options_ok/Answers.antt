@@ -1,6 +1,5 @@
 -- `machine::ranges::options_ok` meets its contract: the tests, joined as the definition joins them. Assumes nothing.
 use Rattle.cpu.specs.Range.{options_ok}
-use borrow.Author.Rules.{rules}
 use Rattle.machine.proofs.ranges.options_ok.Goals as goal
 
 pub returns : goal.returns

@@ -8,7 +8,6 @@ use borrow.Author.Tests.{eq-eqb}
 use Rattle.cpu.specs.Range.{valid, cpu_ok, memory_ok, nibbles}
 use Rattle.cpu.specs.declared.Cpu.{Cpu}
 use Rattle.cpu.specs.State.{state}
-use borrow.Author.Rules.{rules}
 use Rattle.datapath.specs.Memory.{memory_size}
 use Rattle.machine.proofs.ranges.sound.Goals as goal
 

@@ -14,7 +14,6 @@ use Rattle.datapath.specs.Memory.{loaded}
 use Rattle.machine.specs.Report.{places, shown}
 use Rattle.machine.proofs.Fill.{fill_more, fill-all}
 use Rattle.machine.proofs.Reports.{display-at, display-length}
-use borrow.Author.Rules.{rules}
 use Rattle.machine.proofs.report.put_display.Invariants.{target, Shows}
 use Rattle.machine.proofs.report.put_display.Goals as goal
 
@@ -34,18 +33,16 @@ more out₀ memory out k x lit g shows small e n p q h i =
     sums k p = omega arith
 
 pub loop-k-init : goal.loop-k-init
-loop-k-init c =
-    (
-      omega arith,
-      omega arith,
-      refl,
-      λ g shows. begin c.args.out.now (places 32 (λ s. g (loaded c.args.memory.now (record { 0 = 0xe0 + s }))) 0) (omega (arith, c.requires)),
-    )
+loop-k-init c = (
+  omega arith,
+  omega arith,
+  refl,
+  λ g shows. begin c.args.out.now (places 32 (λ s. g (loaded c.args.memory.now (record { 0 = 0xe0 + s }))) 0) (omega (arith, c.requires)),
+)
 
 pub loop-k-preserved : goal.loop-k-preserved
 loop-k-preserved c =
-    let x = c.load-x.result.nibble in
-    (
+    let x = c.load-x.result.nibble in (
       omega arith,
       omega arith,
       length-set c.loop-k.out c.loop-k.k (bit_and x c.lit-lit.result) ∙ c.loop-k.invariant.2,

@@ -1,18 +1,10 @@
-use Prim.Native.Nat.{ℕ, ◌+◌, ◌-◌, ◌%◌, ◌<◌, ◌≤◌}
-use mathlib.Core.Path.{◌≡◌, refl, sym, ap, ◌∙◌}
+use Prim.Native.Nat.{ℕ, ◌+◌, ◌-◌, ◌<◌, ◌≤◌}
+use mathlib.Core.Path.{◌≡◌}
 use mathlib.Core.List.{List, ◌++◌}
-use native.Mathlib.Omega.{arith}
 use lib.Bits.{bit_and}
-use lib.Dec.{eqb}
-use lib.ListN.{length, take, set, length-set}
-use lib.Seq.{take_at, length-take-le}
-use Rattle.isa.specs.Choice.{pick}
-use Rattle.datapath.specs.declared.memory.Access.{Access}
+use lib.ListN.{length, take}
 use Rattle.datapath.specs.Memory.{loaded}
-use Rattle.machine.specs.Report.{places, shown}
-use Rattle.machine.proofs.Fill.{fill_more, fill-all}
-use Rattle.machine.proofs.Reports.{display-at, display-length}
-use borrow.Author.Rules.{rules}
+use Rattle.machine.specs.Report.{places}
 use Rattle.machine.proofs.report.put_display.Given as goal
 
 -- the bytes to come to, by what is shown of a nibble

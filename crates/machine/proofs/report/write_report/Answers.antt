@@ -1,10 +1,9 @@
 -- `machine::report::write_report` meets its contract: the heading, then the display, where the buffer has room for them. Assumes nothing.
 use Prim.Native.Nat.{ℕ}
-use mathlib.Core.Path.{◌≡◌, refl, ap, ◌∙◌}
+use mathlib.Core.Path.{refl, ap, ◌∙◌}
 use borrow.Author.Tests.{eq-eqb, ne_eqb}
 use mathlib.Core.List.{List, ◌++◌}
 use Rattle.machine.specs.Report.{places, shown}
-use borrow.Author.Rules.{rules}
 use Rattle.machine.proofs.report.write_report.Goals as goal
 
 pub returns-then-out-eq48 : goal.returns-then-out-eq48
