@@ -89,7 +89,7 @@ begin() { # COUNT ARGUMENT..: options, and so many names, from 1 on for `+`
     done
     [ $inputs -le 1 ] || usage_error 'standard input, -, can be read once'
     program=crates/$command/out/$command
-    [ -x "$home/$program" ] || fail "$program is missing; build it by: rt run $command"
+    [ -x "$home/$program" ] || fail "$program is missing; build it by: cd crates/$command && rt run"
     why=$(LC_ALL=C mktemp -d -- "${TMPDIR:-/tmp}/ht1130.XXXXXXXX" 2>&1) || fail "no folder for temporary files: ${why##*: }"
     folder=$why
 }

@@ -1,6 +1,7 @@
 // `assemble`: reads source.asm and writes mask.bin, or prints one line `refused N at line L` and writes nothing. What it writes is made by the
 // proved function of `assembler`; here files are read and written.
 #![tactic(auto)]
+
 use files::{read_file, write_file};
 use rom::reader::MASK;
 use std::io;

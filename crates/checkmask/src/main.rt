@@ -2,6 +2,7 @@
 // level L` and then a shortest way there, a line a pair: address, level, bytes and instruction. A mask of another length, or none, gives `refused 1`.
 // What it prints is decided by the proved functions of `checker`, `bound` and `mnemonic`; here a file is read and lines are written.
 #![tactic(auto)]
+
 ghost use Rattle.std.specs.Prelude.{◌≡◌, ◌*◌, ◌≤◌, length};
 ghost use Rattle.bound.specs.Lists.{bounds_size};
 
@@ -72,10 +73,10 @@ fn put_pair<W: Write>(out: &mut W, mask: &[u8], low: u8, high: u8, level: u8) ->
     let length = rom::timing::length(code.first);
     put_bytes(out, code.first, code.second, length)?;
     match decode(code.first, code.second) {
-        Decoded::Read(instruction) => put_instruction(out, placed(
-            instruction,
-            moved_by(address, length),
-        ))?,
+        Decoded::Read(instruction) => put_instruction(
+            out,
+            placed(instruction, moved_by(address, length)),
+        )?,
         Decoded::Unreadable => put(out, b"cannot be read")?,
     }
     put(out, b"\n")

@@ -3,6 +3,7 @@
 // The two bytes, what they read as, the length and cycles of the first byte, and what was read written back. A conditional branch is shown with
 // its whole target where the moved address is 16 times the second byte: in the lower half of the ROM, and for FF in the upper one.
 #![tactic(auto)]
+
 mod text;
 
 use isa::Instruction;

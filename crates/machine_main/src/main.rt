@@ -8,6 +8,7 @@
 //     11 the query of that count, which has a line of its own
 // 8 to 10 put the machine in a state and print nothing. A case starts from the machine before its first power-on.
 #![tactic(auto)]
+
 mod input;
 mod text;
 

@@ -1,5 +1,6 @@
 // `panel`: reads mask.bin and script.bin and prints each report as a line of hexadecimal digits, or one line `refused N at P`.
 #![tactic(auto)]
+
 use files::read_file;
 use player::{Shown, play};
 use rom::reader::MASK;

@@ -2,6 +2,7 @@
 // `refused N at P`. What is printed is decided by the proved functions of `script`, `glass` and `machine_glass`; here lines
 // are written.
 #![tactic(auto)]
+
 ghost use Rattle.std.specs.Prelude.{◌≡◌, IfOk};
 ghost use Rattle.script.specs.Check.{checked};
 

@@ -1,6 +1,7 @@
 // `readings`: runs mask.bin and script.bin as `panel` does, and prints for each record what an operator sees: `dark`, a number, or
 // `unreadable at digit K`; or one line `refused N at P`.
 #![tactic(auto)]
+
 use files::read_file;
 use player::{Shown, play};
 use rom::reader::MASK;
