@@ -3,7 +3,7 @@
 First the stored cases of tests/assemble and the demonstration, through ./assemble, then the texts of
 assembler_cases.py, each in a folder that may hold a mask.bin from before. At the first difference the
 case is saved under target/differential and the exit status is 1.
-Run as a program it compares the assembler alone. Build it first: rt run in crates/assemble
+Run as a program it compares the assembler alone. Build it first: tools/build assemble
 """
 
 import collections

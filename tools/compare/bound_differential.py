@@ -2,7 +2,7 @@
 
 The masks are those of bound_programs.py, always the same. At the first difference the mask is saved under
 target/differential and the exit status is 1; so it is where the masks meet too little of what tells the rule
-from another. Run as a program it compares these alone. Build it first: rt run in crates/checkmask
+from another. Run as a program it compares these alone. Build it first: tools/build checkmask
 """
 
 import collections

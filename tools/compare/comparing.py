@@ -26,7 +26,7 @@ def start(*programs):
     """Stops where a program is missing; forgets the case that was saved before."""
     for program in programs:
         if not os.access(program, os.X_OK):
-            stop(f'{program.relative_to(ROOT)} is missing; build it by: rt run in crates/{program.name}')
+            stop(f'{program.relative_to(ROOT)} is missing; build it by: tools/build {program.name}')
     shutil.rmtree(SAVED, ignore_errors=True)
 
 

@@ -5,7 +5,7 @@ chance: masks and scripts, good and damaged, through the program panel; masks th
 and the program checkmask, which fail, and then masks that pass (bound_differential.py); then the assembler's
 (assembler_differential.py) and those of the glass (glass_differential.py). Always the same cases. At the
 first difference the case is saved under target/differential and the exit status is 1.
-Build the programs first, each by rt run in its folder, or all by rt ci
+Build the programs first: tools/build NAME.., or all by rt ci
 """
 
 import collections

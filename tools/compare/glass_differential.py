@@ -5,7 +5,7 @@ scripts that put the machine to sleep in between, on 3 and 4 commons. `glass_mai
 three digits are by chance and one runs over all 256 values, at each place, and all readings from -1,100
 to 11,000 with 0 to 5 digits after the point, drawn and read back. Always the same cases. At the first
 difference the case is saved under target/differential and the exit status is 1. Run as a program it
-compares these alone. Build both first, by rt run in their folders
+compares these alone. Build them first: tools/build readings glass_main
 """
 
 import collections

@@ -4,5 +4,5 @@ import pathlib
 import sys
 
 ROOT = pathlib.Path(__file__).resolve().parents[2]
-PROGRAM = 'crates/{0}/out/{0}'       # as rt builds it: rt ci, or rt run in its folder
+PROGRAM = 'crates/{0}/out/{0}'       # as rt builds it, by rt ci or tools/build
 sys.path[1:1] = [str(ROOT / 'tools' / 'make'), str(ROOT / 'model')]
