@@ -1,5 +1,5 @@
 #!/usr/bin/env python3
-"""Tests of wrong_lock.py: what the hash goes by, what fails of a record, and that the four parts are all runs, each once; of edit_names.py:
+"""Tests of wrong_lock.py: what the hash goes by, what fails of a record, and that the four parts are all crates, each once; of edit_names.py:
 which names of an edit are in sight; and of wrong_answers: which errors show that a fact no longer holds."""
 
 import importlib.machinery
@@ -81,11 +81,11 @@ class Record(unittest.TestCase):
         self.assertEqual((list(lines), len(faults)), (["low"], 2))
 
     def test_parts(self):
-        for count in (0, 1, 2, 7, 40):
-            runs = list(range(count))
-            parts = [wrong_lock.chosen("high", runs, part) for part in range(wrong_lock.PARTS)]
-            self.assertEqual(sorted(sum(parts, [])), runs)
-            self.assertLessEqual(max(map(len, parts)) - min(map(len, parts)), 1)
+        for counts in ({}, {"a": 3}, {"a": 9, "b": 1, "c": 1, "d": 1, "e": 1, "f": 7}, {str(n): n % 7 for n in range(40)}):
+            parts = [wrong_lock.chosen(counts, part) for part in range(wrong_lock.PARTS)]
+            self.assertEqual(sorted(sum(parts, [])), sorted(counts))
+            sums = [sum(counts[crate] for crate in part) for part in parts]
+            self.assertLessEqual(max(sums) - min(sums), max(counts.values(), default=0))
         self.assertEqual(sorted({wrong_lock.part_of(f"{n:040x}") for n in range(9)}), [0, 1, 2, 3])
 
 
