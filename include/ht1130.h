@@ -3,7 +3,7 @@
  * takes ht1130_tools.h: the mask checker, scripts, instructions, the assembler,
  * readings.
  *
- * Link with libht1130.a, which `rt staticlib ht1130` writes (x86-64). Nothing
+ * Link with libht1130.a, which `tools/staticlibs` writes (x86-64). Nothing
  * here allocates, blocks, keeps state of its own or calls back: a call works on
  * the memory that it is lent and returns.
  *

@@ -4,7 +4,7 @@
  * the reading on the panel of the HT1130, for C: what a bench links beside the
  * engine of ht1130.h.
  *
- * Link with libht1130_tools.a, which `rt staticlib ht1130_tools` writes (x86-64),
+ * Link with libht1130_tools.a, which `tools/staticlibs` writes (x86-64),
  * beside libht1130.a or alone: neither archive needs the other. What ht1130.h
  * says of pointers and refusals holds here too.
  *

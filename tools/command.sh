@@ -88,8 +88,8 @@ begin() { # COUNT ARGUMENT..: options, and so many names, from 1 on for `+`
         if [ "$name" = - ]; then inputs=$((inputs + 1)); fi
     done
     [ $inputs -le 1 ] || usage_error 'standard input, -, can be read once'
-    program=crates/$command/out/$command
-    [ -x "$home/$program" ] || fail "$program is missing; build it by: cd crates/$command && rt run"
+    program=crates/$command/out/$command            # as rt builds it, by rt ci or tools/build
+    [ -x "$home/$program" ] || fail "$program is missing; build it by: tools/build $command"
     why=$(LC_ALL=C mktemp -d -- "${TMPDIR:-/tmp}/ht1130.XXXXXXXX" 2>&1) || fail "no folder for temporary files: ${why##*: }"
     folder=$why
 }

@@ -1,9 +1,9 @@
-"""Holds target/bin/assemble to the reference assembler: what it prints, and every byte that it leaves.
+"""Holds the program assemble to the reference assembler: what it prints, and every byte that it leaves.
 
 First the stored cases of tests/assemble and the demonstration, through ./assemble, then the texts of
 assembler_cases.py, each in a folder that may hold a mask.bin from before. At the first difference the
 case is saved under target/differential and the exit status is 1.
-Run as a program it compares the assembler alone. Build it first: rt check assemble
+Run as a program it compares the assembler alone. Build it first: tools/build assemble
 """
 
 import collections
@@ -13,9 +13,9 @@ import multiprocessing
 import paths  # noqa: F401
 import assembler
 import assembler_cases
-from comparing import BIN, ROOT, differs, first_difference, run_in_folder, start, stop
+from comparing import ROOT, built, differs, first_difference, run_in_folder, start, stop
 
-ASSEMBLE = BIN / 'assemble'
+ASSEMBLE = built('assemble')
 STORED = ROOT / 'tests' / 'assemble'
 DEMO = ROOT / 'demo'
 

@@ -1,8 +1,8 @@
-"""Holds what target/bin/checkmask prints of masks that pass to the reference model, line by line.
+"""Holds what the program checkmask prints of masks that pass to the reference model, line by line.
 
 The masks are those of bound_programs.py, always the same. At the first difference the mask is saved under
 target/differential and the exit status is 1; so it is where the masks meet too little of what tells the rule
-from another. Run as a program it compares these alone. Build it first: rt check checkmask
+from another. Run as a program it compares these alone. Build it first: tools/build checkmask
 """
 
 import collections
@@ -13,11 +13,11 @@ import random
 import paths  # noqa: F401
 import bound_programs
 import reference
-from comparing import BIN, differs, first_difference, run_program, start, stop
+from comparing import built, differs, first_difference, run_program, start, stop
 from reference import NO_BOUND, NOT_REACHED
 from stored import printed
 
-CHECKMASK = BIN / 'checkmask'
+CHECKMASK = built('checkmask')
 PASSED = 2000       # masks to compare, at least
 
 # What the lines must meet, and how often, so that they tell the rule from another.

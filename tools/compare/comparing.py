@@ -7,11 +7,14 @@ import subprocess
 import sys
 import tempfile
 
-from paths import ROOT
+from paths import PROGRAM, ROOT
 
-BIN = ROOT / 'target' / 'bin'
 SAVED = ROOT / 'target' / 'differential'
 SECONDS = 60        # for one run of a program
+
+
+def built(name):
+    return ROOT / PROGRAM.format(name)
 
 
 def stop(text):
@@ -23,7 +26,7 @@ def start(*programs):
     """Stops where a program is missing; forgets the case that was saved before."""
     for program in programs:
         if not os.access(program, os.X_OK):
-            stop(f'{program.relative_to(ROOT)} is missing; build it by: rt check {" ".join(one.name for one in programs)}')
+            stop(f'{program.relative_to(ROOT)} is missing; build it by: tools/build {program.name}')
     shutil.rmtree(SAVED, ignore_errors=True)
 
 

@@ -1,11 +1,11 @@
 """Drives the reference model and the built programs on the same input and compares line by line.
 
 First the stored cases of tests/panel, tests/checkmask and tests/readings and the demonstrations, then
-chance: masks and scripts, good and damaged, through target/bin/panel; masks through target/bin/checker_main
-and target/bin/checkmask, which fail, and then masks that pass (bound_differential.py); then the assembler's
+chance: masks and scripts, good and damaged, through the program panel; masks through the program checker_main
+and the program checkmask, which fail, and then masks that pass (bound_differential.py); then the assembler's
 (assembler_differential.py) and those of the glass (glass_differential.py). Always the same cases. At the
 first difference the case is saved under target/differential and the exit status is 1.
-Build the programs first: rt check panel checker_main checkmask assemble readings glass_main
+Build the programs first: tools/build NAME.., or all by rt ci
 """
 
 import collections
@@ -22,13 +22,13 @@ import glass_differential
 import isa_table
 import make_panel_cases
 import reference
-from comparing import BIN, ROOT, compare, differs, first_difference, run_program, start, stop
+from comparing import ROOT, built, compare, differs, first_difference, run_program, start, stop
 from panel_input import int_pin, pins, power_on, record, res, run, tmclk, two, write
 from stored import printed
 
-PANEL = BIN / 'panel'
-CHECKER = BIN / 'checker_main'
-CHECKMASK = BIN / 'checkmask'
+PANEL = built('panel')
+CHECKER = built('checker_main')
+CHECKMASK = built('checkmask')
 READINGS = glass_differential.READINGS
 LONGEST = make_panel_cases.LONGEST
 

@@ -1,11 +1,11 @@
-"""Holds target/bin/readings and target/bin/glass_main to the model of the glass, line by line.
+"""Holds the program readings and the program glass_main to the model of the glass, line by line.
 
 `readings` gets masks that draw pictures by chance, most of them allowed or one place away from it, with
 scripts that put the machine to sleep in between, on 3 and 4 commons. `glass_main` gets pictures of which
 three digits are by chance and one runs over all 256 values, at each place, and all readings from -1,100
 to 11,000 with 0 to 5 digits after the point, drawn and read back. Always the same cases. At the first
 difference the case is saved under target/differential and the exit status is 1. Run as a program it
-compares these alone. Build them first: rt check readings glass_main
+compares these alone. Build them first: tools/build readings glass_main
 """
 
 import collections
@@ -16,7 +16,7 @@ import re
 import paths  # noqa: F401
 import glass
 import glass_vectors
-from comparing import BIN, compare, start, stop
+from comparing import built, compare, start, stop
 from glass import DARK, Number
 from isa_table import Refused
 from make_panel_cases import LONGEST, padded
@@ -24,8 +24,8 @@ from make_readings_cases import DRAW, drawing, mask_of
 from panel_input import int_pin, pins, power_on, res, run, tmclk, write
 from stored import printed
 
-READINGS = BIN / 'readings'
-GLASS_MAIN = BIN / 'glass_main'
+READINGS = built('readings')
+GLASS_MAIN = built('glass_main')
 
 MASKS = 40              # with so many pictures each
 PICTURES = 100

@@ -3,7 +3,7 @@
 Every stored case of tests/ through its command; then exit status, words, options, names, links, full
 disks, folders and files that cannot be written, signals, and programs that fail. A test says what it
 found and what it expected; the exit status is then 1. What this machine cannot show is said and left out.
-Build the programs first: rt run in the folders of panel, checkmask, readings and assemble.
+Build the programs first: tools/build panel checkmask readings assemble
 """
 
 import contextlib
@@ -18,7 +18,7 @@ import sys
 import tempfile
 import time
 
-from paths import ROOT
+from paths import PROGRAM, ROOT
 
 DEMO = ROOT / 'demo'
 STORED = ROOT / 'tests'
@@ -48,8 +48,8 @@ def command(name):
 
 
 def program_of(name):
-    """Where `rt run` leaves a program, below the top."""
-    return f'crates/{name}/out/{name}'
+    """Where a built program lies, below the top."""
+    return PROGRAM.format(name)
 
 
 def environment(temporary, **more):
@@ -530,7 +530,7 @@ def failing_programs():
             program = copy / program_of(name)
             program.parent.mkdir(parents=True)
             expect(f'{name}, no program', run([copy / name, *GOOD[name]], folder), 2, '',
-                   f'{name}: {program_of(name)} is missing; build it by: cd crates/{name} && rt run\n')
+                   f'{name}: {program_of(name)} is missing; build it by: tools/build {name}\n')
             version = f'{name} of HT1130\ncommit unknown\nkit unknown\n'
             expect(f'{name} --version', run([copy / name, '--version'], folder, env=environment(folder, PATH='/usr/bin:/bin')), 0, version, '')
             odd = f'{name}: {program_of(name)} printed what is no answer: '
@@ -564,7 +564,7 @@ def the_table():
 def main():
     for name in USAGE:
         if not os.access(ROOT / program_of(name), os.X_OK):
-            sys.exit(f'command_tests: {program_of(name)} is missing; build it by: cd crates/{name} && rt run')
+            sys.exit(f'command_tests: {program_of(name)} is missing; build it by: tools/build {name}')
     stored_cases('panel', ['mask.bin', 'script.bin'])
     stored_cases('readings', ['mask.bin', 'script.bin'])
     stored_cases('checkmask', ['mask.bin'])

@@ -12,7 +12,7 @@ cd "$(dirname "$0")/../.."
 lib=${HT1130_LIB_DIR:-target/staticlib}
 for name in ht1130 ht1130_tools; do
     if [ ! -f "$lib/lib$name.a" ]; then
-        echo "no lib$name.a in $lib: rt staticlib $name" >&2
+        echo "no lib$name.a in $lib: tools/staticlibs" >&2
         exit 1
     fi
 done

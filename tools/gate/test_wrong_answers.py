@@ -1,5 +1,5 @@
 #!/usr/bin/env python3
-"""Tests of wrong_lock.py: what the hash goes by, what fails of a record, and that the four parts are all runs, each once; of edit_names.py:
+"""Tests of wrong_lock.py: what the hash goes by, what fails of a record, and that the four parts are all crates, each once; of edit_names.py:
 which names of an edit are in sight; and of wrong_answers: which errors show that a fact no longer holds."""
 
 import importlib.machinery
@@ -81,11 +81,11 @@ class Record(unittest.TestCase):
         self.assertEqual((list(lines), len(faults)), (["low"], 2))
 
     def test_parts(self):
-        for count in (0, 1, 2, 7, 40):
-            runs = list(range(count))
-            parts = [wrong_lock.chosen("high", runs, part) for part in range(wrong_lock.PARTS)]
-            self.assertEqual(sorted(sum(parts, [])), runs)
-            self.assertLessEqual(max(map(len, parts)) - min(map(len, parts)), 1)
+        for counts in ({}, {"a": 3}, {"a": 9, "b": 1, "c": 1, "d": 1, "e": 1, "f": 7}, {str(n): n % 7 for n in range(40)}):
+            parts = [wrong_lock.chosen(counts, part) for part in range(wrong_lock.PARTS)]
+            self.assertEqual(sorted(sum(parts, [])), sorted(counts))
+            sums = [sum(counts[crate] for crate in part) for part in parts]
+            self.assertLessEqual(max(sums) - min(sums), max(counts.values(), default=0))
         self.assertEqual(sorted({wrong_lock.part_of(f"{n:040x}") for n in range(9)}), [0, 1, 2, 3])
 
 
@@ -113,9 +113,9 @@ class Names(unittest.TestCase):
 class Errors(unittest.TestCase):
     IDLE = (
         "`f-spec`: `returns` was not admitted (it has holes)",
-        "`returns`: record `Rattle·a.proofs.f.Lts.After-g` has no field `args`",
-        "module `Rattle·a.proofs.f` has no `Tie` that can be named from here",
-        "`returns`: module `Rattle·a.proofs.f.Tie` has no `Need-returns`",
+        "`returns`: record `Rattle.a.proofs.f.Lts.View.In-After-g` has no field `if-n-lt4` (nearest: .if-n-lt5)",
+        "module `Rattle.a.proofs.f` has no `Goals` that can be named from here",
+        "`returns-then-n-lt4`: `goal.returns-then-n-lt4`: module `Rattle.a.proofs.f.Goals` has no `returns-then-n-lt4` that can be named from here",
         "`returns`: `drop` is not in scope",
         "`f-spec`: expected type `tie.Need-returns`, but this has type `tie.Need-cast`",
     )
@@ -124,6 +124,23 @@ class Errors(unittest.TestCase):
         "`fits`: `omega`: the goal does not follow from what it read",
         "`f-spec`: computed as far as they go, the two types are `a < 16` (expected) and `a < 17` (found)",
     )
+
+    def test_named_anew(self):
+        was = {"needs": [["returns", "returns-then-n-lt4"], ["returns-2", "returns"]], "places": [["Then1", "if-n-lt4", []], ["Else1", "if-n-lt4", [["true", "raw"]]]]}
+        now = {"needs": [["returns", "returns-then-n-lt5"], ["returns-2", "returns"]], "places": [["Then1", "if-n-lt5", []], ["Else1", "if-n-lt5", []]]}
+        names = {}
+        self.assertTrue(wrong_answers.same_shape(was, now, names))
+        self.assertEqual({old: new for old, new in names.items() if old != new}, {"returns-then-n-lt4": "returns-then-n-lt5", "if-n-lt4": "if-n-lt5"})
+        self.assertFalse(wrong_answers.same_shape(was, now | {"needs": now["needs"][:1]}, {}))  # a goal less
+        self.assertFalse(wrong_answers.same_shape(was, now | {"needs": [["returns", "returns"], ["returns-2", "a"]], "places": [["returns", "b"]] * 2}, {}))
+        self.assertFalse(wrong_answers.same_shape(was, None, {}))
+
+    def test_lines(self):
+        said = wrong_answers.Said(1, "./proofs/f/Answers.antt:16:3: error: `returns`: expected type `a`\n  but this has type `b`\nsrc/lib.rt:2:1: error[type-mismatch]: no\n"
+                                  "fn a::f: not proved\nfn a::g: no proof: expected answers in ./proofs/g/Answers.antt; `search` did not prove `returns`\nlogic=not-proved\n")
+        self.assertEqual(said.errors, [("proofs/f/Answers.antt", 16, "`returns`: expected type `a` but this has type `b`"), ("src/lib.rt", 2, "no")])
+        self.assertEqual([wrong_answers.unproved(line) for line in said.lines.values()], [None, "`search` did not prove `returns`"])
+        self.assertTrue(said.reached)
 
     def test_idle(self):
         self.assertEqual(wrong_answers.telling([("proofs/f/Proof.antt", 1, message) for message in self.IDLE]), [])

@@ -110,7 +110,10 @@ def part_of(own):
     return int(own, 16) % PARTS
 
 
-def chosen(crate, runs, part):
-    """Every fourth of the crate's runs. Where it starts differs from crate to crate, so that small ones do not all fall into one part."""
-    start = int(hashlib.sha256(crate.encode()).hexdigest(), 16)
-    return [run for i, run in enumerate(runs) if (start + i) % PARTS == part]
+def chosen(counts, part):
+    """The crates of a part, whole, since a crate is proved before its edits are tried: each part has about as many edits, by `counts`."""
+    parts = [(0, index, []) for index in range(PARTS)]
+    for crate in sorted(counts, key=lambda name: (-counts[name], name)):
+        edits, index, crates = min(parts)
+        parts[index] = (edits + counts[crate], index, crates + [crate])
+    return parts[part][2]
