@@ -12,7 +12,7 @@ use lib.ListN.{get_or, length}
 use Rattle.isa.specs.Choice.{pick}
 use Rattle.mnemonic.specs.Spelling.{Token, letters, mark, operand}
 use Rattle.operand.specs.Text.{is_digit, is_letter}
-use Rattle.operand.specs.Words.{first, is_fixed, is_label, place}
+use Rattle.operand.specs.Words.{first, is_fixed, is_label}
 use Rattle.operand.specs.Operand.{Term, operand_of}
 use Rattle.operand.specs.Read.{Lexed, Next, ended, kind_of, operand_at, packed, place_of, sign, sign_kind, tokens_at, valued, word, word_at, word_kind}
 use Rattle.operand.specs.declared.operands.Value.{Value}
@@ -22,7 +22,7 @@ use Rattle.operand.proofs.Texts.{both, case, differ, neither, not-letter}
 use Rattle.operand.proofs.TokenKinds.{as-end, as-label, as-sign, sign-is, sign-not}
 use Rattle.operand.proofs.Whole.{short-read}
 use Rattle.assembler.specs.Forms.{operand_digits}
-use Rattle.assembler.specs.Statement.{after, after_two, before, blank, body, coded, code_of, label_of, labelled, leads}
+use Rattle.assembler.specs.Statement.{after, after_two, before, blank, body, code_of, label_of, labelled, leads}
 use Rattle.assembler.specs.Statement.{mnemonic, nothing, operand_for, org, statement}
 use Rattle.assembler.specs.Shapes.{digits_in, form_at, form_keys, key_of, leads_in, shapes}
 use Rattle.assembler.specs.Read.{Headed, Labelling, Operanded, Shows, bad, bodied, good, label_in, long, whole}

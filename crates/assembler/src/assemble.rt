@@ -16,7 +16,7 @@ pub struct Answer {
 
 // Fills the result with NOPs.
 fn fill(out: &mut [u8])
-    ensures* { do ⌜ out.new ≡ replicate (← (⟦out.len()⟧).entry) 62 ⌝ }
+    ensures { out.new ≡ replicate (length out.old) 62 }
 {
     let mut i = 0;
     while i < out.len() {
@@ -34,8 +34,8 @@ fn judged(
     used: &mut [u8],
     out: &mut [u8],
 ) -> Answer
-    requires text_len_bound { (length text.now ≤ 65535) × (length out.old ≡ rom_size) }
-    requires starts_len { (length starts.old ≡ 32768) × (length addresses.old ≡ 32768) × (used.old ≡ replicate rom_size 0) }
+    requires sizes { (length text.now ≤ 65535) × (length out.old ≡ rom_size) }
+    requires tables { (length starts.old ≡ 32768) × (length addresses.old ≡ 32768) × (used.old ≡ replicate rom_size 0) }
     ensures { Answered (answer_to (program text.now)) out.old result out.new }
 {
     let read = read_lines(text, starts, addresses);

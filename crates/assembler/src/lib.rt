@@ -1,5 +1,6 @@
 // The assembler: lines and passes over a text.
 #![tactic(auto)]
+
 pub mod assemble;
 pub mod forms;
 pub mod lines;

@@ -32,8 +32,8 @@ fn line_end(text: &[u8], at: usize) -> usize
 
 // Notes a number in the next place of a list if it is wanted, and gives the count then.
 fn note(list: &mut [u16], count: usize, wanted: bool, value: usize) -> usize
-    requires count_in_bounds { wanted ≡ true → (count < length list.old) × (value < 65536) }
-    requires count_bound { count < 65536 }
+    requires room { wanted ≡ true → (count < length list.old) × (value < 65536) }
+    requires few { count < 65536 }
     ensures { (list.new ≡ pick wanted (set list.old count value) list.old) × (result ≡ pick wanted (count + 1) count) }
 {
     if wanted {
@@ -196,7 +196,7 @@ pub(crate) fn place_lines(
     all: usize,
 ) -> u32
     requires settled { Settled text.now starts.now addresses.old all }
-    requires used_value { used.old ≡ replicate rom_size 0 }
+    requires unused { used.old ≡ replicate rom_size 0 }
     ensures { (result ≡ first misplaced start 1 (program text.now))
         × (result ≡ 0 → Placed text.now starts.now addresses.new all) }
 {
@@ -302,7 +302,7 @@ pub(crate) fn write_lines(
     out: &mut [u8],
 )
     requires placed { Placed text.now starts.now addresses.now all }
-    requires text_value { first (misfit (end start (program text.now))) start 1 (program text.now) ≡ 0 }
+    requires fits { first (misfit (end start (program text.now))) start 1 (program text.now) ≡ 0 }
     ensures { out.new ≡ put (end start (program text.now)) start (program text.now) out.old }
 {
     let mut at = 0;

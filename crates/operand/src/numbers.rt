@@ -46,8 +46,8 @@ fn digits(text: &[u8], from: usize, to: usize, base: u32) -> u32
 
 // The value of a word that starts with a digit, 65,536 where it is no number.
 pub(crate) fn number(text: &[u8], start: usize, next: usize) -> u32
-    requires next_value { (next ≡ start + length (word_at text.now start)) × (start < length text.now) }
-    requires start_value { is_digit (get_or text.now start 0) ≡ true }
+    requires word_ends { (next ≡ start + length (word_at text.now start)) × (start < length text.now) }
+    requires word_begins { is_digit (get_or text.now start 0) ≡ true }
     ensures { result ≡ counted (number_of (word_at text.now start)) }
 {
     if text[next - 1] == b'H' {

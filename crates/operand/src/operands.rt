@@ -109,7 +109,7 @@ fn term(
     count: usize,
 ) -> Sum
     requires lexed { Lexed text.now at word }
-    requires kind_value { eqb word.kind 40 ≡ false }
+    requires not_opening { eqb word.kind 40 ≡ false }
     ensures { PartRead text.now (names_at text.now starts.now count) addresses.now at depth taken result }
 {
     let kind = word.kind;

@@ -138,8 +138,8 @@ fn fixed(word: u64) -> usize
 
 // The kind of the word that stands here.
 fn word_kind(text: &[u8], start: usize, next: usize) -> u8
-    requires next_value { (next ≡ start + length (word_at text.now start)) × (start < length text.now) }
-    requires start_value { in_word (get_or text.now start 0) ≡ true }
+    requires word_ends { (next ≡ start + length (word_at text.now start)) × (start < length text.now) }
+    requires word_begins { in_word (get_or text.now start 0) ≡ true }
     ensures { result ≡ word_kind (word_at text.now start) }
 {
     if is_digit(character(text, start)) {
