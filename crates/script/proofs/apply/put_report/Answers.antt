@@ -9,8 +9,7 @@ use Rattle.isa.specs.Choice.{pick}
 use borrow.Author.Tests.{eq-eqb}
 use borrow.Rule.Slice.PartMut.{mid_of, mid_len, Post-is}
 use borrow.Author.Rules.{rules}
-use Rattle.script.proofs.apply.put_report.Statement.{statement}
-use Rattle.script.proofs.apply.put_report.Tie as tie
+use Rattle.script.proofs.apply.put_report.Goals as goal
 
 -- the part has 48 bytes
 whole : (at : ℕ) (out : List ℕ) → at + 48 ≤ length out → length (mid_of at (at + 48 - at) out) ≡ 48
@@ -21,16 +20,8 @@ into : (at : ℕ) (out r : List ℕ) {ys : List ℕ} → at + 48 ≤ length out
     → ys ≡ pick (eqb (length (mid_of at (at + 48 - at) out)) 48) r (mid_of at (at + 48 - at) out) → ys ≡ r
 into at out r h e = e ∙ rw (eq-eqb _ 48 (whole at out h)) refl
 
-returns : tie.Need-returns
+pub returns : goal.returns
 returns c t =
-    let a = c.before.before.before.before.before.args in
-    let out = a.out.now in
-    ap₂ (λ (ys zs : List ℕ). take a.at out ++ (ys ++ zs))
-    (into a.at out _ (search rules) (c.before.before.write-report.ensures t))
-    (Post-is a.at (a.at + 48) out (omega arith))
-
-pub put-report-spec : {M : Type 1} → statement M
-put-report-spec =
-    tie.close
-    (tie.spec
-    (λ c. search rules) (λ c. search rules) (λ c. search rules) (λ c. search rules) (λ c κs. search rules) (λ c. search rules) returns)
+    ap₂ (λ (ys zs : List ℕ). take c.args.at c.args.out.now ++ (ys ++ zs))
+    (into c.args.at c.args.out.now _ (search rules) (c.write_report.ensures t))
+    (Post-is c.args.at (c.args.at + 48) c.args.out.now (omega arith))

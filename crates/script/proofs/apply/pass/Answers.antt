@@ -13,9 +13,7 @@ use Rattle.script.specs.Format.{filled, input_of}
 use Rattle.script.specs.Reports.{next}
 use Rattle.script.specs.declared.Record.{Record}
 use Rattle.script.specs.declared.Record.TheVariants.{Power}
-use borrow.Author.Rules.{rules}
-use Rattle.script.proofs.apply.pass.Statement.{statement}
-use Rattle.script.proofs.apply.pass.Tie as tie
+use Rattle.script.proofs.apply.pass.Goals as goal
 
 module _ (mask : List ℕ) (m : Machine) where
   made : (o : Options) (image : List ℕ) → (power_on o image m).refusal ≡ 0 → powered o image ≡ (power_on o image m).machine
@@ -25,22 +23,14 @@ module _ (mask : List ℕ) (m : Machine) where
   power : (o : Options) (x : ℕ) {i : Record} {r : Machine} → (answer_to mask (input_of i) m).refusal ≡ 0 → r ≡ powered o (filled x) → i ≡ Power o x → r ≡ next mask (input_of i) m
   power o x z p q = p ∙ made o (filled x) (subst (λ (i : Record). (answer_to mask (input_of i) m).refusal ≡ 0) q z) ∙ sym (ap (λ (i : Record). next mask (input_of i) m) q)
 
-pass-named-requires : tie.Need-pass-named-requires
-pass-named-requires c κs =
-    let s = c.before.before.before.before.before.before in
-    let a = s.args in
-    sym (ap (λ (i : Record). (answer_to a.mask.now (input_of i) (machine_of (state a.cpu a.memory.now) (trace_of a.gap.now))).refusal) c.before.before.before.input2.given.1) ∙ s.requires
+pub pass_named-requires : goal.pass_named-requires
+pass_named-requires c =
+    sym (ap (λ (i : Record). (answer_to c.args.mask.now (input_of i) (machine_of (state c.args.cpu c.args.memory.now) (trace_of c.args.gap.now))).refusal) c.in-Other.is) ∙ c.requires
 
-returns : tie.Need-returns
-returns c =
-    let s = c.before.before.before.before.before.before.before in
-    let a = s.args in
-    power a.mask.now (machine_of (state a.cpu a.memory.now) (trace_of a.gap.now)) _ _ s.requires c.filled.ensures c.before.before.before.before.input.given.1
+pub returns-in-Power : goal.returns-in-Power
+returns-in-Power c =
+    power c.args.mask.now (machine_of (state c.args.cpu c.args.memory.now) (trace_of c.args.gap.now)) _ _ c.requires c.filled.ensures c.in-Power.is
 
-returns-2 : tie.Need-returns-2
-returns-2 c =
-    let a = c.before.before.before.before.before.before.before.args in
-    c.pass-named.ensures ∙ sym (ap (λ (i : Record). next a.mask.now (input_of i) (machine_of (state a.cpu a.memory.now) (trace_of a.gap.now))) c.before.before.before.before.input2.given.1)
-
-pub pass_spec : {M : Type 1} → statement M
-pass_spec = tie.close (tie.spec (λ c. search rules) (λ c κs. search rules) (λ c. search rules) pass-named-requires returns returns-2)
+pub returns-in-Other : goal.returns-in-Other
+returns-in-Other c =
+    c.pass_named.ensures ∙ sym (ap (λ (i : Record). next c.args.mask.now (input_of i) (machine_of (state c.args.cpu c.args.memory.now) (trace_of c.args.gap.now))) c.in-Other.is)

@@ -4,7 +4,6 @@ use mathlib.Core.Path.{◌≡◌, refl, sym, ap, ◌∙◌}
 use mathlib.Core.Bool.{Bool, true, false}
 use mathlib.Core.List.{List}
 use lib.Dec.{eqb}
-use borrow.Author.Rules.{rules}
 use borrow.Author.Tests.{ne_eqb}
 use Rattle.isa.specs.Choice.{pick}
 use Rattle.machine.specs.Events.{named, event_of}
@@ -13,8 +12,7 @@ use Rattle.machine.specs.declared.events.Named.TheVariants.{Known, Unknown}
 use Rattle.machine.specs.declared.events.Event.TheVariants.{Run, Pins, Int, Tmclk, Res}
 use Rattle.records.specs.Records.{kind_at}
 use Rattle.script.specs.Format.{size_of, input_at}
-use Rattle.script.proofs.format.size_of.Statement.{statement}
-use Rattle.script.proofs.format.size_of.Tie as tie
+use Rattle.script.proofs.format.size_of.Goals as goal
 
 alike : (kind n x y z : ℕ) → size_of (named (event_of kind 0 0 0 0)) ≡ size_of (named (event_of kind n x y z))
 unfolding event_of
@@ -35,16 +33,13 @@ other : (s : List ℕ) (at : ℕ) → (kind_at s at ≡ 1 → ⊥) → size_of (
 unfolding input_at
 other s at h = rw (ne_eqb (kind_at s at) 1 h) (alike (kind_at s at) _ _ _ _)
 
-returns : tie.Need-returns
+pub returns-then-kind-eq-POWER_ON : goal.returns-then-kind-eq-POWER_ON
 unfolding input_at
-returns c s at e = rw (sym e ∙ c.if1.true) refl
+returns-then-kind-eq-POWER_ON c s at e = rw (sym e ∙ c.if-kind-eq-POWER_ON.true) refl
 
-returns-2 : tie.Need-returns-2
-returns-2 c s at e =
-    c.named-size.ensures
-    ∙ ap (λ (n : Named). size_of (named n)) c.before.event-of.ensures
+pub returns : goal.returns
+returns c s at e =
+    c.named_size.ensures
+    ∙ ap (λ (n : Named). size_of (named n)) c.event_of.ensures
     ∙ ap (λ (k : ℕ). size_of (named (event_of k 0 0 0 0))) e
-    ∙ other s at (λ y. c.before.before.if1.false (e ∙ y))
-
-pub size-of-spec : {M : Type 1} → statement M
-size-of-spec = tie.close (tie.spec returns (λ c. search rules) (λ c. search rules) returns-2)
+    ∙ other s at (λ y. c.if-kind-eq-POWER_ON.false (e ∙ y))

@@ -13,9 +13,7 @@ use Rattle.machine.specs.declared.Machine.{Machine}
 use Rattle.machine.specs.declared.events.Event.{Event}
 use Rattle.machine.specs.declared.events.Named.{Named}
 use Rattle.machine.specs.declared.events.Named.TheVariants.{Known, Unknown}
-use borrow.Author.Rules.{rules}
-use Rattle.script.proofs.apply.pass_named.Statement.{statement}
-use Rattle.script.proofs.apply.pass_named.Tie as tie
+use Rattle.script.proofs.apply.pass_named.Goals as goal
 
 module _ (mask : List ℕ) (m : Machine) where
   made : (e : Event) → (applied mask e m).refusal ≡ 0 → happened mask e m ≡ (applied mask e m).machine
@@ -32,16 +30,10 @@ module _ (mask : List ℕ) (m : Machine) where
       same true = refl
       same false = refl
 
-returns : tie.Need-returns
-returns c =
-    let s = c.before.before.before.before.before.before.before in
-    let a = s.args in
-    known a.mask.now (machine_of (state a.cpu a.memory.now) (trace_of a.gap.now)) _ s.requires c.happened.ensures c.before.before.before.before.named.given.1
+pub returns-in-Known : goal.returns-in-Known
+returns-in-Known c =
+    known c.args.mask.now (machine_of (state c.args.cpu c.args.memory.now) (trace_of c.args.gap.now)) _ c.requires c.happened.ensures c.in-Known.is
 
-returns-2 : tie.Need-returns-2
-returns-2 c =
-    let a = c.before.before.before.args in
-    unknown a.mask.now (machine_of (state a.cpu a.memory.now) (trace_of a.gap.now)) c.enum_told.given.1
-
-pub pass-named-spec : {M : Type 1} → statement M
-pass-named-spec = tie.close (tie.spec (λ c. search rules) (λ c κs. search rules) (λ c. search rules) returns returns-2)
+pub returns-in-Unknown : goal.returns-in-Unknown
+returns-in-Unknown c =
+    unknown c.args.mask.now (machine_of (state c.args.cpu c.args.memory.now) (trace_of c.args.gap.now)) c.in-Unknown.is
