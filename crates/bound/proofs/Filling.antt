@@ -52,7 +52,7 @@ module _ (mask marks : List ℕ) (bytes : Bytes mask) (size : sized mask ≡ tru
       ((h, f.few), record { size = f.known.size; unbounded = λ k e. sure k (f.known.unbounded k e); bounded = f.known.bounded })
     where
       sure : (k : ℕ) → Endless (next_addresses mask) (HaltsAt mask) k ⊎ ⊥ → Endless (next_addresses mask) (HaltsAt mask) k ⊎ Leads (next_addresses mask) k a
-      sure k (inr x') = elim x' [ ]
+      sure k (inr n) = elim n [ ]
       sure k (inl e) = inl e
 
   -- the two entries of the address
