@@ -1,5 +1,5 @@
 -- What the checker's verdict and the walk's number make of the answer for a pair; and that the answers exclude each other. Assumes nothing.
-use Prim.Native.Nat.{ℕ, ◌<◌, ◌≤◌}
+use Prim.Native.Nat.{ℕ, ◌<◌}
 use native.Mathlib.Omega.{arith}
 use mathlib.Core.Path.{◌≡◌, refl, sym, ap, subst, ◌∙◌}
 use mathlib.Core.Bool.{Bool, true, false, false≢true}
@@ -10,16 +10,15 @@ use borrow.Author.Tests.{eqb-true, eqb-false, ne_eqb}
 use Rattle.isa.specs.Choice.{pick}
 use Rattle.isa.specs.Code.{addresses}
 use Rattle.rom.specs.Fetching.{Bytes, sized}
-use Rattle.checker.specs.Marks.{levels, Pair, pair, Reached}
+use Rattle.checker.specs.Marks.{levels, pair}
 use Rattle.checker.specs.Verdicts.{marks_size, Answers, Marked, Safe, is_marked}
 use Rattle.checker.specs.declared.check.Verdict.{Verdict}
 use Rattle.checker.specs.declared.check.Verdict.TheVariants.{Passed, Failed, BadMask, BadMarks}
 use Rattle.bound.specs.Paths.{Longest}
-use Rattle.bound.specs.Bounds.{Asked, ReachedAbove, Unbounded, Bounded, BoundAnswers, BoundDetermines}
+use Rattle.bound.specs.Bounds.{Asked, ReachedAbove, BoundAnswers, BoundDetermines}
 use Rattle.bound.specs.Lists.{bound_at}
 use Rattle.bound.specs.Lists.{bound_of, endless}
 use Rattle.bound.specs.Walk.{ToldOf}
-use Rattle.bound.specs.declared.bound.Bound.{Bound}
 use Rattle.bound.specs.declared.bound.Bound.TheVariants.{NotReached, NoBound, Cycles, BadPair, MaskFails}
 use Rattle.bound.specs.declared.bound.Bound.TheVariants.{BadMask as NoMask}
 use Rattle.bound.proofs.Levels.{told-unbounded, told-bounded, bounded-some}

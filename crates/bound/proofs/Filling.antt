@@ -1,6 +1,6 @@
 -- The list of all bounds, address by address: what is remembered is true of every address, so one walk after the other goes on with it. Then the largest entry
 -- and the CALLs' targets, place by place. Assumes nothing.
-use Prim.Native.Nat.{ℕ, suc, ◌+◌, ◌*◌, ◌-◌, ◌/◌, ◌%◌, ◌^◌, ◌<◌, ◌≤◌}
+use Prim.Native.Nat.{ℕ, ◌+◌, ◌*◌, ◌/◌, ◌%◌, ◌^◌, ◌<◌, ◌≤◌}
 use native.Mathlib.Omega.{arith}
 use native.Mathlib.Decide.{ℕ_discrete}
 use mathlib.Core.Path.{◌≡◌, refl, sym, ap, subst, ◌∙◌}
@@ -20,20 +20,14 @@ use Rattle.checker.specs.Marks.{levels, pair, flow_at}
 use Rattle.checker.specs.Verdicts.{Marked, Safe, is_marked}
 use Rattle.checker.specs.declared.flow.Flow.{Flow}
 use Rattle.checker.specs.declared.flow.Flow.TheVariants.{Unread, On, Enable, Jump, To, Sub, Back}
-use Rattle.checker.proofs.Reach.{Targets, flow-targets}
 use Rattle.bound.specs.Paths.{Endless}
 use Rattle.bound.specs.Bounds.{BoundAnswers}
 use Rattle.bound.specs.Lists.{bound_at, bounds_size, place_of, entry_of, Entries, Largest, Called, CallTargets}
 use Rattle.bound.specs.Paths.{Leads}
 use Rattle.bound.specs.Lists.{endless}
-use Rattle.bound.specs.Walk.{next_addresses, HaltsAt, ToldOf, RemembersOf, TargetOf}
+use Rattle.bound.specs.Walk.{next_addresses, HaltsAt, RemembersOf, TargetOf}
 use Rattle.bound.proofs.Answers.{listed}
-use Rattle.bound.proofs.Turn.{Left, Turned, fresh, fresh-left}
-
--- where two branches meet
-pub cases : {A B C : Type 0} → A ⊎ B → (A → C) → (B → C) → C
-cases (inl a) f g = f a
-cases (inr b) f g = g b
+use Rattle.bound.proofs.Turn.{Turned, fresh, fresh-left}
 
 -- ---- the entries
 -- the entry of a pair above main
@@ -58,6 +52,7 @@ module _ (mask marks : List ℕ) (bytes : Bytes mask) (size : sized mask ≡ tru
       ((h, f.few), record { size = f.known.size; unbounded = λ k e. sure k (f.known.unbounded k e); bounded = f.known.bounded })
     where
       sure : (k : ℕ) → Endless (next_addresses mask) (HaltsAt mask) k ⊎ ⊥ → Endless (next_addresses mask) (HaltsAt mask) k ⊎ Leads (next_addresses mask) k a
+      sure k (inr n) = elim n [ ]
       sure k (inl e) = inl e
 
   -- the two entries of the address

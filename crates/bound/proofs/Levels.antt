@@ -1,27 +1,27 @@
 -- Above main the pairs that follow are in the pair's own level, and their addresses do not depend on it: so chains of pairs are chains of addresses. Where
 -- no reached pair is forbidden, nothing follows a reached pair exactly where it is a return. Assumes nothing.
-use Prim.Native.Nat.{ℕ, suc, ◌+◌, ◌<◌, ◌≤◌}
+use Prim.Native.Nat.{ℕ, ◌+◌, ◌<◌, ◌≤◌}
 use native.Mathlib.Omega.{arith}
-use mathlib.Core.Path.{◌≡◌, refl, sym, ap, ap₂, subst, ◌∙◌}
+use mathlib.Core.Path.{◌≡◌, refl, sym, ap, subst, ◌∙◌}
 use mathlib.Core.Bool.{Bool, true, false}
 use mathlib.Core.List.{List, [], ◌∷◌, ◌++◌, map}
 use mathlib.Core.Logic.{◌⊎◌, inl, inr}
 use lib.Dec.{eqb}
 use lib.ListN.{length}
-use borrow.Author.Tests.{eqb-true, eq-eqb, ne_eqb}
+use borrow.Author.Tests.{eqb-true, ne_eqb}
 use Rattle.isa.specs.Choice.{pick}
 use Rattle.rom.specs.Fetching.{Bytes, cycles_at, moved_from}
 use Rattle.reach.specs.Chains.{Member, here, there, Chain, one, more, Reaches}
 use Rattle.reach.specs.Walk.{All}
-use Rattle.reach.proofs.Chains.{all-member, to_map, of_map, reached-next, reached-all}
+use Rattle.reach.proofs.Chains.{all-member, to_map, of_map, reached-next}
 use Rattle.checker.specs.Marks.{Pair, pair, flow_at, fault_in, onward, vectors, handed, fault, successors, Reached}
 use Rattle.checker.specs.Verdicts.{Safe}
 use Rattle.checker.specs.declared.flow.Flow.{Flow}
 use Rattle.checker.specs.declared.flow.Flow.TheVariants.{Unread, On, Enable, Jump, To, Sub, Back}
-use Rattle.bound.specs.Paths.{Loop, Endless, total, Spends, Longest}
+use Rattle.bound.specs.Paths.{Loop, Endless, total, Spends}
 use Rattle.bound.specs.Bounds.{within, Returns, Halts, cycles_of, Unbounded, Bounded}
 use Rattle.bound.specs.Lists.{endless}
-use Rattle.bound.specs.Walk.{address_of, next_addresses, HaltsAt, Last, Finite, ToldOf, handed_to}
+use Rattle.bound.specs.Walk.{address_of, next_addresses, HaltsAt, Last, ToldOf, handed_to}
 use Rattle.bound.proofs.Addresses.{next-flow, returned-cycles}
 
 -- one of a list is one of a longer one

@@ -18,6 +18,7 @@ module _ {A : Type 0} {next : A → List A} where
 
   -- each element of a chain is reached from its first
   pub reached-in : {p q r : A} {ps : List A} → Chain next p ps r → Member q ps → Reaches next p q
+  reached-in one (there n) = elim n [ ]
   reached-in one here = reached-start
   reached-in (more m c) here = reached-start
   reached-in (more m c) (there n) = reached-over m (reached-in c n)

@@ -3,11 +3,11 @@
 use Prim.Native.Nat.{ℕ, suc, ◌-◌, ◌<◌, ◌≤◌}
 use native.Mathlib.Decide.{ℕ_discrete}
 use native.Mathlib.Omega.{arith}
-use mathlib.Core.Path.{◌≡◌, refl, sym, ap, subst, ◌∙◌}
+use mathlib.Core.Path.{◌≡◌, sym, subst}
 use mathlib.Core.Bool.{Bool, true, false}
 use mathlib.Core.List.{List}
 use lib.Dec.{ltb}
-use lib.ListN.{length, get_or, set, replicate, length-replicate}
+use lib.ListN.{get_or, set, replicate, length-replicate}
 use Rattle.isa.specs.Choice.{pick}
 use Rattle.isa.specs.Code.{addresses}
 use Rattle.rom.specs.Fetching.{Bytes, cycles_at}
@@ -17,9 +17,8 @@ use Rattle.reach.proofs.Chains.{all-member}
 use Rattle.reach.proofs.Count.{zeros-replicate, get_d-zeros}
 use Rattle.bound.specs.Paths.{Leads}
 use Rattle.bound.specs.Lists.{endless}
-use Rattle.bound.specs.Walk.{most_cycles, settled, Remembers, Told, next_addresses, HaltsAt, ToldOf, RemembersOf, StandsAt}
-use Rattle.bound.specs.declared.ways.Ways.{Ways}
-use Rattle.bound.specs.declared.ways.Ways.TheVariants.{Stop, Out, One, Two}
+use Rattle.bound.specs.Walk.{most_cycles, settled, next_addresses, HaltsAt, ToldOf, RemembersOf, StandsAt}
+use Rattle.bound.specs.declared.ways.Ways.TheVariants.{Out, One, Two}
 use Rattle.bound.proofs.Addresses.{two-cycles, next_small}
 use Rattle.bound.proofs.Worst.{zeros-mark, zeros-set-most, Worst, worst-none, worst-one, worst-two, told-settled, told-halt, finite-small}
 use Rattle.bound.proofs.Worst.{told-known, stays, opened, descend, ascend, closed}

@@ -10,15 +10,15 @@ use mathlib.Core.List.{List, [], ◌∷◌}
 use mathlib.Core.Logic.{◌⊎◌, inl, inr}
 use lib.Dec.{eqb, ltb}
 use lib.ListN.{length, get_or, set, length-set}
-use lib.Seq.{get_or-set_same, get_or-set_other}
-use borrow.Author.Tests.{eqb-true, eqb-false, eq-eqb, ne_eqb, ltb-true, ltb-false}
+use lib.Seq.{get_or-set_other}
+use borrow.Author.Tests.{eqb-true, eqb-false, ltb-true, ltb-false}
 use Rattle.isa.specs.Choice.{pick}
 use Rattle.isa.specs.Code.{addresses}
-use Rattle.reach.specs.Chains.{Member, here, there, Chain, one, more, Reaches}
+use Rattle.reach.specs.Chains.{Member, here, there, Chain, one, more}
 use Rattle.reach.specs.Walk.{Small, zeros}
 use Rattle.reach.proofs.Chains.{all-member, reached-start, reached-next}
 use Rattle.reach.proofs.Count.{after-set}
-use Rattle.bound.specs.Paths.{Loop, Endless, total, Spends, Longest}
+use Rattle.bound.specs.Paths.{Loop, Endless, total, Spends}
 use Rattle.bound.specs.Paths.{Leads}
 use Rattle.bound.specs.Lists.{endless}
 use Rattle.bound.specs.Walk.{most_cycles, settled, Last, Finite, Told, Remembers}

@@ -43,11 +43,11 @@ fn settle(found: &mut [u16; PLACES], address: u16, worst: u16, timing: u8) -> u1
 // The most cycles from an address to a return. `left` is the measure, the pairs that a chain can still have: at least as many as are not found yet. The
 // second way is often known: a look saves the call.
 pub(crate) fn longest(mask: &[u8], found: &mut [u16; PLACES], address: u16, left: u16) -> u16
-    requires address_lt_addresses { (address < addresses) × (zeros found.old ≤ left) }
-    requires remembers_of { RemembersOf mask.now (λ (k : ℕ). Leads (next_addresses mask.now) k address) found.old }
-    ensures told_of { ToldOf mask.now address result }
-    ensures remembers_of_2 { RemembersOf mask.now (λ (k : ℕ). get_or found.old k 0 ≡ endless) found.new }
-    ensures found_bound { zeros found.new ≤ zeros found.old }
+    requires in_range { (address < addresses) × (zeros found.old ≤ left) }
+    requires on_the_way { RemembersOf mask.now (λ (k : ℕ). Leads (next_addresses mask.now) k address) found.old }
+    ensures told { ToldOf mask.now address result }
+    ensures remembers { RemembersOf mask.now (λ (k : ℕ). get_or found.old k 0 ≡ endless) found.new }
+    ensures no_more_left { zeros found.new ≤ zeros found.old }
 {
     let at = address as usize;
     let known = found[at];

@@ -12,7 +12,7 @@ use borrow.Author.Tests.{eq-eqb, ne_eqb}
 use Rattle.isa.specs.Choice.{pick}
 use Rattle.isa.specs.Code.{addresses}
 use Rattle.rom.specs.Fetching.{Bytes, moved_from}
-use Rattle.reach.specs.Chains.{Member, here, there, Chain, one, more}
+use Rattle.reach.specs.Chains.{Member, here, Chain, one, more}
 use Rattle.reach.proofs.Chains.{map-length}
 use Rattle.checker.specs.Marks.{Pair, pair, flow_at, fault_in, onward, fault, Reached}
 use Rattle.checker.specs.Verdicts.{Safe}

@@ -19,7 +19,7 @@ use Rattle.rom.specs.Fetching.{sized, byte_at, read_at, length_at}
 use Rattle.rom.proofs.Fetching.{full, read-bytes, length-bytes}
 use Rattle.machine.specs.Table.{nops}
 use Rattle.machine.proofs.Table.{table}
-use Rattle.reach.specs.Chains.{Member, here}
+use Rattle.reach.specs.Chains.{Member, here, there}
 use Rattle.reach.proofs.Chains.{reached-start, reached-next, reached-all}
 use Rattle.checker.specs.Marks.{Pair, pair, flow_of, flow_at, fault, successors, Reached}
 use Rattle.checker.specs.Verdicts.{marks_size, Answers, Marked, rank, Safe, Lowest}
@@ -55,6 +55,7 @@ module _ (mask : List ℕ) (a l : ℕ) (e : byte_at mask a ≡ 0x3e) where
   nop-fault = rw nop-read refl
 
 only : {q p : Pair} → Member q (p ∷ []) → q ≡ p
+only (there m) = elim m [ ]
 only here = refl
 
 nops-reached : (a : ℕ) → a < addresses → Reached nops (pair a 0)

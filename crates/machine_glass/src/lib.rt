@@ -1,5 +1,6 @@
 // What an operator sees of a machine: the picture on its glass, and what it is read as.
 #![tactic(auto)]
+
 ghost use Rattle.std.specs.Prelude.{◌≡◌};
 ghost use Rattle.machine_glass.specs.Glass.{Sees, picture_of};
 

@@ -10,7 +10,7 @@ use lib.ListN.{length}
 use borrow.Author.Tests.{leb-true}
 use Rattle.rom.specs.Fetching.{sized}
 use Rattle.isa.specs.Choice.{pick}
-use Rattle.cpu.specs.Range.{nibble, nibbles, options_ok}
+use Rattle.cpu.specs.Range.{nibbles, options_ok}
 use Rattle.machine.specs.Events.{Input, power, named, values_ok}
 use Rattle.machine.specs.declared.events.Named.TheVariants.{Known, Unknown}
 use Rattle.records.specs.Records.{kind_at, offsets}

@@ -1,21 +1,20 @@
 -- One record at a time: each step of an accepted script is a record that is well formed, and leads to a machine in range, whose report is not
 -- refused. Assumes nothing.
-use Prim.Native.Nat.{ℕ, ◌<◌, ◌≤◌}
+use Prim.Native.Nat.{ℕ}
 use mathlib.Core.Path.{◌≡◌, sym, ap, ap₂, subst, ◌∙◌}
 use mathlib.Core.Bool.{true}
-use mathlib.Core.List.{List, [], ◌++◌}
-use lib.ListN.{length}
+use mathlib.Core.List.{List, ◌++◌}
 use Rattle.cpu.specs.Range.{valid}
 use Rattle.rom.specs.Fetching.{Bytes}
 use Rattle.machine.specs.Machine.{state_of}
 use Rattle.machine.specs.Power.{blank}
-use Rattle.machine.specs.Report.{Reporting, reporting, report, reported}
+use Rattle.machine.specs.Report.{Reporting, reported}
 use Rattle.machine.specs.declared.Machine.{Machine}
 use Rattle.machine.proofs.Lists.{input-valid}
 use Rattle.records.specs.Records.{offsets_from}
 use Rattle.script.specs.Format.{input_at}
 use Rattle.script.specs.Check.{first, ruled, checked}
-use Rattle.script.specs.Reports.{next, reports_of, stepped}
+use Rattle.script.specs.Reports.{next, reports_of}
 use Rattle.script.specs.declared.Progress.{Progress}
 use Rattle.script.specs.declared.check.Rule.TheVariants.{Format}
 use Rattle.script.specs.Whole.{Printing, ended, going, RecordByRecord}

@@ -1,5 +1,5 @@
 -- What a script makes: "Each record yields a report". Assumes nothing.
-use Rattle.std.specs.Prelude.{ℕ, ◌+◌, List, [], ◌∷◌, ◌++◌, ltb, eqb, length, drop}
+use Rattle.std.specs.Prelude.{ℕ, List, [], ◌∷◌, ◌++◌, ltb, eqb, length, drop}
 use Rattle.isa.specs.Choice.{pick}
 use Rattle.machine.specs.Power.{blank}
 use Rattle.machine.specs.Events.{Input, answer_to}

@@ -1,5 +1,6 @@
 // The panel script: the record format, the whole check before anything runs, applying records, reports into a lent buffer.
 #![tactic(auto)]
+
 pub mod apply;
 pub mod check;
 mod format;
