@@ -26,7 +26,6 @@ use Rattle.mnemonic.specs.Placing.{placed_at}
 use Rattle.assembler.specs.Forms.{always, paired, addressed, branching, forms, lead, field, reaches, rom_size}
 use Rattle.assembler.specs.Statement.{form_in}
 use Rattle.assembler.specs.Program.{span}
-use Rattle.assembler_laws.proofs.Each as Each
 use Rattle.assembler_laws.proofs.Each.{Each, ◌and◌}
 use Rattle.assembler_laws.proofs.Spoken.{line-of}
 

@@ -2,7 +2,7 @@
 use Prim.Native.Nat.{ℕ}
 use mathlib.Core.Path.{◌≡◌, refl}
 use mathlib.Core.List.{List, [], ◌∷◌, ◌++◌}
-use lib.ListN.{drop, length, take}
+use lib.ListN.{drop, take}
 use Rattle.isa.specs.Code.{bytes_of, leading}
 use Rattle.isa.specs.Views.{view}
 use Rattle.mnemonic.specs.Line.{line_of}

@@ -26,7 +26,6 @@ use Rattle.operand.specs.Words.{fixed_words, same, place, is_fixed}
 use Rattle.assembler.specs.Forms.{operand_digits, lead}
 use Rattle.assembler.specs.Statement.{leads}
 use Rattle.assembler_laws.specs.Fixed.{Stated, org, mnemonic, FixedExactly}
-use Rattle.assembler_laws.proofs.Each as Each
 use Rattle.assembler_laws.proofs.Each.{Each, ◌and◌, every, passes}
 use Rattle.assembler_laws.proofs.Numbers.{same-is}
 use Rattle.assembler_laws.proofs.Own.{own-case, own_line}

@@ -21,7 +21,6 @@ use Rattle.assembler.specs.Forms.{always, forms, lead, operand_digits, size, fie
 use Rattle.assembler.specs.Statement.{Statement, unreadable, blank, org, mnemonic, before, after, equals, form_in, org_of, code_of, operand_for, coded}
 use Rattle.assembler.specs.Statement.{body, labelled, label_of, after_two, statement}
 use Rattle.assembler_laws.specs.Lines.{GoesBy}
-use Rattle.assembler_laws.proofs.Each as Each
 use Rattle.assembler_laws.proofs.Each.{Each, ◌and◌}
 
 -- what a form is with a value of its field

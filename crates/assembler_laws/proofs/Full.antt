@@ -14,7 +14,7 @@ use Rattle.operand.specs.Text.{is_digit}
 use Rattle.operand.specs.Words.{first, is_label, number_of}
 use Rattle.operand.specs.Operand as Reading
 use Rattle.operand.specs.Operand.{Term, part_of, before, wanted, followed, operand_of}
-use Rattle.assembler_laws.specs.Grammar.{Tree, number, label, numeral, name, parenthesis}
+use Rattle.assembler_laws.specs.Grammar.{Tree, numeral, name, parenthesis}
 use Rattle.assembler_laws.specs.Grammar.{Operand, single, added, less, terms_of}
 use Rattle.assembler_laws.proofs.Numbers.{not-label}
 

@@ -20,7 +20,7 @@ use Rattle.operand.specs.Text.{tokens}
 use Rattle.operand.specs.Operand.{Term, plus, minus}
 use Rattle.assembler.specs.Forms.{size, field, reaches, rom_size}
 use Rattle.assembler.specs.Statement.{Statement, unreadable, blank, org, mnemonic, statement}
-use Rattle.assembler.specs.Program.{Above, start, end, span, meets, within, misplaced, misfit, instruction, bytes, put, image, program}
+use Rattle.assembler.specs.Program.{Above, start, next, end, span, meets, within, misplaced, misfit, instruction, put, image, program}
 use Rattle.assembler_laws.specs.Lines.{Stands, here, there, BytesRead, LinesRead, LinesReadAll}
 use Rattle.assembler_laws.proofs.Each.{Each, ◌and◌, each_map}
 use Rattle.assembler_laws.proofs.Form.{Fits, Formed, formed}
@@ -28,8 +28,9 @@ use Rattle.assembler_laws.proofs.Image.{or_left, or_right, Clear, put-length, un
 use Rattle.assembler_laws.proofs.Passed.{Passed, passed, never}
 
 each_line : {P : Statement → Type 0} {s u : Above} {ls : List Statement} {k : Statement} → Each P ls → Stands s ls u k → P k
+each_line Each.none h = elim h [ ]
 each_line (p and ps) here = p
-each_line (p and ps) (there h) = each_line ps h
+each_line {P = P} {s = s} {u = u} {k = k} (◌and◌ {a = a} {l = l} p ps) (there h) = each_line {s = next s a} ps h
 
 -- at most two bytes that stand at an address, as the two that are read there
 two-read : (xs bs : List ℕ) (a : ℕ) → length xs ≤ 2 → a + length xs ≤ rom_size → ((j : ℕ) → j < length xs → get_or bs (a + j) 0 ≡ get_or xs j 0)

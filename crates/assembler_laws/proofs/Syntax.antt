@@ -19,7 +19,6 @@ use Rattle.operand.specs.Words.{is_fixed, is_label, number_of, first}
 use Rattle.operand.specs.Operand as Reading
 use Rattle.operand.specs.Operand.{Part, Term, part_of, as_number, termed, wanted, followed, operand_of}
 use Rattle.assembler.specs.Forms.{forms, lead_of, digits_of, lead, operand_digits}
-use Rattle.assembler.specs.Statement as Statement
 use Rattle.assembler.specs.Statement.{Statement, leads, before, after, equal, equals, form_in, org_of, code_of, operand_for, coded, body, statement}
 use Rattle.assembler_laws.specs.Grammar.{Has}
 use Rattle.assembler_laws.specs.Syntax as Syntax
@@ -137,6 +136,7 @@ unfolding forms line_of
 forms-told = refl
 
 member-found : (fs : List (ℕ → Instruction)) (f : ℕ → Instruction) → told fs ≡ true → Memᴰ f fs → form_in fs (lead f) ≡ some f
+member-found [] f e m = elim m [ ]
 member-found (g ∷ gs) f e (Memᴰ.head p) =
     let own = and_left (equals (lead g) (lead g)) (every (other-than g) gs && told gs) e in
     subst (λ (h : ℕ → Instruction). pick (equals (lead g) (lead h)) (some g) (form_in gs (lead h)) ≡ some h) (sym p) (rw own refl)

@@ -9,7 +9,6 @@ use Rattle.mnemonic.specs.Spelling.{Token, letters, mark, operand, codes, sign}
 use Rattle.operand.specs.Words.{is_label}
 use Rattle.operand.specs.Operand.{Term}
 use Rattle.assembler.specs.Forms.{forms}
-use Rattle.assembler.specs.Statement as Statement
 use Rattle.assembler.specs.Statement.{Statement, statement}
 use Rattle.assembler_laws.specs.Grammar.{Has}
 
