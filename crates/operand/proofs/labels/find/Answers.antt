@@ -42,6 +42,3 @@ returns c = omega (
   find_past c.args.text.now c.args.starts.now c.args.count (word_at c.args.text.now c.args.word)
       c.loop-i.i (omega (arith, c.present-most.ensures)),
 )
-
-pub overflow_cast-starts : goal.overflow_cast-starts
-overflow_cast-starts c = omega (arith, c.shared_slice_known-in-loop-i-1.given c.loop-i.i)

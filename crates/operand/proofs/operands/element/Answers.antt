@@ -4,8 +4,5 @@ use native.Mathlib.Omega.{arith}
 use lib.ListN.{get_or-eq_default}
 use Rattle.operand.proofs.operands.element.Goals as goal
 
-pub overflow_cast-result : goal.overflow_cast-result
-overflow_cast-result c = omega (arith, c.shared_slice_known-1.given c.args.k)
-
 pub returns : goal.returns
 returns c = sym (get_or-eq_default c.args.list.now 0 (omega arith))

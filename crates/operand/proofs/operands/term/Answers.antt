@@ -2,6 +2,7 @@
 use mathlib.Core.Path.{refl, sym}
 use mathlib.Core.List.{[], ◌∷◌}
 use native.Mathlib.Omega.{arith}
+use borrow.Author.Rules.{rules}
 use Rattle.operand.specs.Operand.{label, number, part_of}
 use Rattle.operand.specs.Read.{bad, good, names_at, word_at}
 use Rattle.operand.proofs.Terms.{label_small, no_number, single-counts, some_number}
@@ -17,7 +18,7 @@ returns-then-kind-eq-LABEL c = let names = names_at c.args.text.now c.args.start
     let moved = c.requires.lexed.moves (λ e. omega (arith, c.if-kind-eq-LABEL.true)) in
     good (record { taken = c.args.taken; part = label w } ∷ []) c.named.ensures.readable
     (single-counts names c.args.addresses.now c.args.at c.args.word.next c.args.taken (label w) c.named.result
-    (label_small names c.args.addresses.now w (λ k. omega (arith, c.shared_slice_known-3-1.given k))) (omega (arith, c.requires.lexed.from))
+    (label_small names c.args.addresses.now w (λ k. search rules)) (omega (arith, c.requires.lexed.from))
     c.named.ensures)
     (omega (arith, c.requires.lexed.from, c.requires.lexed.starts, c.named.ensures.next)) (omega (arith, c.requires.lexed.within, c.named.ensures.next))
     (λ here outer h. rw (is.0, is.1, c.named.ensures.next) refl)
