@@ -110,6 +110,12 @@ class Names(unittest.TestCase):
         self.assertEqual(self.strangers(("w.size", "w.size_that_no_crate_has"), file="src/lib.rt"), ["size_that_no_crate_has"])
 
 
+class Code(unittest.TestCase):
+    def test_bodies(self):
+        text = "fn f(x: u8) -> u8\n    requires* low { x } ensures { result } ensures high { y }\n{\n    x\n}\nimpl A { fn g(&self) { if a { b } } }\n"
+        self.assertEqual([(f.name, text[f.start : f.end + 1].split()[1]) for f in wrong_answers.functions(text)], [("f", "x"), ("A::g", "if")])
+
+
 class Errors(unittest.TestCase):
     IDLE = (
         "`f-spec`: `returns` was not admitted (it has holes)",
