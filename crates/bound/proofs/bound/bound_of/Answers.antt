@@ -2,20 +2,15 @@
 use Prim.Native.Nat.{ℕ, ◌<◌}
 use mathlib.Core.Path.{◌≡◌, refl, sym, subst, ◌∙◌}
 use mathlib.Core.Bool.{true, true≢false}
-use mathlib.Core.List.{List, [], ◌∷◌}
+use mathlib.Core.List.{List}
 use native.Mathlib.Omega.{arith}
-use types.Run.{OneOf, miss}
-use denote.Enum.Declared.{tag_of}
 use Rattle.rom.specs.Fetching.{sized}
 use Rattle.checker.specs.Marks.{levels, pair}
 use Rattle.checker.specs.Verdicts.{Marked, Safe}
-use Rattle.checker.specs.declared.check.Verdict.{Verdict}
 use Rattle.checker.specs.declared.check.Verdict.TheVariants.{Passed}
-use Rattle.checker.specs.contracts.check.Verdict.{the_type}
 use Rattle.bound.specs.Bounds.{BoundAnswers}
 use Rattle.bound.proofs.Answers.{fails, passes, main, unmarked, marked}
 use Rattle.bound.proofs.Turn.{fresh, fresh-left}
-use borrow.Enum.Refused.{opened}
 use Rattle.bound.proofs.bound.bound_of.Goals as goal
 
 -- ---- the answers
@@ -53,7 +48,7 @@ returns-in_default c =
       full-returns-in_default v,
       (v.if-address-ge-ADDRESSES.false, low-returns-in_default v),
       fails (mask-of-returns-in_default v) _ (marks-of-returns-in_default v) (full-returns-in_default v) refl v.check-verdict.result v.check-verdict.ensures.answers
-          (λ e. miss (1 ∷ 2 ∷ 3 ∷ []) (tag_of the_type Passed) tt (subst (λ (v : Verdict). OneOf (1 ∷ 2 ∷ 3 ∷ []) (tag_of the_type v)) e (opened c.in_default.in_default-own.keys2))),
+          c.in_default.not-Passed,
     )
 
 abbrev mask-of-returns-then-level-eq0 : goal.Then-level-eq0 → List ℕ

@@ -1,19 +1,13 @@
 -- `bound::bounds::bounds_of` meets its contract: the refusals are its tests and the checker's verdict. Assumes nothing.
 use Prim.Native.Nat.{ℕ}
-use mathlib.Core.Path.{◌≡◌, refl, sym, subst, ◌∙◌}
+use mathlib.Core.Path.{◌≡◌, refl, sym, ◌∙◌}
 use mathlib.Core.Bool.{true, true≢false}
-use mathlib.Core.List.{List, [], ◌∷◌}
-use types.Run.{OneOf, miss}
-use denote.Enum.Declared.{tag_of}
+use mathlib.Core.List.{List}
 use lib.ListN.{length}
 use Rattle.rom.specs.Fetching.{sized}
 use Rattle.checker.specs.Verdicts.{Safe}
-use Rattle.checker.specs.declared.check.Verdict.{Verdict}
-use Rattle.checker.specs.declared.check.Verdict.TheVariants.{Passed}
-use Rattle.checker.specs.contracts.check.Verdict.{the_type}
 use Rattle.bound.specs.Lists.{bounds_size, Entries}
 use Rattle.bound.proofs.Answers.{fails, passes}
-use borrow.Enum.Refused.{opened}
 use Rattle.bound.proofs.bounds.bounds_of.Goals as goal
 
 -- ---- the answers
@@ -44,7 +38,7 @@ returns-in_default c =
       full-returns-in_default v,
       v.if-list-ne-BOUNDS.false,
       fails (mask-of-returns-in_default v) _ v.check-verdict.new.marks (full-returns-in_default v) refl v.check-verdict.result v.check-verdict.ensures.answers
-          (λ e. miss (1 ∷ 2 ∷ 3 ∷ []) (tag_of the_type Passed) tt (subst (λ (v : Verdict). OneOf (1 ∷ 2 ∷ 3 ∷ []) (tag_of the_type v)) e (opened c.in_default.in_default-own.keys2))),
+          c.in_default.not-Passed,
     ) in
     (failed, refl)
 

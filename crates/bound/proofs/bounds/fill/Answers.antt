@@ -12,7 +12,7 @@ loop-address-init c b e m f = filling-start c.args.mask.now c.args.marks.now b e
 
 pub longest-number-requires : goal.longest-number-requires
 longest-number-requires c =
-    let b : Bytes c.args.mask.now = λ k. omega (arith, c.shared_slice_known-1.given k) in
+    let b : Bytes c.args.mask.now = λ k. omega (arith, c.type_inv.mask k) in
     let g = filling-given c.args.mask.now c.args.marks.now b c.requires.0 c.requires.2 c.requires.3 c.loop-address.list c.loop-address.found c.loop-address.address (c.loop-address.invariant b c.requires.0 c.requires.2 c.requires.3) c.loop-address-test.true in
     record { in_range = g.0; on_the_way = g.1 }
 
@@ -23,24 +23,24 @@ loop-address-preserved c b e m f =
 
 pub returns : goal.returns
 returns c =
-    let b : Bytes c.args.mask.now = λ k. omega (arith, c.shared_slice_known-1.given k) in
+    let b : Bytes c.args.mask.now = λ k. omega (arith, c.type_inv.mask k) in
     filling-end c.args.mask.now c.args.marks.now b c.requires.0 c.requires.2 c.requires.3 c.loop-address.list c.loop-address.found c.loop-address.address (c.loop-address.invariant b c.requires.0 c.requires.2 c.requires.3) c.loop-address-test.false
 
 -- both places are in the list
 pub bounds-list-at : goal.bounds-list-at
 bounds-list-at c =
-    let b : Bytes c.args.mask.now = λ k. omega (arith, c.shared_slice_known-1.given k) in
+    let b : Bytes c.args.mask.now = λ k. omega (arith, c.type_inv.mask k) in
     let f = c.loop-address.invariant b c.requires.0 c.requires.2 c.requires.3 in
     omega (arith, f.room, c.loop-address-test.true)
 
 pub bounds-list-at-in-loop-address : goal.bounds-list-at-in-loop-address
 bounds-list-at-in-loop-address c =
-    let b : Bytes c.args.mask.now = λ k. omega (arith, c.shared_slice_known-1.given k) in
+    let b : Bytes c.args.mask.now = λ k. omega (arith, c.type_inv.mask k) in
     let f = c.loop-address.invariant b c.requires.0 c.requires.2 c.requires.3 in
     omega (arith, f.room, c.loop-address-test.true, length-set c.loop-address.list (c.loop-address.address * 2) c.entry.result)
 
 pub shape_of-list : goal.shape_of-list
 shape_of-list c =
-    let b : Bytes c.args.mask.now = λ k. omega (arith, c.shared_slice_known-1.given k) in
+    let b : Bytes c.args.mask.now = λ k. omega (arith, c.type_inv.mask k) in
     let f = c.loop-address.invariant b c.requires.0 c.requires.2 c.requires.3 in
     f.room ∙ sym c.requires.1

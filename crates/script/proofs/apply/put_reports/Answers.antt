@@ -13,7 +13,7 @@ use Rattle.script.proofs.apply.put_reports.Goals as goal
 pub loop-at-init : goal.loop-at-init
 loop-at-init c =
     subst (λ (m : Machine). Held c.args.mask.now c.args.script.now c.args.out.now c.args.out.now 0 0 m) (sym c.blank-blank.ensures)
-    (begins c.args.mask.now c.args.script.now c.args.out.now (λ k. omega (arith, c.shared_slice_known-1.given k)) c.requires)
+    (begins c.args.mask.now c.args.script.now c.args.out.now (λ k. omega (arith, c.type_inv.mask k)) c.requires)
 
 pub pass-cpu-requires : goal.pass-cpu-requires
 pass-cpu-requires c =

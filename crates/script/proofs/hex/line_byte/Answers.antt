@@ -14,9 +14,6 @@ pub returns-then-i-eq96 : goal.returns-then-i-eq96
 returns-then-i-eq96 c =
     sym (newline c.args.report.now c.args.i (omega arith))
 
-pub digit-requires : goal.digit-requires
-digit-requires c = omega (arith, c.shared_slice_known-2-1.given (c.args.i / 2))
-
 pub returns-then-i-eq0 : goal.returns-then-i-eq0
 returns-then-i-eq0 c =
     let x = get_or c.args.report.now (c.args.i / 2) 0 in
