@@ -18,7 +18,7 @@ use Rattle.bound.specs.declared.bound.Bound.{Bound}
 use Rattle.bound.specs.declared.bound.Bound.TheVariants.{NotReached, NoBound, Cycles, BadPair, MaskFails}
 use Rattle.bound.specs.declared.bound.Bound.TheVariants.{BadMask as BadBoundMask}
 use Rattle.bound.proofs.Answers.{bound-determines}
-use Rattle.ht1130_tools.specs.Numbers.{Checks, ChecksDetermine, verdict_number, WaysDetermine, WayLengthDoes, way_number, BoundsDetermine, BoundReads, BoundTold, bound_number}
+use Rattle.ht1130_tools.specs.Numbers.{Checks, ChecksDetermine, verdict_number, WaysDetermine, WayLengthDoes, way_number, BoundsDetermine, BoundReads, bound_number}
 
 pub passed : (mask old marks : List ℕ) → Checks mask old marks 0 → Answers mask old marks Passed
 passed mask old marks c = go c.verdict c.answers c.number

@@ -2,7 +2,7 @@
 -- Assumes nothing.
 use Prim.Native.Nat.{ℕ, ◌+◌, ◌*◌, ◌≤◌}
 use native.Mathlib.Omega.{arith}
-use mathlib.Core.Path.{◌≡◌, refl}
+use mathlib.Core.Path.{◌≡◌, refl, sym, ap, subst}
 use mathlib.Core.Bool.{Bool, true, false}
 use mathlib.Core.List.{List}
 use lib.Dec.{leb, eqb}
@@ -13,6 +13,7 @@ use Rattle.rom.specs.Fetching.{sized}
 use Rattle.records.specs.Records.{size_at, kind_at, offsets_from, offsets}
 use Rattle.records.proofs.Offsets.{each}
 use Rattle.script.specs.Check.{refused, fine, unless, first_refused, first, ruled, checked}
+use Rattle.script.specs.Reports.{Applied, applied, leaving}
 use Rattle.script.specs.declared.Checked.{Checked}
 use Rattle.script.specs.declared.check.Rule.{Rule}
 use Rattle.script.specs.declared.check.Rule.TheVariants.{Format, Values, Choices}
@@ -61,3 +62,11 @@ rest s room n h =
 pub small : (mask s : List ℕ) (room : ℕ) → (checked mask s room).offset ≤ 65535
 unfolding checked
 small mask s room = (either 65535 _ _ (tested 65535 (sized mask) 1) (bounded s _ (λ h. rest s room 65535 h))).bound
+
+-- an answer that the check computes, and one that a whole script does
+pub small_checked : (mask s : List ℕ) (room : ℕ) (k : Checked) → k ≡ checked mask s room → k.offset ≤ 65535
+small_checked mask s room k e = subst (λ (n : ℕ). n ≤ 65535) (sym (ap (λ (x : Checked). x.offset) e)) (small mask s room)
+
+pub small_applied : (mask s old new : List ℕ) (k : Checked) → leaving k new ≡ applied mask s old → k.offset ≤ 65535
+unfolding applied
+small_applied mask s old new k e = subst (λ (n : ℕ). n ≤ 65535) (sym (ap (λ (a : Applied). a.answer.offset) e)) (small mask s (length old))

@@ -15,6 +15,7 @@ fn packed(answer: Checked) -> u64
     answer.number as u64 + answer.offset as u64 * 0x100000000
 }
 
+#[tactic(auto, using(crate::proofs::Small::small_checked))]
 pub fn ht1130_check_script(mask: &[u8], script: &[u8], room: usize) -> u64
     ensures { result ≡ script_number (checked mask.now script.now room) }
 {
