@@ -119,6 +119,8 @@ class Code(unittest.TestCase):
 class Errors(unittest.TestCase):
     IDLE = (
         "`f-spec`: `returns` was not admitted (it has holes)",
+        "1 declaration that depends on `met`, which was not admitted, was not checked: f_spec",
+        "2 declarations that depend on `walk`, which was rejected, were not checked: walks, query (via walks)",
         "`returns`: record `Rattle.a.proofs.f.Lts.View.In-After-g` has no field `if-n-lt4` (nearest: .if-n-lt5)",
         "module `Rattle.a.proofs.f` has no `Goals` that can be named from here",
         "`returns-then-n-lt4`: `goal.returns-then-n-lt4`: module `Rattle.a.proofs.f.Goals` has no `returns-then-n-lt4` that can be named from here",
