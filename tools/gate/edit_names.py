@@ -42,8 +42,8 @@ def importing(text, at):
 
 
 def bound(file, text):
-    """The names that the text binds or declares: by `let`, by `λ`, before `:` or `=`, in a pattern, on the left of a clause, in `use`."""
-    found = set(re.findall(rf"\blet (?:mut )?({START}{WITHIN})", text))
+    """The names that the text binds or declares: by `let`, `fn` or `λ`, before `:` or `=`, in a pattern, on the left of a clause, in `use`."""
+    found = set(re.findall(rf"\b(?:let (?:mut )?|fn )({START}{WITHIN})", text))
     found |= {name for part in re.findall(r"λ([^.]*)\.", text) for name in NAME.findall(re.sub(r":[^)]*", "", part))}
     found |= set(re.findall(rf"({START}{WITHIN})\s*(?::(?!:)|=(?![=>]))", text))
     found |= {name for part in re.findall(r"\(([^()]*)\)\s*=>", text) for name in NAME.findall(part)}

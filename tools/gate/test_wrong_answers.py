@@ -101,6 +101,7 @@ class Names(unittest.TestCase):
         self.assertEqual(self.strangers(("length xs", "sized (f 0) where f = λ (n : ℕ) k. n")), [])
         self.assertEqual(self.strangers(("length xs", "lib.ListN.drop 1 xs")), [])
         self.assertEqual(self.strangers(("  take}", "  take, drop}"), ("length xs", "length (drop 1 xs)")), [])
+        self.assertEqual(self.strangers(("// of bytes", "fn one() { }"), ("w.size", "one()"), file="src/lib.rt"), [])
         self.assertEqual(self.strangers(("w.size", "let n = w; if true { 0x1f } else { b'x' }"), file="src/lib.rt"), [])
 
     def test_not_in_sight(self):
@@ -125,6 +126,7 @@ class Errors(unittest.TestCase):
         "module `Rattle.a.proofs.f` has no `Goals` that can be named from here",
         "`returns-then-n-lt4`: `goal.returns-then-n-lt4`: module `Rattle.a.proofs.f.Goals` has no `returns-then-n-lt4` that can be named from here",
         "`returns`: `drop` is not in scope",
+        "1 declaration that depends on `short`, which was rejected, was not checked: returns",
         "`f-spec`: expected type `tie.Need-returns`, but this has type `tie.Need-cast`",
     )
     TELLING = (
