@@ -1,3 +1,4 @@
 pub mod Gap
 pub mod Property2
 pub mod Refused
+pub mod Wrapper
