@@ -1,6 +1,7 @@
 // The archive libht1130.a: the functions of crate ht1130 as C calls them, each with the promise that it has there. include/ht1130.h documents them.
 // A crate is a library or an archive, and host_guarantee stands on the library.
 #![tactic(auto)]
+
 ghost use Rattle.std.specs.Prelude.{◌≡◌};
 ghost use Rattle.ht1130.specs.Lent.{gap_number, left, options_of, hosted};
 ghost use Rattle.machine.specs.Gap.{gap_count};
