@@ -1,3 +1,4 @@
+pub mod Complements
 pub mod Numbers
 pub mod Readings
 pub mod Small
