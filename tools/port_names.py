@@ -15,7 +15,7 @@ import sys
 WORD = r"[^\s(){}\[\].,;:λ'`\"◌⌜⌝⟦⟧]+"
 DECLARED = re.compile(r"^(?:abbrev |unfoldable |instance )*(?:pub )?(" + WORD + r") :", re.M)
 FIELD = re.compile(r"^\s+(?:pub )?(" + WORD + r") :", re.M)
-CAMEL = re.compile(r"^[a-z][^\s]*?[a-z0-9][A-Z]")
+CAMEL = re.compile(r"^[a-z][^\s]*?[a-z0-9][A-Z]|^[ab]Of$")
 
 
 def snake(name):

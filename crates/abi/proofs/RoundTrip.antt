@@ -21,7 +21,7 @@ use Rattle.isa.specs.declared.decoder.Decoded.{Decoded}
 use Rattle.isa.specs.declared.decoder.Decoded.TheVariants.{Read, Unreadable}
 use Rattle.isa.proofs.Exact.{and_left, and_right, back, exact, timed}
 use Rattle.abi.specs.Forms.{Named, numbers_of, Meant, one, nothing, named, kept}
-use Rattle.abi.specs.Answers.{packed, packed_named, read_number, form_of, aOf, bOf, size_of, packed_bytes, count_of, first_of, second_of, write_number, writing_by, writing_of}
+use Rattle.abi.specs.Answers.{packed, packed_named, read_number, form_of, a_of, b_of, size_of, packed_bytes, count_of, first_of, second_of, write_number, writing_by, writing_of}
 use Rattle.abi.specs.RoundTrip.{Gives, ReadThenWrite, WriteThenRead}
 use Rattle.abi.proofs.Inverse as Inverse
 use Rattle.abi.proofs.Inverse.{by_form, inverse}
@@ -32,10 +32,10 @@ module _ (f a b size cycles : ℕ) (hf : f < 256) (ha : a < 256) (hb : b < 65536
   form-out : form_of (packed 0 0 f a b size cycles) ≡ f
   form-out = omega arith
 
-  a-out : aOf (packed 0 0 f a b size cycles) ≡ a
+  a-out : a_of (packed 0 0 f a b size cycles) ≡ a
   a-out = omega arith
 
-  b-out : bOf (packed 0 0 f a b size cycles) ≡ b
+  b-out : b_of (packed 0 0 f a b size cycles) ≡ b
   b-out = omega arith
 
   size-out : size_of (packed 0 0 f a b size cycles) ≡ size
@@ -51,7 +51,7 @@ module _ (x y : ℕ) (small : y < 256) where
   first n = record { number = 0; bytes = take n (x ∷ y ∷ []) }
 
   abbrev Back : ℕ → Type 0
-  Back r = writing_of (form_of r) (aOf r) (bOf r) ≡ first (size_of r)
+  Back r = writing_of (form_of r) (a_of r) (b_of r) ≡ first (size_of r)
 
   module _ (i : Instruction) (reads : Reads x y i) where
     abbrev n : Named
@@ -96,7 +96,7 @@ module _ (x y : ℕ) (small : y < 256) where
     as_long : size_of r ≡ length (bytes_of i)
     as_long = size-out n.form n.a n.b (length_of x) (cycles_of x) form-fits a-fits b-fits size_fits ∙ sym counted
 
-    named-there : writing_of (form_of r) (aOf r) (bOf r) ≡ writing_of n.form n.a n.b
+    named-there : writing_of (form_of r) (a_of r) (b_of r) ≡ writing_of n.form n.a n.b
     named-there = λ k. writing_of (gives.form k) (gives.a k) (gives.b k)
 
     written_back : Back r

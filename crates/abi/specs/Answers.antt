@@ -25,11 +25,11 @@ read_number (instruction i size cycles) = packed_named (numbers_of i) size cycle
 abbrev pub form_of : ℕ → ℕ
 form_of r = r / 2 ^ 16 % 2 ^ 8
 
-abbrev pub aOf : ℕ → ℕ
-aOf r = r / 2 ^ 24 % 2 ^ 8
+abbrev pub a_of : ℕ → ℕ
+a_of r = r / 2 ^ 24 % 2 ^ 8
 
-abbrev pub bOf : ℕ → ℕ
-bOf r = r / 2 ^ 32 % 2 ^ 16
+abbrev pub b_of : ℕ → ℕ
+b_of r = r / 2 ^ 32 % 2 ^ 16
 
 abbrev pub size_of : ℕ → ℕ
 size_of r = r / 2 ^ 48 % 2 ^ 8

@@ -4,7 +4,7 @@ use Rattle.std.specs.Prelude.{ℕ, ◌+◌, ◌%◌, ◌^◌, ◌<◌, ◌≡◌
 use Rattle.isa.specs.Code.{addresses}
 use Rattle.rom.specs.Fetching.{sized, Bytes, byte_at, fetching}
 use Rattle.abi.specs.Forms.{Named, kept}
-use Rattle.abi.specs.Answers.{read_number, write_number, writing_of, form_of, aOf, bOf, size_of, refusal_of, count_of, first_of, second_of}
+use Rattle.abi.specs.Answers.{read_number, write_number, writing_of, form_of, a_of, b_of, size_of, refusal_of, count_of, first_of, second_of}
 
 -- the first n of the bytes at an address
 abbrev pub bytes_at : List ℕ → ℕ → ℕ → List ℕ
@@ -15,15 +15,15 @@ abbrev pub ReadThenWrite : Type 0
 ReadThenWrite =
     (mask : List ℕ) (address r w : ℕ) → Bytes mask
     → r ≡ read_number (fetching mask address) → r % 2 ^ 16 ≡ 0
-    → w ≡ write_number (writing_of (form_of r) (aOf r) (bOf r))
+    → w ≡ write_number (writing_of (form_of r) (a_of r) (b_of r))
     → w ≡ write_number (record { number = 0; bytes = bytes_at mask address (size_of r) })
 
 -- r is read, and has these numbers
 pub record Gives (r : ℕ) (n : Named) : Type 0 where
   pub read : r % 2 ^ 16 ≡ 0
   pub form : form_of r ≡ n.form
-  pub a : aOf r ≡ n.a
-  pub b : bOf r ≡ n.b
+  pub a : a_of r ≡ n.a
+  pub b : b_of r ≡ n.b
 
 -- what is written with no refusal is read back, where a mask has the bytes written, as the form and the operands that it has, and as long
 abbrev pub WriteThenRead : Type 0
