@@ -18,6 +18,10 @@ FIELD = re.compile(r"^\s+(?:pub )?(" + WORD + r") :", re.M)
 CAMEL = re.compile(r"^[a-z][^\s]*?[a-z0-9][A-Z]|^[ab]Of$")
 
 
+# A local lemma that would fall together with a definition's new name, in the one file that has both.
+FIRST = ("crates/assembler_laws/proofs/Numbers.antt", "digit_value", "digit_is")
+
+
 def snake(name):
     return re.sub(r"(?<=[a-z0-9])[A-Z]+", lambda m: "_" + m.group(0).lower(), name)
 
@@ -36,6 +40,11 @@ def read(path):
 
 
 def main():
+    path, old, new = FIRST
+    if os.path.isfile(path) and re.search(r"\bdigitValue\b", read(path)):
+        text = re.sub(rf"(?<![\w'.-]){old}(?![\w'-])", new, read(path))
+        with open(path, "w", encoding="utf-8") as f:
+            f.write(text)
     declared, fields = set(), set()
     for path in files((".antt",)):
         text = read(path)
