@@ -454,6 +454,7 @@ def mask_is_replaced():
         for mode in (0o640, 0o755):
             mask.write_bytes(b'older')
             mask.chmod(mode)
+            mask.read_bytes()               # so that the read below is not the first, which may move the time of access
             before = mask.stat()
             expect('assemble, refused', run([command('assemble'), 'u', 'link'], folder), 1, None, None)
             if mask.read_bytes() != b'older' or mask.stat() != before:
