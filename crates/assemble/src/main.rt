@@ -26,7 +26,7 @@ fn assemble<F: Files, W: Write>(rt: &F, out: &mut W, text: &[u8]) -> io::Result<
     if answer.refusal != 0 {
         return put_refused(out, answer.refusal, answer.line);
     }
-    if write_file(rt, "mask.bin", &mask) != MASK {
+    if write_file(rt, b"mask.bin", &mask) != MASK {
         return put(out, b"mask.bin cannot be written\n");
     }
     Ok(())
@@ -35,6 +35,6 @@ fn assemble<F: Files, W: Write>(rt: &F, out: &mut W, text: &[u8]) -> io::Result<
 // One byte more than a text may have is read, so that a longer file is refused.
 fn main(rt: HostRuntime) -> io::Result<()> {
     let mut text = [0u8; 65536];
-    let n = read_file(&rt, "source.asm", &mut text);
+    let n = read_file(&rt, b"source.asm", &mut text);
     assemble(&rt, &mut io::writer(&rt), &text[..n])
 }

@@ -194,7 +194,7 @@ fn checkmask<W: Write>(out: &mut W, mask: &[u8]) -> io::Result<()> {
 // One byte more than a mask has is read, so that a longer file is refused.
 fn main(rt: HostRuntime) -> io::Result<()> {
     let mut mask = [0u8; MASK + 1];
-    let n = read_file(&rt, "mask.bin", &mut mask);
+    let n = read_file(&rt, b"mask.bin", &mut mask);
     let mut out = BufWriter::new(rt.alloc(), io::writer(&rt))?;
     checkmask(&mut out, &mask[..n])?;
     out.flush()

@@ -23,10 +23,14 @@ pub fn read_full<R: Read>(input: &mut R, buf: &mut [u8]) -> usize
     done
 }
 
-// How many bytes of a file, at most as many as the buffer has. A missing file counts as empty.
-pub fn read_file<F: Files>(rt: &F, path: &str, buf: &mut [u8]) -> usize
+// How many bytes of a file, at most as many as the buffer has. A missing file counts as empty, and so does a path
+// that is no text, since std opens none.
+pub fn read_file<F: Files>(rt: &F, path: &[u8], buf: &mut [u8]) -> usize
     ensures { IsPrefixLen result buf.new }
 {
+    let Ok(path) = str::from_utf8(path) else {
+        return 0;
+    };
     match File::open(rt, path) {
         Ok(mut file) => read_full(&mut file, buf),
         Err(_) => 0,
@@ -34,9 +38,12 @@ pub fn read_file<F: Files>(rt: &F, path: &str, buf: &mut [u8]) -> usize
 }
 
 // Writes a file anew. The answer is the count of its bytes, or 0 where not all of them were written.
-pub fn write_file<F: Files>(rt: &F, path: &str, bytes: &[u8]) -> usize
+pub fn write_file<F: Files>(rt: &F, path: &[u8], bytes: &[u8]) -> usize
     ensures { (result ≡ length bytes.now) ⊎ (result ≡ 0) }
 {
+    let Ok(path) = str::from_utf8(path) else {
+        return 0;
+    };
     let Ok(mut file) = File::create(rt, path) else {
         return 0;
     };

@@ -12,8 +12,8 @@ use std::io::{BufWriter, Write};
 fn main(rt: HostRuntime) -> io::Result<()> {
     let mut mask = [0u8; MASK + 1];
     let mut script = [0u8; 65536];
-    let m = read_file(&rt, "mask.bin", &mut mask);
-    let s = read_file(&rt, "script.bin", &mut script);
+    let m = read_file(&rt, b"mask.bin", &mut mask);
+    let s = read_file(&rt, b"script.bin", &mut script);
     let mut out = BufWriter::new(rt.alloc(), io::writer(&rt))?;
     play(&mut out, &mask[..m], &script[..s], Shown::Readings)?;
     out.flush()
