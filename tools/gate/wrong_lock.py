@@ -18,10 +18,10 @@ PARTS = 4
 
 
 def stands_on(text):
-    """crates.txt: each crate's libraries, of the repository alone."""
+    """crates.txt: each crate's libraries, of the repository alone. A name may have a word of its own kind behind it, as `NAME staticlib:`."""
     listed = [line.split("#")[0].split(":") for line in text.split("\n") if ":" in line.split("#")[0]]
-    names = {name.strip() for name, _ in listed}
-    return {name.strip(): [word for word in words.split() if word in names] for name, words in listed}
+    names = {name.split()[0] for name, _ in listed}
+    return {name.split()[0]: [word for word in words.split() if word in names] for name, words in listed}
 
 
 def below(crate, libraries):
