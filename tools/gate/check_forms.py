@@ -40,7 +40,7 @@ class Code:
 def decoder(code, names):
     _, body = code.function('decode')
     arms = body.split('match first {', 1)[-1]
-    runs = re.findall(r'^ *0x([0-9a-f]{2})\.\.=0x([0-9a-f]{2}) =>', arms, re.M)
+    runs = re.findall(r'^ *0x([0-9a-f]{2})\.\.=0x([0-9a-f]{2})(?: if second < 16)? =>', arms, re.M)
     covered = {code for first, last in runs for code in range(int(first, 16), int(last, 16) + 1)}
     registers = re.findall(r'^ *0x\w\w(?: \| 0x\w\w){4} =>', arms, re.M)      # nnn, 0 to 4
     return (names == ['decode'] and re.findall(r'\bmatch \w.*\{', body) == ['match first {'] and len(registers) == 4
@@ -59,7 +59,7 @@ def longest(code, names):
 
 def let_else(code, names):
     _, body = code.function('execute')
-    return names == ['execute'] and bool(re.search(r'let Decoded::Read\(\w+\) = decode\(.*\) else \{\s*self\.status\.fault = 1;', body))
+    return names == ['execute'] and bool(re.search(r'let Some\(\w+\) = decode\(.*\) else \{\s*self\.status\.fault = 1;', body))
 
 
 METHODS = {'power.rt': ['power_on', 'reset'], 'events.rt': ['apply', 'apply_named', 'step']}
@@ -78,7 +78,7 @@ def branch(code, names):
 def readers(code, names):
     (joined, sums), (parenthesis, inner) = code.function('joined'), code.function('parenthesis')
     return (names == ['joined', 'parenthesis'] and 'depth: u8' in joined and 'depth: u8' in parenthesis
-            and 'parenthesis(text,' in sums and re.search(r'\bjoined\(text, \w+, depth - 1,', inner) is not None)
+            and 'parenthesis(labels,' in sums and re.search(r'\bjoined\(labels, [\w.]+, depth - 1,', inner) is not None)
 
 
 def addresses(code, names):

@@ -7,6 +7,7 @@ use native.Mathlib.Omega.{arith}
 use lib.Dec.{ltb}
 use lib.ListN.{length}
 use borrow.Author.Tests.{lt-ltb, ltb-true}
+use Rattle.std.specs.Prelude.{Some}
 use Rattle.isa.specs.Code.{addresses, bytes_of, in_range, leading, bit_in_range}
 use Rattle.isa.specs.Timing.{columns_of}
 use Rattle.isa.specs.declared.Pointer.{Pointer}
@@ -17,19 +18,19 @@ use Rattle.isa.specs.declared.Condition.TheVariants.{Ja, JnzR0, JnzR1, JnzR4, Jz
 use Rattle.isa.specs.declared.Instruction.{Instruction}
 use Rattle.isa.specs.declared.Instruction.TheVariants as I
 use Rattle.isa.proofs.Exact.{and_left, and_right}
-use Rattle.abi.specs.Forms.{Named, numbers_of, one, provided, branch_named, pair_named, forms, named}
+use Rattle.abi.specs.Forms.{Named, numbers_of, provided, branch_named, pair_named, forms, named}
 
 -- a form and an operand a of a byte, an operand b of two
 abbrev pub fitting : Named → Bool
 fitting n = ltb n.form 256 && (ltb n.a 256 && ltb n.b 65536)
 
 pub record Hosted (i : Instruction) : Type 0 where
-  pub back : named (numbers_of i).form (numbers_of i).a (numbers_of i).b ≡ one i
+  pub back : named (numbers_of i).form (numbers_of i).a (numbers_of i).b ≡ Some i
   pub fits : fitting (numbers_of i) ≡ true
   pub sized : length (bytes_of i) ≡ (columns_of i).bytes
   pub short : (columns_of i).bytes < 3
 
-host : {i : Instruction} → named (numbers_of i).form (numbers_of i).a (numbers_of i).b ≡ one i → fitting (numbers_of i) ≡ true
+host : {i : Instruction} → named (numbers_of i).form (numbers_of i).a (numbers_of i).b ≡ Some i → fitting (numbers_of i) ≡ true
     → (length (bytes_of i) ≡ (columns_of i).bytes) × (ltb (columns_of i).bytes 3 ≡ true) → Hosted i
 host {i} b f s = record { back = b; fits = f; sized = s.0; short = ltb-true (columns_of i).bytes 3 s.1 }
 
@@ -53,7 +54,7 @@ module _ (low high : ℕ) (h : ltb low 16 && ltb high 16 ≡ true) where
   xx-fits : ltb (16 * high + low) 65536 ≡ true
   xx-fits = lt-ltb (16 * high + low) 65536 (omega (arith, low_below, high-below))
 
-  xx-back : (p : Pointer) → provided (ltb (16 * high + low) 256) (one (I.MovPairXX p ((16 * high + low) % 16) ((16 * high + low) / 16))) ≡ one (I.MovPairXX p low high)
+  xx-back : (p : Pointer) → provided (ltb (16 * high + low) 256) (Some (I.MovPairXX p ((16 * high + low) % 16) ((16 * high + low) / 16))) ≡ Some (I.MovPairXX p low high)
   xx-back p =
       let e : (16 * high + low) % 16 ≡ low = omega (arith, low_below) in
       let f : (16 * high + low) / 16 ≡ high = omega (arith, low_below) in
@@ -144,5 +145,5 @@ by_form I.SoundOff h = host refl refl (refl, refl)
 by_form I.Halt h = host refl refl (refl, refl)
 
 -- an instruction's numbers name that instruction
-pub inverse : (i : Instruction) → in_range i ≡ true → named (numbers_of i).form (numbers_of i).a (numbers_of i).b ≡ one i
+pub inverse : (i : Instruction) → in_range i ≡ true → named (numbers_of i).form (numbers_of i).a (numbers_of i).b ≡ Some i
 inverse i h = (by_form i h).back

@@ -7,11 +7,12 @@ use mathlib.Core.List.{List, [], ◌∷◌, map}
 use native.Mathlib.Omega.{arith}
 use lib.Dec.{ltb}
 use lib.ListN.{length, get_or}
+use Rattle.std.specs.Prelude.{Option, Some}
 use Rattle.isa.specs.declared.Pointer.TheVariants.{R1R0, R3R2}
 use Rattle.isa.specs.declared.Condition.{Condition}
 use Rattle.isa.specs.declared.Instruction.{Instruction}
 use Rattle.isa.specs.declared.Instruction.TheVariants as I
-use Rattle.abi.specs.Forms.{Named, numbers, numbers_of, Meant, one, listed, provided, conditions, branch_named, pair_named}
+use Rattle.abi.specs.Forms.{Named, numbers, numbers_of, listed, provided, conditions, branch_named, pair_named}
 use Rattle.abi.specs.Forms.{Form, plain, number, choice, target, pair, branch, meant, having, forms, named, kept}
 
 -- the first n values of a function
@@ -45,16 +46,16 @@ unfolding numbers_of forms
 tables = refl
 
 -- ---- one form
-chosen : (is : List Instruction) (f : ℕ → Named) → map numbers_of is ≡ values (length is) f → (a : ℕ) (i : Instruction) → listed is a ≡ one i → numbers_of i ≡ f a
+chosen : (is : List Instruction) (f : ℕ → Named) → map numbers_of is ≡ values (length is) f → (a : ℕ) (i : Instruction) → listed is a ≡ Some i → numbers_of i ≡ f a
 chosen [] f e a i m = absurd (let z : ◌≡◌ {A = ℕ} 0 1 = cc in omega arith)
 chosen (j ∷ is) f e zero i m = cc
 chosen (j ∷ is) f e (suc a) i m = chosen is (λ (k : ℕ). f (suc k)) (cc) a i m
 
-within : (t : Bool) (m : Meant) (i : Instruction) → provided t m ≡ one i → m ≡ one i
+within : (t : Bool) (m : Option Instruction) (i : Instruction) → provided t m ≡ Some i → m ≡ Some i
 within true m i e = e
 within false m i e = absurd (let z : ◌≡◌ {A = ℕ} 0 1 = cc in omega arith)
 
-right : (n : ℕ) (f : Form) (a b : ℕ) (i : Instruction) → made f a b ≡ placed n f a b → meant f a b ≡ one i → numbers_of i ≡ having f n a b
+right : (n : ℕ) (f : Form) (a b : ℕ) (i : Instruction) → made f a b ≡ placed n f a b → meant f a b ≡ Some i → numbers_of i ≡ having f n a b
 unfolding branch_named pair_named
 right n (plain j) a b i e m = cc
 right n (number f) a b i e m = cc
@@ -67,7 +68,7 @@ right n pair a b i e m =
 right n branch a b i e m = chosen (map (λ (k : Condition). I.Branch (record { 0 = b }) k) conditions) (λ (a : ℕ). numbers n a b) e a i m
 
 -- ---- all of them
-at : (fs : List Form) (place : ℕ → ℕ) → map made fs ≡ all place fs → (k a b : ℕ) (i : Instruction) → meant (get_or fs k (choice [])) a b ≡ one i
+at : (fs : List Form) (place : ℕ → ℕ) → map made fs ≡ all place fs → (k a b : ℕ) (i : Instruction) → meant (get_or fs k (choice [])) a b ≡ Some i
     → numbers_of i ≡ having (get_or fs k (choice [])) (place k) a b
 at [] place e k a b i m = absurd (let z : ◌≡◌ {A = ℕ} 0 1 = cc in omega arith)
 at (f ∷ fs) place e zero a b i m =
@@ -75,6 +76,6 @@ at (f ∷ fs) place e zero a b i m =
     right (place 0) f a b i (ap (λ (g : ℕ → ℕ → List Named). g a b) here) m
 at (f ∷ fs) place e (suc k) a b i m = at fs (λ (k : ℕ). place (suc k)) (cc) k a b i m
 
-pub named-kept : (form a b : ℕ) (i : Instruction) → named form a b ≡ one i → numbers_of i ≡ kept form a b
+pub named-kept : (form a b : ℕ) (i : Instruction) → named form a b ≡ Some i → numbers_of i ≡ kept form a b
 unfolding named
 named-kept form a b i m = at forms (λ (k : ℕ). k) tables form a b i m

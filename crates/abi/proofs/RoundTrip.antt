@@ -8,6 +8,7 @@ use native.Mathlib.Omega.{arith}
 use lib.Dec.{ltb}
 use lib.ListN.{length, take, get_or, get_or-eq_default}
 use borrow.Author.Tests.{ltb-true, ltb-false, lt-ltb}
+use Rattle.std.specs.Prelude.{Option, Some, None}
 use Rattle.isa.specs.Choice.{pick}
 use Rattle.isa.specs.Code.{addresses, bytes_of, in_range}
 use Rattle.isa.specs.Reading.{Reads, Reading, Entry, undefined, opcodes, complete, decoded}
@@ -17,10 +18,8 @@ use Rattle.rom.proofs.Fetching.{byte_small, read-bytes, length-bytes, cycles-byt
 use Rattle.rom.specs.Writing as Writing
 use Rattle.rom.specs.Writing.{fitting, writing}
 use Rattle.isa.specs.declared.Instruction.{Instruction}
-use Rattle.isa.specs.declared.decoder.Decoded.{Decoded}
-use Rattle.isa.specs.declared.decoder.Decoded.TheVariants.{Read, Unreadable}
 use Rattle.isa.proofs.Exact.{and_left, and_right, back, exact, timed}
-use Rattle.abi.specs.Forms.{Named, numbers_of, Meant, one, nothing, named, kept}
+use Rattle.abi.specs.Forms.{Named, numbers_of, named, kept}
 use Rattle.abi.specs.Answers.{packed, packed_named, read_number, form_of, a_of, b_of, size_of, packed_bytes, count_of, first_of, second_of, write_number, writing_by, writing_of}
 use Rattle.abi.specs.RoundTrip.{Gives, ReadThenWrite, WriteThenRead}
 use Rattle.abi.proofs.Inverse as Inverse
@@ -105,10 +104,10 @@ module _ (x y : ℕ) (small : y < 256) where
         ∙ ap first (sym as_long)
 
   -- by the tests of a mask and an address, and by what the decoder answers: only what was read has neither refusal nor fault
-  through : (s t : Bool) (d : Decoded) → Reading x y d → read_number (pick s (pick t (with_timing (length_of x) (cycles_of x) d) (refused 5)) (refused 1)) % 2 ^ 16 ≡ 0
+  through : (s t : Bool) (d : Option Instruction) → Reading x y d → read_number (pick s (pick t (with_timing (length_of x) (cycles_of x) d) (refused 5)) (refused 1)) % 2 ^ 16 ≡ 0
       → Back (read_number (pick s (pick t (with_timing (length_of x) (cycles_of x) d) (refused 5)) (refused 1)))
-  through true true (Read i) r h = written_back i r
-  through true true Unreadable r h = absurd (omega arith)
+  through true true (Some i) r h = written_back i r
+  through true true None r h = absurd (omega arith)
   through true false d r h = absurd (omega arith)
   through false t d r h = absurd (omega arith)
 
@@ -136,7 +135,7 @@ read-then-write mask address m w bytes e h f = f ∙ ap write_number there
 
 -- ---- what is written
 -- past the map's end nothing is read
-first_below : (x y : ℕ) (i : Instruction) → decoded x y ≡ Read i → x < 256
+first_below : (x y : ℕ) (i : Instruction) → decoded x y ≡ Some i → x < 256
 unfolding decoded opcodes
 first_below x y i e = go (ltb x 256) refl
   where
@@ -144,7 +143,7 @@ first_below x y i e = go (ltb x 256) refl
     go true h = ltb-true x 256 h
     go false h =
         let p : get_or opcodes x undefined ≡ undefined = get_or-eq_default opcodes undefined (ltb-false x 256 h) in
-        let q : Unreadable ≡ Read i = sym (ap (λ (e : Entry). complete e y) p) ∙ e in
+        let q : None ≡ Some i = sym (ap (λ (e : Entry). complete e y) p) ∙ e in
         absurd (let z : ◌≡◌ {A = ℕ} 0 1 = cc in omega arith)
 
 -- a list of two or less, by its places
@@ -198,7 +197,7 @@ write-then-read form a b w mask address r e free size bytes inside holds f = by_
     small : y < 256
     small = byte_small mask (address + 1) bytes
 
-    by-range : (i : Instruction) (t : Bool) → named form a b ≡ one i → in_range i ≡ t → w ≡ write_number (fitting t (bytes_of i)) → Gives r (kept form a b) × (size_of r ≡ count_of w)
+    by-range : (i : Instruction) (t : Bool) → named form a b ≡ Some i → in_range i ≡ t → w ≡ write_number (fitting t (bytes_of i)) → Gives r (kept form a b) × (size_of r ≡ count_of w)
     by-range i false m ok g = absurd (omega arith)
     by-range i true m ok g =
         let reads = stands i ok w x y g holds in
@@ -207,6 +206,6 @@ write-then-read form a b w mask address r e free size bytes inside holds f = by_
         ∙ (λ k. read_number (pick (size k) (pick (lt-ltb address addresses inside k) (with_timing (length_of x) (cycles_of x) (back x y i reads k)) (refused 5)) (refused 1))) in
         (rw (read, ← named-kept form a b i m) (gives x y small i reads), ap size_of read ∙ as_long x y small i reads ∙ sym (counts i ok w g))
 
-    by_name : (d : Meant) → named form a b ≡ d → Gives r (kept form a b) × (size_of r ≡ count_of w)
-    by_name nothing m = absurd (omega (arith, e ∙ ap (λ (d : Meant). write_number (writing_by d)) m))
-    by_name (one i) m = by-range i (in_range i) m refl (e ∙ ap (λ (d : Meant). write_number (writing_by d)) m)
+    by_name : (d : Option Instruction) → named form a b ≡ d → Gives r (kept form a b) × (size_of r ≡ count_of w)
+    by_name None m = absurd (omega (arith, e ∙ ap (λ (d : Option Instruction). write_number (writing_by d)) m))
+    by_name (Some i) m = by-range i (in_range i) m refl (e ∙ ap (λ (d : Option Instruction). write_number (writing_by d)) m)

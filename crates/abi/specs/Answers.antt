@@ -1,11 +1,12 @@
 -- The two answers as numbers of eight bytes, lowest first. The refusals' numbers and the fault's are document 01's; their places in the number
 -- are this interface's own. Assumes nothing.
-use Rattle.std.specs.Prelude.{ℕ, ◌+◌, ◌*◌, ◌/◌, ◌%◌, ◌^◌, [], length, get_or}
+use Rattle.std.specs.Prelude.{ℕ, ◌+◌, ◌*◌, ◌/◌, ◌%◌, ◌^◌, [], length, get_or, Option, Some, None}
+use Rattle.isa.specs.declared.Instruction.{Instruction}
 use Rattle.rom.specs.Fetching as Fetching
 use Rattle.rom.specs.Fetching.{refused, faulted, instruction}
 use Rattle.rom.specs.Writing as Writing
 use Rattle.rom.specs.Writing.{writing}
-use Rattle.abi.specs.Forms.{Named, numbers_of, Meant, one, nothing, named}
+use Rattle.abi.specs.Forms.{Named, numbers_of, named}
 
 -- bytes 0 to 7: the refusal, the fault, the form, operand a, operand b in two, the length and the cycles
 abbrev pub packed : ℕ → ℕ → ℕ → ℕ → ℕ → ℕ → ℕ → ℕ
@@ -55,9 +56,9 @@ abbrev pub second_of : ℕ → ℕ
 second_of w = w / 2 ^ 24
 
 -- "3: .. in an instruction to be written: a field outside its pattern", also where the numbers name no instruction
-abbrev pub writing_by : Meant → Writing.Answer
-writing_by (one i) = writing i
-writing_by nothing = record { number = 3; bytes = [] }
+abbrev pub writing_by : Option Instruction → Writing.Answer
+writing_by (Some i) = writing i
+writing_by None = record { number = 3; bytes = [] }
 
 abbrev pub writing_of : ℕ → ℕ → ℕ → Writing.Answer
 writing_of form a b = writing_by (named form a b)

@@ -1,6 +1,6 @@
 -- Instructions as numbers: a form, which is an instruction's place among the lines of document 001's instruction summary, counted from 0, and
 -- two operands. The numbers are this interface's own; no sentence of document 01 gives them. Assumes nothing.
-use Rattle.std.specs.Prelude.{ℕ, ◌+◌, ◌*◌, ◌/◌, ◌%◌, Bool, true, false, List, [], ◌∷◌, map, ltb, get_or}
+use Rattle.std.specs.Prelude.{ℕ, ◌+◌, ◌*◌, ◌/◌, ◌%◌, Bool, true, false, List, [], ◌∷◌, map, ltb, get_or, Option, Some, None}
 use Rattle.isa.specs.declared.ProgramAddress.{ProgramAddress}
 use Rattle.isa.specs.declared.Pointer.{Pointer}
 use Rattle.isa.specs.declared.Pointer.TheVariants.{R1R0, R3R2}
@@ -25,7 +25,7 @@ numbers form a b = record { form = form; a = a; b = b }
 
 -- the code's three numbers
 abbrev pub fields : Numbers → Named
-fields n = numbers n.0 n.1 n.2
+fields n = numbers n.form n.a n.b
 
 abbrev pub pointer_number : Pointer → ℕ
 pointer_number R1R0 = 0
@@ -116,28 +116,32 @@ numbers_of I.SoundOff = numbers 58 0 0
 numbers_of I.Halt = numbers 59 0 0
 
 -- ---- from numbers to an instruction
--- what three numbers name
-pub data Meant : Type 0 where
-  one : Instruction → Meant
-  nothing : Meant
+-- what stands at a place of a list
+abbrev pub listed : {A : Type 0} → List A → ℕ → Option A
+listed xs n = get_or (map Some xs) n None
 
--- the instruction at a place of a list
-abbrev pub listed : List Instruction → ℕ → Meant
-listed is n = get_or (map one is) n nothing
-
-abbrev pub provided : Bool → Meant → Meant
+abbrev pub provided : Bool → Option Instruction → Option Instruction
 provided true m = m
-provided false m = nothing
+provided false m = None
 
--- the conditions by their numbers
+-- the register pairs, the ports, the pages and the conditions by their numbers
+abbrev pub pointers : List Pointer
+pointers = R1R0 ∷ R3R2 ∷ []
+
+abbrev pub ports : List Port
+ports = Pm ∷ Ps ∷ Pp ∷ []
+
+abbrev pub pages : List Page
+pages = Current ∷ F ∷ []
+
 abbrev pub conditions : List Condition
 conditions = Ja 0 ∷ Ja 1 ∷ Ja 2 ∷ Ja 3 ∷ JnzR0 ∷ JnzR1 ∷ Jz ∷ JnzA ∷ Jc ∷ Jnc ∷ Jtmr ∷ JnzR4 ∷ []
 
-unfoldable pub branch_named : ℕ → ℕ → Meant
+unfoldable pub branch_named : ℕ → ℕ → Option Instruction
 branch_named a b = listed (map (λ (k : Condition). I.Branch (record { 0 = b }) k) conditions) a
 
 -- XX is a byte
-unfoldable pub pair_named : ℕ → ℕ → Meant
+unfoldable pub pair_named : ℕ → ℕ → Option Instruction
 pair_named a b = provided (ltb b 256) (listed (I.MovPairXX R1R0 (b % 16) (b / 16) ∷ I.MovPairXX R3R2 (b % 16) (b / 16) ∷ []) a)
 
 -- a form: its instruction has no operand, a number in a, one of a few by a, a target in b, or both a and b
@@ -150,11 +154,11 @@ pub data Form : Type 0 where
   branch : Form
 
 -- what a form makes of its operands
-abbrev pub meant : Form → ℕ → ℕ → Meant
-meant (plain i) a b = one i
-meant (number f) a b = one (f a)
+abbrev pub meant : Form → ℕ → ℕ → Option Instruction
+meant (plain i) a b = Some i
+meant (number f) a b = Some (f a)
 meant (choice is) a b = listed is a
-meant (target f) a b = one (f (record { 0 = b }))
+meant (target f) a b = Some (f (record { 0 = b }))
 meant pair a b = pair_named a b
 meant branch a b = branch_named a b
 
@@ -199,7 +203,7 @@ forms =
 abbrev pub form_at : ℕ → Form
 form_at n = get_or forms n (choice [])
 
-unfoldable pub named : ℕ → ℕ → ℕ → Meant
+unfoldable pub named : ℕ → ℕ → ℕ → Option Instruction
 unfolding forms
 named form a b = meant (form_at form) a b
 

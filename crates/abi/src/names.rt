@@ -1,61 +1,82 @@
 // From a form and its operands to an instruction.
 ghost use Rattle.std.specs.Prelude.{◌≡◌};
-ghost use Rattle.rom.specs.Writing.{writing};
-ghost use Rattle.abi.specs.Forms.{branch_named, nothing, pair_named};
-ghost use Rattle.abi.specs.Answers.{writing_of, writing_by};
+ghost use Rattle.abi.specs.Forms.{conditions, listed, named, pages, pair_named, pointers, ports};
 
 use isa::{Condition, Instruction, Page, Pointer, Port, ProgramAddress};
 
-// Stands for what the numbers do not name: R255 is outside its pattern, so the encoder refuses it with the same number.
-fn unnamed() -> Instruction
-    ensures { writing result ≡ writing_by nothing }
+// These and their inverses in `numbers` are functions and no conversions of isa's types: the numbers are this interface's own, and another crate's
+// types take no impl here.
+fn pointer(a: u8) -> Option<Pointer>
+    ensures { result ≡ listed pointers a }
 {
-    Instruction::IncR(255)
+    match a {
+        0 => Some(Pointer::R1R0),
+        1 => Some(Pointer::R3R2),
+        _ => None,
+    }
 }
 
-// A branch: a names what it tests, b is its target.
-fn branch_named(a: u8, b: u16) -> Instruction
-    ensures { writing result ≡ writing_by (branch_named a b) }
+fn port(a: u8) -> Option<Port>
+    ensures { result ≡ listed ports a }
 {
-    let target = ProgramAddress(b);
     match a {
-        0 => Instruction::Branch(target, Condition::Ja(0)),
-        1 => Instruction::Branch(target, Condition::Ja(1)),
-        2 => Instruction::Branch(target, Condition::Ja(2)),
-        3 => Instruction::Branch(target, Condition::Ja(3)),
-        4 => Instruction::Branch(target, Condition::JnzR0),
-        5 => Instruction::Branch(target, Condition::JnzR1),
-        6 => Instruction::Branch(target, Condition::Jz),
-        7 => Instruction::Branch(target, Condition::JnzA),
-        8 => Instruction::Branch(target, Condition::Jc),
-        9 => Instruction::Branch(target, Condition::Jnc),
-        10 => Instruction::Branch(target, Condition::Jtmr),
-        11 => Instruction::Branch(target, Condition::JnzR4),
-        _ => unnamed(),
+        0 => Some(Port::Pm),
+        1 => Some(Port::Ps),
+        2 => Some(Port::Pp),
+        _ => None,
+    }
+}
+
+fn page(a: u8) -> Option<Page>
+    ensures { result ≡ listed pages a }
+{
+    match a {
+        0 => Some(Page::Current),
+        1 => Some(Page::F),
+        _ => None,
+    }
+}
+
+// What a branch tests.
+fn condition(a: u8) -> Option<Condition>
+    ensures { result ≡ listed conditions a }
+{
+    match a {
+        0 => Some(Condition::Ja(0)),
+        1 => Some(Condition::Ja(1)),
+        2 => Some(Condition::Ja(2)),
+        3 => Some(Condition::Ja(3)),
+        4 => Some(Condition::JnzR0),
+        5 => Some(Condition::JnzR1),
+        6 => Some(Condition::Jz),
+        7 => Some(Condition::JnzA),
+        8 => Some(Condition::Jc),
+        9 => Some(Condition::Jnc),
+        10 => Some(Condition::Jtmr),
+        11 => Some(Condition::JnzR4),
+        _ => None,
     }
 }
 
 // MOV pair,XX: a names the pair, b is XX.
-fn pair_named(a: u8, b: u16) -> Instruction
-    ensures { writing result ≡ writing_by (pair_named a b) }
+#[tactic(auto, unfolding(crate::specs::Forms::pair_named))]
+fn mov_pair(a: u8, b: u16) -> Option<Instruction>
+    ensures { result ≡ pair_named a b }
 {
     if 255 < b {
-        return unnamed();
+        return None;
     }
     let low = (b % 16) as u8;
     let high = (b / 16) as u8;
-    match a {
-        0 => Instruction::MovPairXX(Pointer::R1R0, low, high),
-        1 => Instruction::MovPairXX(Pointer::R3R2, low, high),
-        _ => unnamed(),
-    }
+    Some(Instruction::MovPairXX(pointer(a)?, low, high))
 }
 
-// The instruction that a form and its operands name, an operand that the form does not have not being looked at; else one that is refused.
-pub(crate) fn instruction_of(form: u8, a: u8, b: u16) -> Instruction
-    ensures { writing result ≡ writing_of form a b }
+// The instruction that a form and its operands name, an operand that the form does not have not being looked at.
+#[tactic(auto, unfolding(crate::specs::Forms::named, crate::specs::Forms::forms, crate::specs::Forms::branch_named))]
+pub(crate) fn instruction_of(form: u8, a: u8, b: u16) -> Option<Instruction>
+    ensures { result ≡ named form a b }
 {
-    match form {
+    Some(match form {
         0 => Instruction::AddAM,
         1 => Instruction::AdcAM,
         2 => Instruction::SubAM,
@@ -74,46 +95,25 @@ pub(crate) fn instruction_of(form: u8, a: u8, b: u16) -> Instruction
         15 => Instruction::XorAX(a),
         16 => Instruction::IncA,
         17 => Instruction::IncR(a),
-        18 => match a {
-            0 => Instruction::IncM(Pointer::R1R0),
-            1 => Instruction::IncM(Pointer::R3R2),
-            _ => unnamed(),
-        },
+        18 => Instruction::IncM(pointer(a)?),
         19 => Instruction::DecA,
         20 => Instruction::DecR(a),
-        21 => match a {
-            0 => Instruction::DecM(Pointer::R1R0),
-            1 => Instruction::DecM(Pointer::R3R2),
-            _ => unnamed(),
-        },
+        21 => Instruction::DecM(pointer(a)?),
         22 => Instruction::MovAR(a),
         23 => Instruction::MovRA(a),
-        24 => match a {
-            0 => Instruction::MovAM(Pointer::R1R0),
-            1 => Instruction::MovAM(Pointer::R3R2),
-            _ => unnamed(),
-        },
-        25 => match a {
-            0 => Instruction::MovMA(Pointer::R1R0),
-            1 => Instruction::MovMA(Pointer::R3R2),
-            _ => unnamed(),
-        },
+        24 => Instruction::MovAM(pointer(a)?),
+        25 => Instruction::MovMA(pointer(a)?),
         26 => Instruction::MovAX(a),
-        27 => pair_named(a, b),
+        27 => return mov_pair(a, b),
         28 => Instruction::MovR4X(a),
         29 => Instruction::RlA,
         30 => Instruction::RlcA,
         31 => Instruction::RrA,
         32 => Instruction::RrcA,
-        33 => match a {
-            0 => Instruction::InA(Port::Pm),
-            1 => Instruction::InA(Port::Ps),
-            2 => Instruction::InA(Port::Pp),
-            _ => unnamed(),
-        },
+        33 => Instruction::InA(port(a)?),
         34 => Instruction::OutPaA,
         35 => Instruction::Jmp(ProgramAddress(b)),
-        36 => branch_named(a, b),
+        36 => Instruction::Branch(ProgramAddress(b), condition(a)?),
         37 => Instruction::Call(ProgramAddress(b)),
         38 => Instruction::Ret,
         39 => Instruction::Reti,
@@ -129,22 +129,14 @@ pub(crate) fn instruction_of(form: u8, a: u8, b: u16) -> Instruction
         49 => Instruction::MovATmrh,
         50 => Instruction::MovTmrlA,
         51 => Instruction::MovTmrhA,
-        52 => match a {
-            0 => Instruction::ReadR4A(Page::Current),
-            1 => Instruction::ReadR4A(Page::F),
-            _ => unnamed(),
-        },
-        53 => match a {
-            0 => Instruction::ReadMr0A(Page::Current),
-            1 => Instruction::ReadMr0A(Page::F),
-            _ => unnamed(),
-        },
+        52 => Instruction::ReadR4A(page(a)?),
+        53 => Instruction::ReadMr0A(page(a)?),
         54 => Instruction::SoundN(a),
         55 => Instruction::SoundA,
         56 => Instruction::SoundOne,
         57 => Instruction::SoundLoop,
         58 => Instruction::SoundOff,
         59 => Instruction::Halt,
-        _ => unnamed(),
-    }
+        _ => return None,
+    })
 }

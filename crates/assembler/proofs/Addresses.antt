@@ -20,9 +20,8 @@ use Rattle.assembler.specs.Statement.{Statement}
 use Rattle.assembler.specs.Program.{Above, address_of, bytes, end, fitting, if_labelled, is_in, label_of, meets, misfit, misplaced, named}
 use Rattle.assembler.specs.Program.{next, size_of, span, within}
 use Rattle.assembler.specs.Shapes.{bytes_in, digits_in, firsts, form_at, is_free, is_misfit, listed, low_bytes, shapes, size_in}
-use Rattle.assembler.specs.Read.{Shows, broken, coded, empty, origin}
+use Rattle.assembler.specs.Read.{Parts, Shows, broken, coded, empty, origin}
 use Rattle.assembler.specs.declared.forms.Bytes.{Bytes}
-use Rattle.assembler.specs.declared.lines.Line.{Line}
 use Rattle.assembler.proofs.Shaping.{shape_at}
 
 -- ---- values
@@ -111,7 +110,7 @@ free-size written used f at (suc (suc zero)) h = case (leb (at + 2) rom_size)
 free-size written used f at (suc (suc (suc n))) h = absurd (omega arith)
 
 -- ---- a line that is read
-module _ {text : List ℕ} {above all : List (List ℕ)} {addresses : List ℕ} {st : Statement} {r : Line} (x : Shows text above all addresses st r)
+module _ {text : List ℕ} {above all : List (List ℕ)} {addresses : List ℕ} {st : Statement} {r : Parts} (x : Shows text above all addresses st r)
     (readable : r.readable ≡ true) where
   pub shows-size : size_of st ≡ size_in (get_or shapes r.form 0)
   shows-size = by x

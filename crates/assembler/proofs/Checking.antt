@@ -9,9 +9,8 @@ use Rattle.operand.specs.Words.{among}
 use Rattle.operand.specs.Read.{names_at, tokens_at, word_at}
 use Rattle.assembler.specs.Statement.{Statement, statement}
 use Rattle.assembler.specs.Program.{Above, end, first, mislabelled, next, program, start}
-use Rattle.assembler.specs.Read.{Shows}
+use Rattle.assembler.specs.Read.{Parts, Shows}
 use Rattle.assembler.specs.Passing.{Settled, line_end}
-use Rattle.assembler.specs.declared.lines.Line.{Line}
 use Rattle.assembler.proofs.Splitting.{program_at}
 use Rattle.assembler.proofs.Walking.{Walk, shows-mislabelled, walk-begin, walk-clear, walk-found, walk-names, walk-on, walk-past}
 use Rattle.assembler.proofs.Walking.{walk-readable}
@@ -28,7 +27,7 @@ pub checks : (text starts none : List ℕ) (all : ℕ) → Settled text starts n
 checks text starts none all settled = record { s = start; walk = walk-begin text settled.read; found = refl }
 
 module _ {text starts none : List ℕ} {all : ℕ} (settled : Settled text starts none all) {at number count : ℕ} (g : Checking text at number count)
-    {r : Line}
+    {r : Parts}
     (x : Shows text (names_at text starts count) (names_at text starts all) none (statement (tokens_at text at)) r) where
   abbrev defined : Bool
   defined = r.labelled && among (names_at text starts count) (word_at text r.label)
@@ -37,21 +36,12 @@ module _ {text starts none : List ℕ} {all : ℕ} (settled : Settled text start
   fault-is = ap (λ (ns : List (List ℕ)). mislabelled ns g.s (statement (tokens_at text at))) settled.names
       ∙ shows-mislabelled x (walk-readable g.walk x) g.s (walk-names g.walk settled)
 
-  pub is-missing : r.missing ≡ true → number ≡ first (faulty text) start 1 (program text)
-  is-missing e = walk-found g.walk (faulty text) g.found (fault-is ∙ rw e refl)
+  pub is-wrong : (r.missing || defined) ≡ true → number ≡ first (faulty text) start 1 (program text)
+  is-wrong e = walk-found g.walk (faulty text) g.found (fault-is ∙ e)
 
-  pub is-again : (r.labelled && among (names_at text starts count) (word_at text r.label)) ≡ true → number ≡ first (faulty text) start 1
-      (program text)
-  is-again e = walk-found g.walk (faulty text) g.found (fault-is ∙ rw e (or-true r.missing))
-    where
-      or-true : (b : Bool) → (b || true) ≡ true
-      or-true true = refl
-      or-true false = refl
-
-  module _ (present : r.missing ≡ false) (once : (r.labelled && among (names_at text starts count) (word_at text r.label)) ≡ false)
-      (e : ℕ) (ends : e ≡ line_end text at) where
+  module _ (right : (r.missing || defined) ≡ false) (e : ℕ) (ends : e ≡ line_end text at) where
     no-fault : faulty text g.s (statement (tokens_at text at)) ≡ false
-    no-fault = fault-is ∙ rw (present, once) refl
+    no-fault = fault-is ∙ right
 
     pub checked : e ≡ length text → 0 ≡ first (faulty text) start 1 (program text)
     checked h = walk-clear g.walk (faulty text) g.found no-fault e ends h

@@ -7,14 +7,15 @@ use native.Mathlib.Numerals.{add-one}
 use native.Mathlib.Omega.{arith}
 use lib.ListN.{length, set, take, length-set}
 use lib.Seq.{take-suc-set}
+use Rattle.std.specs.Prelude.{Ok, Err}
 use Rattle.isa.specs.Choice.{pick}
 use Rattle.operand.specs.Read.{names_at, tokens_at, word_at}
 use Rattle.operand.proofs.Texts.{case}
 use Rattle.assembler.specs.Statement.{Statement, statement}
 use Rattle.assembler.specs.Program.{Above, end, first, next, program, start, unread}
-use Rattle.assembler.specs.Read.{Shows}
+use Rattle.assembler.specs.Read.{Parts, Shows}
 use Rattle.assembler.specs.Passing.{Collected, line_end}
-use Rattle.assembler.specs.declared.lines.Line.{Line}
+use Rattle.assembler.specs.declared.refused.Refused.{Refused}
 use Rattle.assembler.proofs.Splitting.{end-within, last_line, next-line, program_at}
 use Rattle.assembler.proofs.Walking.{first_found, first_on, labelled-long, shows-named, shows-place, shows-unread, split}
 
@@ -49,17 +50,17 @@ note-name : (text starts : List ℕ) (count v : ℕ) → count < length starts
     → names_at text (set starts count v) (suc count) ≡ names_at text starts count ++ (word_at text v ∷ [])
 note-name text starts count v h = ap (map (word_at text)) (take-suc-set starts count v h) ∙ map-append (word_at text) (take count starts) (v ∷ [])
 
-module _ {text starts none : List ℕ} {at number count : ℕ} {r : Line} (short : length text ≤ 65535) (g : Reading text starts at number count)
+module _ {text starts none : List ℕ} {at number count : ℕ} {r : Parts} (short : length text ≤ 65535) (g : Reading text starts at number count)
     (x : Shows text [] [] none (statement (tokens_at text at)) r) where
-  pub unreadable-line : r.readable ≡ false → Collected text starts (record { line = number; count = count })
-  unreadable-line b =
+  pub unreadable-line : r.readable ≡ false → (e : Refused) → e.line ≡ number → Collected text starts (Err e)
+  unreadable-line b e n =
       let l = split text at g.within in
       record {
-        line = sym (g.found ∙ ap (first unread g.s number) l.is
+        line = n ∙ sym (g.found ∙ ap (first unread g.s number) l.is
             ∙ first_found unread g.s number (statement (tokens_at text at)) l.rest (shows-unread x g.s ∙ rw b refl));
-        held = g.held;
+        held = omega arith;
         room = g.room;
-        names = λ e. absurd (omega (arith, g.some_number));
+        names = λ z. absurd (omega (arith, g.some_number, n));
       }
 
   module _ (readable : r.readable ≡ true) where
@@ -108,7 +109,7 @@ module _ {text starts none : List ℕ} {at number count : ℕ} {r : Line} (short
             held = rw (e, f) g.held;
           })
 
-      pub collected : line_end text at ≡ length text → Collected text starts' (record { line = 0; count = count' })
+      pub collected : line_end text at ≡ length text → Collected text starts' (Ok count')
       collected e =
           let is = last_line text at g.within e in
           record {

@@ -5,17 +5,21 @@ use mathlib.Core.Path.{◌≡◌, refl, sym, ap, subst, ◌∙◌}
 use mathlib.Core.Bool.{Bool, true, false, ◌&&◌, not}
 use mathlib.Core.List.{List, [], ◌∷◌, map, reverse, reverse_aux, reverse-reverse}
 use mathlib.Core.Option.{none, some}
+use native.Mathlib.Nat.{add-zero, zero-add}
 use native.Mathlib.Omega.{arith}
 use borrow.Author.Tests.{eq-eqb, eqb-true, leb-true, lt-ltb, ltb-true, ne_eqb}
 use lib.Dec.{eqb, leb, ltb}
 use lib.ListN.{get_or, length, length-map}
+use Rattle.std.specs.Prelude.{IfSome, None, Option, Some, unwrap_or}
+use Rattle.std.specs.List.{position_from}
 use Rattle.isa.specs.declared.Instruction.{Instruction}
 use Rattle.isa.specs.declared.Instruction.TheVariants as I
 use Rattle.mnemonic.specs.Line.{line_of}
 use Rattle.mnemonic.specs.Spelling.{Token, letters, mark, operand}
 use Rattle.operand.specs.Text.{is_digit}
 use Rattle.operand.specs.Words.{first, fixed_words, is_fixed, place, same}
-use Rattle.operand.specs.Read.{kind_of, packed, place_of, sign_kind, word_kind}
+use Rattle.operand.specs.Read.{kind_of, number_of_kind, packed, place_of, sign_kind, word_kind}
+use Rattle.operand.specs.declared.tokens.Kind.TheVariants.{Fixed}
 use Rattle.operand.proofs.Texts.{both, case, differ}
 use Rattle.operand.proofs.Places.{characters, characters-are, same-packed, same_refl}
 use Rattle.assembler.specs.Forms.{always, forms, lead}
@@ -66,7 +70,7 @@ module _ (w : List ℕ) (f : is_fixed w ≡ true) where
   fixed_word : get_or fixed_words (place fixed_words w) [] ≡ w
   fixed_word = at_place fixed_words w fixed_in
 
-  pub fixed-kind : word_kind w ≡ 128 + place fixed_words w
+  pub fixed-kind : word_kind w ≡ Fixed (place fixed_words w)
   unfolding word_kind
   fixed-kind =
       let e : not_digit w ≡ true = subst (λ (v : List ℕ). not_digit v ≡ true) fixed_word
@@ -82,7 +86,7 @@ printed : (c : ℕ) → 43 < c → c < 94 → (sign_kind c ≡ c) × (43 < c) ×
 unfolding sign_kind
 printed c l u = (rw (lt-ltb 32 c (omega arith), lt-ltb c 128 (omega arith)) refl, l, u)
 
-sign-leads : (c : ℕ) → leads (mark c) ≡ true → (sign_kind c ≡ c) × (43 < c) × (c < 94)
+pub sign-leads : (c : ℕ) → leads (mark c) ≡ true → (sign_kind c ≡ c) × (43 < c) × (c < 94)
 sign-leads c e = case (eqb c 44) (λ a. printed c (omega (arith, eqb-true c 44 a)) (omega (arith, eqb-true c 44 a)))
     (λ a. case (eqb c 91) (λ b. printed c (omega (arith, eqb-true c 91 b)) (omega (arith, eqb-true c 91 b)))
     (λ b. case (eqb c 93) (λ d. printed c (omega (arith, eqb-true c 93 d)) (omega (arith, eqb-true c 93 d)))
@@ -90,25 +94,25 @@ sign-leads c e = case (eqb c 44) (λ a. printed c (omega (arith, eqb-true c 44 a
 
 -- a leading token's kind is a byte and not 0
 pub kind-range : (t : Token) → leads t ≡ true → (0 < kind_of t) × (kind_of t < 256)
-kind-range (letters w) e = (omega (arith, fixed-kind w e), omega (arith, fixed-kind w e, fixed_in w e, fixed-many))
+kind-range (letters w) e = let k = ap number_of_kind (fixed-kind w e) in (omega arith, omega (arith, fixed_in w e, fixed-many))
 kind-range (mark c) e = let p = sign-leads c e in (omega (arith, p.0, p.1), omega (arith, p.0, p.2))
 kind-range (operand n v) e = absurd (differ e)
 
 -- and tells it
 kind-tells : (t u : Token) → leads t ≡ true → leads u ≡ true → kind_of t ≡ kind_of u → equal t u ≡ true
 kind-tells (letters v) (letters w) e f q =
-    let same_place : place fixed_words v ≡ place fixed_words w = omega (arith, fixed-kind v e, fixed-kind w f) in
+    let same_place : place fixed_words v ≡ place fixed_words w = omega (arith, ap number_of_kind (fixed-kind v e), ap number_of_kind (fixed-kind w f)) in
     let alike : v ≡ w = sym (fixed_word v e) ∙ ap (λ (k : ℕ). get_or fixed_words k []) same_place ∙ fixed_word w f in
     subst (λ (x : List ℕ). same v x ≡ true) alike (same_refl v)
-kind-tells (letters v) (mark d) e f q = absurd (omega (arith, fixed-kind v e, (sign-leads d f).0, (sign-leads d f).2))
+kind-tells (letters v) (mark d) e f q = absurd (omega (arith, ap number_of_kind (fixed-kind v e), (sign-leads d f).0, (sign-leads d f).2))
 kind-tells (letters v) (operand n x) e f q = absurd (differ f)
-kind-tells (mark c) (letters w) e f q = absurd (omega (arith, fixed-kind w f, (sign-leads c e).0, (sign-leads c e).2))
+kind-tells (mark c) (letters w) e f q = absurd (omega (arith, ap number_of_kind (fixed-kind w f), (sign-leads c e).0, (sign-leads c e).2))
 kind-tells (mark c) (mark d) e f q = eq-eqb c d (omega (arith, (sign-leads c e).0, (sign-leads d f).0))
 kind-tells (mark c) (operand n x) e f q = absurd (differ f)
 kind-tells (operand n x) u e f q = absurd (differ e)
 
 equal-kind : (t u : Token) → equal t u ≡ true → kind_of t ≡ kind_of u
-equal-kind (letters v) (letters w) e = ap word_kind (same-is v w e)
+equal-kind (letters v) (letters w) e = ap (λ (x : List ℕ). number_of_kind (word_kind x)) (same-is v w e)
 equal-kind (letters v) (mark d) e = absurd (differ e)
 equal-kind (letters v) (operand n x) e = absurd (differ e)
 equal-kind (mark c) (letters w) e = absurd (differ e)
@@ -266,3 +270,29 @@ too_long h l = (unequal org_lead h (λ q. omega arith), long-none forms h forms-
 pub zero-none : place_of form_keys 0 ≡ 97
 unfolding form_keys forms line_of word_kind sign_kind is_fixed fixed_words
 zero-none = refl
+
+-- the number found is the key's place
+place-from : (x i : ℕ) (l : List ℕ) → unwrap_or (position_from (λ (y : ℕ). eqb y x) i l) (i + length l) ≡ i + place_of l x
+place-from x i [] = refl
+place-from x i (y ∷ l) = case (eqb y x) (λ e. rw e (sym (add-zero i)))
+    (λ e. rw e (ap (unwrap_or (position_from (λ (z : ℕ). eqb z x) (i + 1) l)) {x = i + suc (length l)} {y = i + 1 + length l} (omega arith)
+    ∙ place-from x (i + 1) l ∙ omega arith))
+
+pub place-is : (x : ℕ) (l : List ℕ) → unwrap_or (position_from (λ (y : ℕ). eqb y x) 0 l) (length l) ≡ place_of l x
+place-is x l = ap (unwrap_or (position_from (λ (y : ℕ). eqb y x) 0 l)) (sym (zero-add (length l))) ∙ place-from x 0 l ∙ zero-add (place_of l x)
+
+below-from : (x i : ℕ) (l : List ℕ) → IfSome (position_from (λ (y : ℕ). eqb y x) i l) (λ (k : ℕ). k < i + length l)
+below-from x i [] = tt
+below-from x i (y ∷ l) = case (eqb y x) (λ e. rw e (omega arith))
+    (λ e. rw e (further (position_from (λ (z : ℕ). eqb z x) (i + 1) l) (below-from x (i + 1) l)))
+  where
+    further : (o : Option ℕ) → IfSome o (λ (k : ℕ). k < i + 1 + length l) → IfSome o (λ (k : ℕ). k < i + suc (length l))
+    further None h = tt
+    further (Some k) h = omega arith
+
+pub place-below : (x : ℕ) (l : List ℕ) → IfSome (position_from (λ (y : ℕ). eqb y x) 0 l) (λ (k : ℕ). k < 0 + length l)
+place-below x l = below-from x 0 l
+
+pub keys-count : length form_keys ≡ 97
+unfolding form_keys
+keys-count = omega (arith, length-map forms lead_key, form-count)

@@ -1,109 +1,83 @@
 -- Laws of one line, on plain values: its label, the tokens before its operand, its operand, and what statement they make. Assumes nothing.
 use Prim.Native.Nat.{ℕ, zero, suc, ◌+◌, ◌*◌, ◌<◌, ◌≤◌}
 use mathlib.Core.Path.{◌≡◌, refl, sym, ap, ◌∙◌}
-use mathlib.Core.Bool.{Bool, true, false, ◌&&◌, ◌||◌, not}
+use mathlib.Core.Bool.{Bool, true, false, ◌&&◌, not}
 use mathlib.Core.List.{List, [], ◌∷◌, map, reverse, reverse_aux}
-use mathlib.Core.Option.{Option, none, some}
+use mathlib.Core.Option.{none, some}
+use mathlib.Core.Option as Math
 use native.Mathlib.Nat.{zero-add}
 use native.Mathlib.Omega.{arith}
-use borrow.Author.Tests.{eq-eqb, eqb-false, eqb-true, le-leb, lt-leb, lt-ltb, ltb-true, ne_eqb}
+use borrow.Author.Tests.{eq-eqb, eqb-false, eqb-true, lt-ltb, ltb-true, ne_eqb}
 use lib.Dec.{eqb, ltb}
 use lib.ListN.{get_or, length}
+use Rattle.std.specs.Prelude.{None, Option, Some, is_some, unwrap_or}
 use Rattle.isa.specs.Choice.{pick}
 use Rattle.mnemonic.specs.Spelling.{Token, letters, mark, operand}
 use Rattle.operand.specs.Text.{is_digit, is_letter}
 use Rattle.operand.specs.Words.{first, is_fixed, is_label}
 use Rattle.operand.specs.Operand.{Term, operand_of}
-use Rattle.operand.specs.Read.{Lexed, Next, ended, kind_of, operand_at, packed, place_of, sign, sign_kind, tokens_at, valued, word, word_at, word_kind}
+use Rattle.operand.specs.Read.{Lexed, Next, ended, kind_of, number_of_kind, operand_at, packed, place_of, sign, tokens_at, valued, word, word_at, word_kind}
+use Rattle.operand.specs.declared.tokens.Kind.TheVariants.{End, Sign}
+use Rattle.operand.specs.declared.tokens.Kind.TheVariants.{Label as LabelKind}
 use Rattle.operand.specs.declared.operands.Value.{Value}
 use Rattle.operand.specs.declared.tokens.Lexeme.{Lexeme}
 use Rattle.operand.proofs.Places.{characters}
-use Rattle.operand.proofs.Texts.{both, case, differ, neither, not-letter}
-use Rattle.operand.proofs.TokenKinds.{as-end, as-label, as-sign, sign-is, sign-not}
+use Rattle.operand.proofs.Texts.{both, case, differ, not-letter}
+use Rattle.operand.proofs.Scans.{none-some, some-is, some-of}
+use Rattle.operand.proofs.TokenKinds.{as-end, as-label, as-sign}
 use Rattle.operand.proofs.Whole.{short-read}
 use Rattle.assembler.specs.Forms.{operand_digits}
 use Rattle.assembler.specs.Statement.{after, after_two, before, blank, body, code_of, label_of, labelled, leads}
 use Rattle.assembler.specs.Statement.{mnemonic, nothing, operand_for, org, statement}
-use Rattle.assembler.specs.Shapes.{digits_in, form_at, form_keys, key_of, leads_in, shapes}
-use Rattle.assembler.specs.Read.{Headed, Labelling, Operanded, Shows, bad, bodied, good, label_in, long, whole}
+use Rattle.assembler.specs.Shapes.{digits_in, form_at, form_keys, key_of, leading, shapes}
+use Rattle.assembler.specs.Read.{Parts, Headed, Labelling, Operanded, Shows, bad, bodied, good, label_at, label_in, long, parts, whole}
 use Rattle.assembler.specs.Read as L
 use Rattle.assembler.specs.declared.lines.Head.{Head}
 use Rattle.assembler.specs.declared.lines.Label.{Label}
-use Rattle.assembler.specs.declared.lines.Line.{Line}
-use Rattle.assembler.proofs.Keys.{before-leads, fixed-kind, form-found, form-none, keys-most, kind-range, not-org, org-found}
+use Rattle.assembler.proofs.Keys.{before-leads, fixed-kind, form-found, form-none, keys-most, kind-range, not-org, org-found, sign-leads}
 use Rattle.assembler.proofs.Keys.{too_long, zero-none}
 use Rattle.assembler.proofs.Shaping.{shape_at}
 
 -- ---- leading tokens, by their kind
-over-lead : (k : ℕ) → 128 ≤ k → leads_in k ≡ true
-over-lead k h = rw (le-leb 128 k h) refl
-
-no_lead : (k : ℕ) → k < 128 → (k ≡ 44 → ⊥) → (k ≡ 91 → ⊥) → (k ≡ 93 → ⊥) → leads_in k ≡ false
-no_lead k h a b d = rw (lt-leb 128 k h, ne_eqb k 44 a, ne_eqb k 91 b, ne_eqb k 93 d) refl
-
-plain_word : (w : List ℕ) → is_fixed w ≡ false → leads_in (word_kind w) ≡ false
+word-leading : (w : List ℕ) → is_fixed w ≡ false → leading (word_kind w) ≡ None
 unfolding word_kind
-plain_word w f = case (is_digit (first w)) (λ d. rw d refl) (λ d. rw (d, f) refl)
+word-leading w f = case (is_digit (first w)) (λ d. rw d refl) (λ d. rw (d, f) refl)
 
-word-leads : (w : List ℕ) → leads_in (word_kind w) ≡ is_fixed w
-word-leads w = case (is_fixed w) (λ f. over-lead (word_kind w) (omega (arith, fixed-kind w f)) ∙ sym f) (λ f. plain_word w f ∙ sym f)
-
-comma : leads_in (sign_kind 44) ≡ true
-unfolding sign_kind
-comma = refl
-
-bracket : leads_in (sign_kind 91) ≡ true
-unfolding sign_kind
-bracket = refl
-
-closing : leads_in (sign_kind 93) ≡ true
-unfolding sign_kind
-closing = refl
-
-sign-under : (c : ℕ) → sign_kind c < 128
-unfolding sign_kind
-sign-under c = case (ltb 32 c && ltb c 128) (λ e. rw e (ltb-true c 128 (both (ltb 32 c) (ltb c 128) e).1)) (λ e. rw e (omega arith))
-
-mark-leads : (c : ℕ) → leads_in (sign_kind c) ≡ leads (mark c)
-mark-leads c = case (leads (mark c)) (λ e. yes e ∙ sym e) (λ e. no e ∙ sym e)
-  where
-    yes : leads (mark c) ≡ true → leads_in (sign_kind c) ≡ true
-    yes e = case (eqb c 44) (λ a. ap leads_in (ap sign_kind (eqb-true c 44 a)) ∙ comma)
-        (λ a. case (eqb c 91) (λ b. ap leads_in (ap sign_kind (eqb-true c 91 b)) ∙ bracket)
-        (λ b. case (eqb c 93) (λ d. ap leads_in (ap sign_kind (eqb-true c 93 d)) ∙ closing) (λ d. absurd (differ (sym (rw (a, b, d) refl) ∙ e)))))
-
-    no : leads (mark c) ≡ false → leads_in (sign_kind c) ≡ false
-    no e =
-        let p = neither (eqb c 44 || eqb c 91) (eqb c 93) e in
-        let q = neither (eqb c 44) (eqb c 91) p.0 in
-        no_lead (sign_kind c) (sign-under c) (λ x. eqb-false c 44 q.0 (sign-is c 44 (omega arith) x))
-        (λ x. eqb-false c 91 q.1 (sign-is c 91 (omega arith) x)) (λ x. eqb-false c 93 p.1 (sign-is c 93 (omega arith) x))
-
-pub record Leading (text : List ℕ) (ts : List Token) (r : Lexeme) : Type 0 where
+pub record Leading (text : List ℕ) (ts : List Token) (r : Lexeme) (n : ℕ) : Type 0 where
   pub token : Token
   pub is : ts ≡ token ∷ tokens_at text r.next
   pub leads : leads token ≡ true
-  pub kind : r.kind ≡ kind_of token
+  pub kind : n ≡ kind_of token
 
 module _ {text : List ℕ} {ts : List Token} {r : Lexeme} where
-  pub as-lead : Next text ts r → leads_in r.kind ≡ true → Leading text ts r
-  as-lead (ended e q g) h = absurd (differ (sym (ap leads_in q) ∙ h))
-  as-lead (word e q n i w) h =
-      record {
+  pub as-lead : Next text ts r → (n : ℕ) → leading r.kind ≡ Some n → Leading text ts r n
+  as-lead (ended e q g) n h = absurd (none-some (sym (ap leading q) ∙ h))
+  as-lead (word e q k i w) n h = case (is_fixed (word_at text r.start))
+      (λ f. record {
         token = letters (word_at text r.start);
         is = e;
-        leads = sym (word-leads (word_at text r.start)) ∙ sym (ap leads_in q)
-            ∙ h;
-        kind = q;
-      }
-  as-lead (sign c e q) h = record { token = mark c; is = e; leads = sym (mark-leads c) ∙ sym (ap leads_in q) ∙ h; kind = q }
+        leads = f;
+        kind = some-is (sym h ∙ ap leading (q ∙ fixed-kind (word_at text r.start) f))
+            ∙ sym (ap number_of_kind (fixed-kind (word_at text r.start) f));
+      })
+      (λ f. absurd (none-some (sym (word-leading (word_at text r.start) f) ∙ sym (ap leading q) ∙ h)))
+  as-lead (sign c e q) n h = case (leads (mark c))
+      (λ f. let k : leading (Sign c) ≡ Some c = rw f refl in record {
+        token = mark c;
+        is = e;
+        leads = f;
+        kind = some-is (sym h ∙ ap leading q ∙ k) ∙ sym (sign-leads c f).0;
+      })
+      (λ f. let k : leading (Sign c) ≡ None = rw f refl in absurd (none-some (sym k ∙ sym (ap leading q) ∙ h)))
 
-  pub as-tail : Next text ts r → leads_in r.kind ≡ false → (before ts ≡ []) × (after ts ≡ ts)
+  pub as-tail : Next text ts r → leading r.kind ≡ None → (before ts ≡ []) × (after ts ≡ ts)
   as-tail (ended e q g) h = rw e (refl, refl)
-  as-tail (word e q n i w) h =
-      let f : is_fixed (word_at text r.start) ≡ false = sym (word-leads (word_at text r.start)) ∙ sym (ap leads_in q) ∙ h in rw (e, f) (refl, refl)
-  as-tail (sign c e q) h =
-      let f : leads (mark c) ≡ false = sym (mark-leads c) ∙ sym (ap leads_in q) ∙ h in rw (e, f) (refl, refl)
+  as-tail (word e q n i w) h = case (is_fixed (word_at text r.start))
+      (λ f. absurd (none-some (sym h ∙ ap leading (q ∙ fixed-kind (word_at text r.start) f))))
+      (λ f. rw (e, f) (refl, refl))
+  as-tail (sign c e q) h = case (leads (mark c))
+      (λ f. let k : leading (Sign c) ≡ Some c = rw f refl in absurd (none-some (sym h ∙ ap leading q ∙ k)))
+      (λ f. rw (e, f) (refl, refl))
 
 -- ---- the tokens before an operand
 pub record Heading (text : List ℕ) (at key count i : ℕ) : Type 0 where
@@ -169,43 +143,43 @@ module _ {text : List ℕ} {at key count i : ℕ} where
   key-small g h = rw g.number (packed-small g.done g.bytes (omega (arith, g.counted)))
 
   module _ {r : Lexeme} (g : Heading text at key count i) (x : Lexed text i r) where
-    pub headed : leads_in r.kind ≡ false → Headed text (tokens_at text at) (record { key = key; next = i })
+    pub headed : leading r.kind ≡ None → Headed text (tokens_at text at) (record { key = key; next = i })
     headed h =
         let t = as-tail x.next h in
         whole (g.number ∙ ap packed (sym (g.row ∙ ap (λ (us : List Token). reverse_aux (map kind_of us) g.done) t.0))) (sym (g.rest ∙ t.1))
         g.within
 
-    pub head-long : leads_in r.kind ≡ true → count ≡ 6 → Headed text (tokens_at text at) (record { key = 0; next = i })
-    head-long h c =
-        let t = as-lead x.next h in
+    pub head-long : {n : ℕ} → leading r.kind ≡ Some n → count ≡ 6 → Headed text (tokens_at text at) (record { key = 0; next = i })
+    head-long {n} h c =
+        let t = as-lead x.next n h in
         let on = lead-on t.is t.leads in
         let e = on.0 in
         long refl (omega (arith, g.many, ap length e)) g.within
 
-    pub head-on : leads_in r.kind ≡ true → count < 6 → Heading text at (r.kind + 256 * key) (count + 1) r.next
-    head-on h c =
-        let t = as-lead x.next h in
+    pub head-on : {n : ℕ} → leading r.kind ≡ Some n → count < 6 → Heading text at (n + 256 * key) (count + 1) r.next
+    head-on {n} h c =
+        let t = as-lead x.next n h in
         let on = lead-on t.is t.leads in
         let e = on.0 in
         let k = kind-range t.token t.leads in
         record {
-          done = r.kind ∷ g.done;
-          number = ap (λ (n : ℕ). r.kind + 256 * n) g.number;
+          done = n ∷ g.done;
+          number = ap (λ (m : ℕ). n + 256 * m) g.number;
           counted = omega (arith, g.counted);
           most = omega arith;
           within = x.within;
-          bytes = rw (lt-ltb 0 r.kind (omega (arith, t.kind, k.0)), lt-ltb r.kind 256 (omega (arith, t.kind, k.1))) g.bytes;
+          bytes = rw (lt-ltb 0 n (omega (arith, t.kind, k.0)), lt-ltb n 256 (omega (arith, t.kind, k.1))) g.bytes;
           row = g.row ∙ ap (λ (us : List Token). reverse_aux (map kind_of us) g.done) e
-              ∙ ap (λ (n : ℕ). reverse_aux (map kind_of (before (tokens_at text r.next))) (n ∷ g.done)) (sym t.kind);
+              ∙ ap (λ (m : ℕ). reverse_aux (map kind_of (before (tokens_at text r.next))) (m ∷ g.done)) (sym t.kind);
           rest = g.rest ∙ on.1;
           many = omega (arith, g.many, ap length e);
         }
 
-    pub head-moves : leads_in r.kind ≡ true → i < r.next
-    head-moves h = omega (arith, x.from, x.moves (λ q. differ (sym (ap leads_in q) ∙ h)))
+    pub head-moves : {n : ℕ} → leading r.kind ≡ Some n → i < r.next
+    head-moves h = omega (arith, x.from, x.moves (λ q. none-some (sym (ap leading q) ∙ h)))
 
 -- ---- the label
-label-kind : (w : List ℕ) → is_label w ≡ true → word_kind w ≡ 2
+label-kind : (w : List ℕ) → is_label w ≡ true → word_kind w ≡ LabelKind
 unfolding is_label word_kind
 label-kind w e =
     let p = both (is_letter (first w)) (not (is_fixed w)) e in
@@ -226,7 +200,7 @@ no-label-word w (operand n v ∷ us) e = refl
 
 module _ {text : List ℕ} {ts : List Token} {r : Lexeme} where
   -- no label where the first word is none
-  pub no_label : Next text ts r → (r.kind ≡ 2 → ⊥) → labelled ts ≡ false
+  pub no_label : Next text ts r → (r.kind ≡ LabelKind → ⊥) → labelled ts ≡ false
   no_label (ended e q g) h = rw e refl
   no_label (word e q n i w) h =
       rw e (no-label-word (word_at text r.start) (tokens_at text r.next)
@@ -234,66 +208,51 @@ module _ {text : List ℕ} {ts : List Token} {r : Lexeme} where
   no_label (sign c e q) h = rw e refl
 
   -- nor where no colon follows
-  pub no-colon : Next text ts r → (r.kind ≡ 58 → ⊥) → (w : List ℕ) → labelled (letters w ∷ ts) ≡ false
+  pub no-colon : Next text ts r → (r.kind ≡ Sign 58 → ⊥) → (w : List ℕ) → labelled (letters w ∷ ts) ≡ false
   no-colon (ended e q g) h w = rw e refl
   no-colon (word e q n i v) h w = rw e refl
-  no-colon (sign c e q) h w = rw (e, sign-not c 58 (omega arith) (omega arith) (λ x. h (q ∙ x))) (never (is_label w))
+  no-colon (sign c e q) h w = rw (e, ne_eqb c 58 (λ x. h (q ∙ ap Sign x))) (never (is_label w))
     where
       never : (b : Bool) → (b && false) ≡ false
       never true = refl
       never false = refl
 
 module _ (text : List ℕ) (at : ℕ) (within : at ≤ length text) where
-  pub unlabelled : labelled (tokens_at text at) ≡ false → Labelling text (tokens_at text at) (record { present = false; start = at; next = at })
-  unlabelled e = record { within = within; place = within; present = sym e; label = rw e refl; rest = rw e refl }
+  pub unlabelled : labelled (tokens_at text at) ≡ false → Labelling text (tokens_at text at) (record { start = None; next = at })
+  unlabelled e = record { within = within; place = omega arith; present = sym e; label = rw e refl; rest = rw e refl }
 
-  pub with-label : {w k : Lexeme} → Lexed text at w → w.kind ≡ 2 → Lexed text w.next k → k.kind ≡ 58
-      → Labelling text (tokens_at text at) (record { present = true; start = w.start; next = k.next })
+  pub with-label : {w k : Lexeme} → Lexed text at w → w.kind ≡ LabelKind → Lexed text w.next k → k.kind ≡ Sign 58
+      → Labelling text (tokens_at text at) (record { start = Some w.start; next = k.next })
   with-label {w} {k} x p y q =
       let l = as-label x.next p in
       let e : tokens_at text at ≡ letters (word_at text w.start) ∷ mark 58 ∷ tokens_at text k.next
-      = l.0 ∙ ap (λ (us : List Token). letters (word_at text w.start) ∷ us) (as-sign y.next 58 (omega arith) (omega arith) q) in
+      = l.0 ∙ ap (λ (us : List Token). letters (word_at text w.start) ∷ us) (as-sign y.next 58 q) in
       made l.1 y.within (omega (arith, x.starts, x.within)) (tokens_at text at) e
     where
       made : is_label (word_at text w.start) ≡ true → k.next ≤ length text → w.start ≤ length text → (ts : List Token)
           → ts ≡ letters (word_at text w.start) ∷ mark 58 ∷ tokens_at text k.next
-          → Labelling text ts (record { present = true; start = w.start; next = k.next })
+          → Labelling text ts (record { start = Some w.start; next = k.next })
       made i a b ts e = rw e (record { within = a; place = b; present = sym (rw i refl); label = rw i refl; rest = rw i refl })
 
 -- ---- the operand of a whole line
 -- what is read is what the operand counts, if there is one
-module _ (text : List ℕ) (names : List (List ℕ)) (addresses : List ℕ) (at form : ℕ) (name : Label) (short : length text ≤ 65535) {v : Value}
-    (e : v ≡ valued names addresses (operand_at text at)) where
-  value_of : (o : Option (List Term)) → operand_of (tokens_at text at) ≡ o → v ≡ valued names addresses o
-  value_of o q = e ∙ ap (valued names addresses) (short-read text at short ∙ q)
-
-  pub no_operand : v.readable ≡ false → (l : Line) → l.readable ≡ false → Operanded names addresses (tokens_at text at) form name l
-  no_operand h l b = go (operand_of (tokens_at text at)) refl
+module _ (text : List ℕ) (names : List (List ℕ)) (addresses : List ℕ) (at form : ℕ) (name : Option ℕ) (short : length text ≤ 65535) where
+  pub no_operand : None ≡ valued names addresses (operand_at text at) → Operanded names addresses (tokens_at text at) form name (parts None)
+  no_operand e = go (operand_of (tokens_at text at)) refl
     where
-      go : (o : Option (List Term)) → operand_of (tokens_at text at) ≡ o → Operanded names addresses (tokens_at text at) form name l
-      go none q = bad q b
-      go (some ts) q = absurd (differ (sym h ∙ ap (λ (x : Value). x.readable) (value_of (some ts) q)))
+      go : (o : Math.Option (List Term)) → operand_of (tokens_at text at) ≡ o → Operanded names addresses (tokens_at text at) form name (parts None)
+      go none q = bad q refl
+      go (some ts) q = absurd (none-some (e ∙ ap (valued names addresses) (short-read text at short ∙ q)))
 
-  pub operand-whole : v.readable ≡ true
-      → Operanded names addresses (tokens_at text at) form name
-      (record { readable = true; form = form; labelled = name.present; label = name.start; missing = v.missing; plus = v.plus; minus = v.minus })
-  operand-whole h = go (operand_of (tokens_at text at)) refl
+  pub operand-whole : {v : Value} → Some v ≡ valued names addresses (operand_at text at)
+      → Operanded names addresses (tokens_at text at) form name (parts (Some (record { form = Some form; label = name; value = v })))
+  operand-whole {v} e = go (operand_of (tokens_at text at)) refl
     where
-      line : Line
-      line = record {
-        readable = true;
-        form = form;
-        labelled = name.present;
-        label = name.start;
-        missing = v.missing;
-        plus = v.plus;
-        minus = v.minus;
-      }
-
-      go : (o : Option (List Term)) → operand_of (tokens_at text at) ≡ o → Operanded names addresses (tokens_at text at) form name line
-      go none q = absurd (differ (sym (ap (λ (x : Value). x.readable) (value_of none q)) ∙ h))
+      go : (o : Math.Option (List Term)) → operand_of (tokens_at text at) ≡ o
+          → Operanded names addresses (tokens_at text at) form name (parts (Some (record { form = Some form; label = name; value = v })))
+      go none q = absurd (none-some (sym (e ∙ ap (valued names addresses) (short-read text at short ∙ q))))
       go (some ts) q =
-          let u = value_of (some ts) q in
+          let u = some-of v (e ∙ ap (valued names addresses) (short-read text at short ∙ q)) in
           good ts q refl refl refl refl (record {
             added = ap (λ (x : Value). x.plus) u;
             taken = ap (λ (x : Value). x.minus) u;
@@ -305,21 +264,21 @@ some-digits : (n : ℕ) (ts : List Token) → 0 < n → operand_for n ts ≡ ope
 some-digits zero ts h = absurd (omega arith)
 some-digits (suc n) ts h = refl
 
-module _ (text : List ℕ) (above all : List (List ℕ)) (addresses : List ℕ) (name : Label) (ts : List Token) (place : name.start ≤ length text) where
-  abbrev own : Option (List ℕ)
-  own = label_in text name.present name.start
+module _ (text : List ℕ) (above all : List (List ℕ)) (addresses : List ℕ) (name : Option ℕ) (ts : List Token) (place : unwrap_or name 0 ≤ length text) where
+  abbrev own : Math.Option (List ℕ)
+  own = label_at text name
 
-  own_is : (r : Line) → r.labelled ≡ name.present → r.label ≡ name.start → own ≡ label_in text r.labelled r.label
+  own_is : (r : Parts) → r.labelled ≡ is_some name → r.label ≡ unwrap_or name 0 → own ≡ label_in text r.labelled r.label
   own_is r p s = rw (p, s) refl
 
-  pub none-shown : (form : ℕ) → form ≡ 97 → (r : Line) → r.readable ≡ false → Shows text above all addresses (bodied form own ts) r
+  pub none-shown : (form : ℕ) → form ≡ 97 → (r : Parts) → r.readable ≡ false → Shows text above all addresses (bodied form own ts) r
   none-shown form q r b = L.broken (rw (eq-eqb form 97 q) refl) b
 
-  pub org-shown : (form : ℕ) → form ≡ 0 → (r : Line) → Operanded above addresses ts form name r → Shows text above all addresses
+  pub org-shown : (form : ℕ) → form ≡ 0 → (r : Parts) → Operanded above addresses ts form name r → Shows text above all addresses
       (bodied form own ts) r
   org-shown form q r (bad e b) = L.broken (rw (ne_eqb form 97 (λ z. omega arith), eq-eqb form 0 q, e) refl) b
   org-shown form q r (good terms e b f p s v) =
-      L.origin terms (rw (ne_eqb form 97 (λ z. omega arith), eq-eqb form 0 q, e) (ap (λ (l : Option (List ℕ)). org l terms) (own_is r p s)))
+      L.origin terms (rw (ne_eqb form 97 (λ z. omega arith), eq-eqb form 0 q, e) (ap (λ (l : Math.Option (List ℕ)). org l terms) (own_is r p s)))
       b (f ∙ q) v (omega (arith, s))
 
   module _ (form : ℕ) (low : 0 < form) (high : form < 97) where
@@ -329,12 +288,12 @@ module _ (text : List ℕ) (above all : List (List ℕ)) (addresses : List ℕ) 
     digits_are : operand_digits (form_at form) ≡ digits_in (get_or shapes form 0)
     digits_are = (shape_at form low high).digit
 
-    pub code-shown : (r : Line) → 0 < digits_in (get_or shapes form 0) → Operanded all addresses ts form name r
+    pub code-shown : (r : Parts) → 0 < digits_in (get_or shapes form 0) → Operanded all addresses ts form name r
         → Shows text above all addresses (bodied form own ts) r
     code-shown r d (bad e b) = L.broken (body_is ∙ rw (some-digits (operand_digits (form_at form)) ts (omega (arith, digits_are)), e) refl) b
     code-shown r d (good terms e b f p s v) =
         L.coded terms (body_is ∙ rw (some-digits (operand_digits (form_at form)) ts (omega (arith, digits_are)), e)
-        (ap (λ (l : Option (List ℕ)). mnemonic l (form_at form) terms) (own_is r p s) ∙ ap
+        (ap (λ (l : Math.Option (List ℕ)). mnemonic l (form_at form) terms) (own_is r p s) ∙ ap
         (λ (k : ℕ). mnemonic (label_in text r.labelled r.label) (form_at k) terms) (sym f)))
         b (omega (arith, f)) (omega (arith, f)) v (omega (arith, s))
 
@@ -343,23 +302,23 @@ module _ (text : List ℕ) (above all : List (List ℕ)) (addresses : List ℕ) 
 
     pub plain-shown : digits_in (get_or shapes form 0) ≡ 0 → ts ≡ []
         → Shows text above all addresses (bodied form own ts)
-        (record { readable = true; form = form; labelled = name.present; label = name.start; missing = false; plus = 0; minus = 0 })
+        (parts (Some (record { form = Some form; label = name; value = record { missing = false; plus = 0; minus = 0 } })))
     plain-shown d e =
         L.coded [] (body_is ∙ rw (no-digits (operand_digits (form_at form)) (digits_are ∙ d), e) refl) refl low high
         (record { added = refl; taken = refl; missed = refl }) place
 
-    pub plain-broken : digits_in (get_or shapes form 0) ≡ 0 → nothing ts ≡ none → (r : Line) → r.readable ≡ false → Shows text above all addresses
+    pub plain-broken : digits_in (get_or shapes form 0) ≡ 0 → nothing ts ≡ none → (r : Parts) → r.readable ≡ false → Shows text above all addresses
         (bodied form own ts) r
     plain-broken d e r b = L.broken (body_is ∙ rw (no-digits (operand_digits (form_at form)) (digits_are ∙ d), e) refl) b
 
 -- where a line has not ended something stands
-pub not-nothing : {text : List ℕ} {ts : List Token} {r : Lexeme} → Next text ts r → (r.kind ≡ 1 → ⊥) → nothing ts ≡ none
+pub not-nothing : {text : List ℕ} {ts : List Token} {r : Lexeme} → Next text ts r → (r.kind ≡ End → ⊥) → nothing ts ≡ none
 not-nothing (ended e q g) h = absurd (h q)
 not-nothing (word e q n i w) h = rw e refl
 not-nothing (sign c e q) h = rw e refl
 
 -- ---- the whole line
-pub blank-line : (text : List ℕ) (at : ℕ) {k : Lexeme} → Lexed text at k → k.kind ≡ 1 → statement (tokens_at text at) ≡ blank
+pub blank-line : (text : List ℕ) (at : ℕ) {k : Lexeme} → Lexed text at k → k.kind ≡ End → statement (tokens_at text at) ≡ blank
 blank-line text at x h = rw (as-end x.next h).0 refl
 
 statement-body : (ts : List Token) → nothing ts ≡ none → statement ts ≡ body (pick (labelled ts) (label_of ts) none)
@@ -370,7 +329,7 @@ statement-body [] e = absurd (no_none e)
     no_none q = let z : ◌≡◌ {A = ℕ} 0 1 = cc in omega arith
 statement-body (t ∷ ts) e = case (labelled (t ∷ ts)) (λ l. rw l refl) (λ l. rw l refl)
 
-body-form : (l : Option (List ℕ)) (ts : List Token) → body l ts ≡ bodied (place_of form_keys (key_of (before ts))) l (after ts)
+body-form : (l : Math.Option (List ℕ)) (ts : List Token) → body l ts ≡ bodied (place_of form_keys (key_of (before ts))) l (after ts)
 unfolding body
 body-form l ts =
     let n = place_of form_keys (key_of (before ts)) in
@@ -385,22 +344,22 @@ body-form l ts =
     let high : n < 97 = omega (arith, eqb-false n 97 e) in
     rw (e, f, not-org (before ts) b low, form-found (before ts) b low high) refl))
 
-body-long : (l : Option (List ℕ)) (ts us : List Token) → 6 < length (before ts) → body l ts ≡ bodied (place_of form_keys 0) l us
+body-long : (l : Math.Option (List ℕ)) (ts us : List Token) → 6 < length (before ts) → body l ts ≡ bodied (place_of form_keys 0) l us
 unfolding body
 body-long l ts us h = let p = too_long (before ts) h in rw (p.0, p.1, zero-none) refl
 
 -- a line that is not blank is what follows its label, by the number of its form
 pub line-body : (text : List ℕ) (ts : List Token) (name : Label) (r : Head) → nothing ts ≡ none → Labelling text ts name
     → Headed text (tokens_at text name.next) r
-    → statement ts ≡ bodied (place_of form_keys r.key) (label_in text name.present name.start) (tokens_at text r.next)
+    → statement ts ≡ bodied (place_of form_keys r.key) (label_at text name.start) (tokens_at text r.next)
 line-body text ts name r e n (whole k a w) =
     statement-body ts e ∙ rw
-    (sym n.label, sym n.rest, body-form (label_in text name.present name.start) (tokens_at text name.next), sym k, sym a) refl
+    (sym n.label, sym n.rest, body-form (label_at text name.start) (tokens_at text name.next), sym k, sym a) refl
 line-body text ts name r e n (long k a w) =
     statement-body ts e ∙ rw (
       sym n.label,
       sym n.rest,
-      body-long (label_in text name.present name.start) (tokens_at text name.next)
+      body-long (label_at text name.start) (tokens_at text name.next)
           (tokens_at text r.next) a,
       sym k,
     ) refl

@@ -18,9 +18,8 @@ use Rattle.operand.proofs.Texts.{both, case, differ}
 use Rattle.assembler.specs.Statement.{Statement, statement}
 use Rattle.assembler.specs.Program.{Above, address_of, end, first, misplaced, next, program, span, start, within}
 use Rattle.assembler.specs.Shapes.{is_free, shapes, size_in}
-use Rattle.assembler.specs.Read.{Shows}
+use Rattle.assembler.specs.Read.{Parts, Shows}
 use Rattle.assembler.specs.Passing.{Placed, Settled, line_end}
-use Rattle.assembler.specs.declared.lines.Line.{Line}
 use Rattle.assembler.proofs.Addresses.{Flags, flag-span, shows-address, shows-place-free, shows-size, shows-stray, size-most}
 use Rattle.assembler.proofs.Splitting.{last_line, program_at}
 use Rattle.assembler.proofs.Walking.{Walk, shows-labelled, walk-begin, next-count, walk-clear, walk-found, walk-held, walk-names, walk-next-few}
@@ -52,7 +51,7 @@ places text starts addresses used all settled u = record {
 }
 
 module _ {text starts addresses used : List ℕ} {all at number count address : ℕ} (g : Placing text starts addresses used all at number count address)
-    {r : Line}
+    {r : Parts}
     (x : Shows text (names_at text starts count) (names_at text starts 0) addresses (statement (tokens_at text at)) r) where
   abbrev st : Statement
   st = statement (tokens_at text at)

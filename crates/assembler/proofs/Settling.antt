@@ -15,10 +15,9 @@ use Rattle.operand.proofs.Places.{names-count}
 use Rattle.assembler.specs.Statement.{Statement, statement}
 use Rattle.assembler.specs.Program.{Above, address_of, bytes, end, first, misfit, misplaced, next, program, put, start}
 use Rattle.assembler.specs.Shapes.{bytes_in, firsts, is_misfit, listed, low_bytes, shapes, size_in}
-use Rattle.assembler.specs.Read.{Shows}
+use Rattle.assembler.specs.Read.{Parts, Shows}
 use Rattle.assembler.specs.Passing.{Placed, line_end}
 use Rattle.assembler.specs.declared.forms.Bytes.{Bytes}
-use Rattle.assembler.specs.declared.lines.Line.{Line}
 use Rattle.assembler.proofs.Addresses.{first-addresses, next-paired, shows-address, shows-bytes, shows-misfit, shows-placed, shows-put}
 use Rattle.assembler.proofs.Addresses.{shows-size, size-most, store-listed}
 use Rattle.assembler.proofs.Splitting.{last_line, next-line, program_at}
@@ -37,7 +36,7 @@ pub goes : {text starts addresses : List ℕ} {all : ℕ} → Placed text starts
 goes {text} p = record { walk = walk-begin text p.settled.read; at-is = refl; most = omega arith; paired = refl; placed = refl }
 
 module _ {text starts addresses : List ℕ} {all : ℕ} (p : Placed text starts addresses all) {at number count address : ℕ} {s : Above}
-    (g : Going text at number count address s) {r : Line}
+    (g : Going text at number count address s) {r : Parts}
     (x : Shows text (names_at text starts count) (names_at text starts all) addresses (statement (tokens_at text at)) r) where
   abbrev st : Statement
   st = statement (tokens_at text at)

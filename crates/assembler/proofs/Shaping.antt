@@ -3,7 +3,7 @@
 use Prim.Native.Nat.{ℕ, zero, suc, ◌+◌, ◌%◌, ◌^◌, ◌<◌}
 use mathlib.Core.Path.{◌≡◌, refl, ap}
 use mathlib.Core.Bool.{false}
-use mathlib.Core.List.{List, [], ◌∷◌}
+use mathlib.Core.List.{List, [], ◌∷◌, map}
 use native.Mathlib.Omega.{arith}
 use lib.Dec.{T, eqb, leb, leb→le}
 use lib.ListN.{get_or, length, drop}
@@ -13,7 +13,9 @@ use Rattle.isa.specs.declared.Instruction.{Instruction}
 use Rattle.isa.specs.declared.Instruction.TheVariants as I
 use Rattle.mnemonic.specs.Line.{line_of}
 use Rattle.assembler.specs.Forms.{always, operand_digits, forms, reaches, size, rom_size}
-use Rattle.assembler.specs.Shapes.{bytes_in, digits_in, firsts, form_at, low_bytes, reaches_in, shapes, size_in}
+use Rattle.assembler.specs.Shapes.{bytes_in, digits_in, firsts, form_at, low_bytes, reaches_in, shape_number, shapes, size_in}
+use Rattle.assembler.specs.declared.forms.Form.{Form}
+use Rattle.assembler.specs.declared.forms.TheConstants.{BLANK}
 
 pub record Shaped (f : ℕ → Instruction) (first s : ℕ) : Type 0 where
   pub bytes : (v : ℕ) → bytes_of (f v) ≡ bytes_in s first v
@@ -124,3 +126,14 @@ pub shape_at : (k : ℕ) → 0 < k → k < 97 → Shaped (form_at k) (get_or fir
 unfolding form_at
 shape_at zero l h = absurd (omega arith)
 shape_at (suc k) l h = nth each k (omega (arith, form-count))
+
+-- a table's column
+pub first_at : (l : List Form) (k : ℕ) → (get_or l k BLANK).first ≡ get_or (map (λ (f : Form). f.first) l) k 0
+first_at [] k = refl
+first_at (f ∷ l) zero = refl
+first_at (f ∷ l) (suc k) = first_at l k
+
+pub number_at : (l : List Form) (k : ℕ) → shape_number (get_or l k BLANK).shape ≡ get_or (map (λ (f : Form). shape_number f.shape) l) k 0
+number_at [] k = refl
+number_at (f ∷ l) zero = refl
+number_at (f ∷ l) (suc k) = number_at l k

@@ -1,29 +1,29 @@
 -- A text from a position on as its first line and the rest. Assumes nothing.
-use Prim.Native.Nat.{ℕ, suc, ◌<◌, ◌≤◌}
+use Prim.Native.Nat.{ℕ, suc, ◌-◌, ◌<◌, ◌≤◌}
 use mathlib.Core.Path.{◌≡◌, refl, ap, ◌∙◌}
+use mathlib.Core.Bool.{not}
 use mathlib.Core.List.{List, [], ◌∷◌, map}
-use native.Mathlib.Nat.{add-suc, add-zero, suc-add}
+use native.Mathlib.Nat.{add-suc}
 use native.Mathlib.Omega.{arith}
-use borrow.Author.Tests.{ne_eqb}
 use lib.Dec.{eqb}
-use lib.ListN.{get_or, length, drop, drop_of_length-le, length-drop}
-use lib.Seq.{drop-cons, drop-drop}
+use lib.ListN.{length, drop, length-drop, take}
+use lib.Seq.{drop-drop, take_all}
+use Rattle.std.specs.List.{take_while}
+use Rattle.std.proofs.lemmas.List.Sums.{take_while-cons}
 use Rattle.operand.specs.Text.{LF, lines, tokens}
 use Rattle.operand.specs.Read.{tokens_at, up_to_lf}
 use Rattle.operand.proofs.Texts.{case}
 use Rattle.assembler.specs.Statement.{Statement, statement}
 use Rattle.assembler.specs.Passing.{line_end}
 
-module _ (text : List ℕ) (at : ℕ) where
-  pub end-past : length text ≤ at → line_end text at ≡ at
-  end-past h = rw (drop_of_length-le text h, add-zero) refl
+pub line-length : (s : List ℕ) → length (take_while (λ (c : ℕ). not (eqb c LF)) s) ≡ length (up_to_lf s)
+line-length [] = refl
+line-length (c ∷ s) = ap length (take_while-cons (λ (d : ℕ). not (eqb d LF)) c s)
+    ∙ case (eqb c LF) (λ e. rw e refl) (λ e. rw e (ap suc (line-length s)))
 
-  module _ (within : at < length text) where
-    pub end-here : get_or text at 0 ≡ LF → line_end text at ≡ at
-    end-here e = rw (drop-cons text at 0 within, e, add-zero) refl
-
-    pub end_on : (get_or text at 0 ≡ LF → ⊥) → line_end text at ≡ line_end text (suc at)
-    end_on e = rw (drop-cons text at 0 within, ne_eqb (get_or text at 0) LF e, add-suc, suc-add) refl
+pub line-stop : (at : ℕ) (text : List ℕ)
+    → length (take_while (λ (c : ℕ). not (eqb c LF)) (take (length text - at) (drop at text))) ≡ length (up_to_lf (drop at text))
+line-stop at text = rw (take_all (length text - at) (drop at text) (omega (arith, length-drop at text))) (line-length (drop at text))
 
 up-to-short : (s : List ℕ) → length (up_to_lf s) ≤ length s
 up-to-short [] = omega arith

@@ -1,7 +1,7 @@
 -- Walking over the lines of a program: the first line with a fault, what the lines above leave, and what a line that is read says of it. Assumes
 -- nothing.
 use Prim.Native.Nat.{ℕ, zero, suc, ◌+◌, ◌<◌, ◌≤◌}
-use mathlib.Core.Path.{◌≡◌, refl, sym, ap, ◌∙◌}
+use mathlib.Core.Path.{◌≡◌, refl, sym, ap, subst, ◌∙◌}
 use mathlib.Core.Bool.{Bool, true, false, ◌&&◌, ◌||◌, not}
 use mathlib.Core.List.{List, [], ◌∷◌, ◌++◌, append_assoc, append-nil, map}
 use mathlib.Core.Option.{Option, none, some}
@@ -10,23 +10,22 @@ use native.Mathlib.Omega.{arith}
 use borrow.Author.Tests.{ltb-false, ltb-true}
 use lib.Dec.{eqb, ltb}
 use lib.ListN.{length, drop, take, length-append}
-use lib.Seq.{take-append_seam, take-take}
+use lib.Seq.{take-append_seam, take_all, take-take}
 use Rattle.isa.specs.Choice.{pick}
 use Rattle.isa.specs.declared.Instruction.{Instruction}
 use Rattle.mnemonic.specs.Spelling.{Token, letters, mark, operand, codes}
 use Rattle.operand.specs.Text.{begins, in_word, on_word, tokens}
 use Rattle.operand.specs.Words.{among}
 use Rattle.operand.specs.Operand.{Term, operand_of}
-use Rattle.operand.specs.Read.{names_at, tokens_at, up_to_lf, word_at}
+use Rattle.operand.specs.Read.{names_at, names_of, tokens_at, up_to_lf, word_at}
 use Rattle.operand.proofs.Places.{names-count}
 use Rattle.operand.proofs.Texts.{case, differ}
 use Rattle.assembler.specs.Statement.{Statement, after, before, body, coded, code_of, equals, form_in, labelled}
 use Rattle.assembler.specs.Statement.{operand_for, org_of, statement}
 use Rattle.assembler.specs.Forms.{operand_digits, forms}
 use Rattle.assembler.specs.Program.{Above, again, end, first, if_labelled, label_of, mislabelled, named, next, program, start, unread}
-use Rattle.assembler.specs.Read.{Shows, broken, coded as code, empty, label_in, origin}
+use Rattle.assembler.specs.Read.{Parts, Shows, broken, coded as code, empty, label_in, origin}
 use Rattle.assembler.specs.Passing.{Settled, line_end}
-use Rattle.assembler.specs.declared.lines.Line.{Line}
 use Rattle.assembler.proofs.Splitting.{end-within, last_line, next-line, program_at}
 
 -- ---- the first fault
@@ -146,7 +145,7 @@ again-in : (text : List ℕ) (names : List (List ℕ)) (present : Bool) (at : �
 again-in text names true at = refl
 again-in text names false at = refl
 
-module _ {text : List ℕ} {above all : List (List ℕ)} {addresses : List ℕ} {st : Statement} {r : Line} where
+module _ {text : List ℕ} {above all : List (List ℕ)} {addresses : List ℕ} {st : Statement} {r : Parts} where
   pub shows-unread : Shows text above all addresses st r → (s : Above) → unread s st ≡ not r.readable
   shows-unread (broken e b) s = rw (e, b) refl
   shows-unread (empty e b f l m) s = rw (e, b) refl
@@ -219,7 +218,7 @@ module _ {text : List ℕ} {at number count : ℕ} {s : Above} (w : Walk text at
     pub walk-held : count ≤ length starts
     walk-held = omega (arith, walk-few, settled.held)
 
-  module _ {above all : List (List ℕ)} {addresses : List ℕ} {r : Line} (x : Shows text above all addresses here r) where
+  module _ {above all : List (List ℕ)} {addresses : List ℕ} {r : Parts} (x : Shows text above all addresses here r) where
     pub walk-readable : r.readable ≡ true
     walk-readable =
         let l = split text at w.within in
@@ -284,3 +283,9 @@ module _ {text : List ℕ} {at number count : ℕ} {s : Above} (w : Walk text at
     pub walk_none : first bad start 1 (program text) ≡ 0 → bad s here ≡ false
     walk_none z = let l = split text at w.within in
         (first-clear bad s number here l.rest (ap (first bad s number) (sym l.is) ∙ sym found ∙ z) w.some_number).0
+
+-- all labels at once
+pub shown-all : {text : List ℕ} (starts : List ℕ) {above : List (List ℕ)} {addresses : List ℕ} {st : Statement} {r : Parts}
+    → Shows text above (names_of text starts) addresses st r → Shows text above (names_at text starts (length starts)) addresses st r
+shown-all {text} starts {above} {addresses} {st} {r} x =
+    subst (λ (l : List ℕ). Shows text above (names_of text l) addresses st r) (sym (take_all (length starts) starts (omega arith))) x

@@ -1,6 +1,7 @@
 -- What `assemble` promises: the answers to a text, in document 02's order, wish 4, and the bytes. A reader believes this file, Statement and Forms, and
 -- operand's Text, Words and Operand. Assumes nothing.
 use Rattle.std.specs.Prelude.{ℕ, zero, suc, ◌+◌, ◌-◌, ◌≡◌, Bool, true, false, ◌&&◌, ◌||◌, not, List, [], ◌∷◌, ◌++◌, map, eqb, leb, ltb, length, replicate}
+use Rattle.std.specs.Prelude.{Result, Ok, Err}
 use Rattle.std.proofs.Math.Option.{Option, none, some}
 use Rattle.std.proofs.lemmas.List.Edits.{sets}
 use Rattle.isa.specs.Choice.{pick}
@@ -12,7 +13,8 @@ use Rattle.operand.specs.Words.{among}
 use Rattle.operand.specs.Operand.{Term, minus, missing, plus}
 use Rattle.assembler.specs.Forms.{field, reaches, size, rom_size}
 use Rattle.assembler.specs.Statement.{Statement, unreadable, blank, org, mnemonic, statement}
-use Rattle.assembler.specs.declared.assemble.Answer as Given
+use Rattle.refusals.specs.Numbers.{number_of}
+use Rattle.assembler.specs.declared.refused.Refused.{Refused}
 
 abbrev pub program : List ℕ → List Statement
 program text = map statement (map tokens (lines text))
@@ -186,8 +188,17 @@ abbrev pub left : Answer → List ℕ → List ℕ
 left (refused n k) out = out
 left (written bs) out = bs
 
--- what `assemble` promises: the number and the line that it gives, and the lent bytes as it leaves them
-pub record Answered (answer : Answer) (out : List ℕ) (r : Given.Answer) (after : List ℕ) : Type 0 where
-  pub number : r.refusal ≡ refusal answer
-  pub line : r.line ≡ line answer
+-- the number of a refusal that is given, and its line; 0 where there is none
+abbrev pub number_given : {A : Type 0} → Result A Refused → ℕ
+number_given (Ok x) = 0
+number_given (Err r) = number_of r.refusal
+
+abbrev pub line_of : {A : Type 0} → Result A Refused → ℕ
+line_of (Ok x) = 0
+line_of (Err r) = r.line
+
+-- what `assemble` promises: the refusal and the line that it gives, and the lent bytes as it leaves them
+pub record Answered (answer : Answer) (out : List ℕ) (r : Result (Unit {0}) Refused) (after : List ℕ) : Type 0 where
+  pub number : number_given r ≡ refusal answer
+  pub line : line_of r ≡ line answer
   pub bytes : after ≡ left answer out

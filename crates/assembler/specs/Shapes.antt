@@ -1,19 +1,29 @@
 -- The forms by number, as the code has them: what tells a form, and how its bytes hold its operand. proofs/ shows that each form is so. For contracts
 -- inside this crate. Assumes nothing.
 use Rattle.std.specs.Prelude.{ℕ, ◌+◌, ◌-◌, ◌/◌, ◌%◌, ◌^◌, Bool, true, ◌&&◌, ◌||◌, not, List, [], ◌∷◌, map, reverse, eqb, leb, ltb, get_or, take}
+use Rattle.std.specs.Prelude.{Option, Some, None}
 use Rattle.isa.specs.Choice.{pick}
 use Rattle.isa.specs.declared.Instruction.{Instruction}
 use Rattle.isa.specs.declared.Instruction.TheVariants as I
 use Rattle.mnemonic.specs.Spelling.{Token, letters, codes}
 use Rattle.operand.specs.Read.{kind_of, packed}
+use Rattle.operand.specs.declared.tokens.Kind.{Kind}
+use Rattle.operand.specs.declared.tokens.Kind.TheVariants.{End, Label, Number, Fixed, Sign}
 use Rattle.rom.specs.Fetching.{moved_by}
 use Rattle.assembler.specs.Forms.{always, forms, lead, rom_size}
 use Rattle.assembler.specs.declared.forms.Bytes.{Bytes}
+use Rattle.assembler.specs.declared.forms.Shape.{Shape}
+use Rattle.assembler.specs.declared.forms.Shape.TheVariants.{Empty, Plain, Halt, Within, Nibble, Pair, Byte, Branch, Address}
 
 -- ORG is number 0, and stands for no instruction; NOP for it and for no form
 unfoldable pub form_at : ℕ → ℕ → Instruction
 unfolding forms
 form_at k = get_or (always I.Nop ∷ forms) k (always I.Nop)
+
+-- the number of a line's form; a blank line has none
+abbrev pub form_number : Option ℕ → ℕ
+form_number None = 98
+form_number (Some form) = form
 
 -- the kinds of tokens in a row as one number, the last the lowest
 abbrev pub key_of : List Token → ℕ
@@ -38,11 +48,28 @@ firsts =
     0x2b ∷ 0x2c ∷ 0x2d ∷ 0x3e ∷ 0x47 ∷ 0x38 ∷ 0x39 ∷ 0x3a ∷ 0x3b ∷ 0x3c ∷ 0x3d ∷ 0x4c ∷ 0x4e ∷ 0x4d ∷ 0x4f ∷ 0x45 ∷ 0x4b ∷ 0x48 ∷ 0x49 ∷
     0x4a ∷ 0x37 ∷ []
 
+abbrev pub shape_number : Shape → ℕ
+shape_number Empty = 0
+shape_number Plain = 1
+shape_number Halt = 2
+shape_number Within = 3
+shape_number Nibble = 4
+shape_number Pair = 5
+shape_number Byte = 6
+shape_number Branch = 7
+shape_number Address = 8
+
+abbrev pub form_shapes : List Shape
+form_shapes =
+    Empty ∷ Plain ∷ Plain ∷ Plain ∷ Plain ∷ Nibble ∷ Nibble ∷ Plain ∷ Plain ∷ Plain ∷ Plain ∷ Plain ∷ Plain ∷ Plain ∷ Nibble ∷ Nibble ∷
+    Nibble ∷ Plain ∷ Plain ∷ Plain ∷ Plain ∷ Plain ∷ Plain ∷ Plain ∷ Plain ∷ Plain ∷ Plain ∷ Plain ∷ Plain ∷ Plain ∷ Plain ∷ Plain ∷
+    Plain ∷ Plain ∷ Plain ∷ Plain ∷ Plain ∷ Plain ∷ Plain ∷ Plain ∷ Plain ∷ Plain ∷ Plain ∷ Plain ∷ Plain ∷ Plain ∷ Plain ∷ Within ∷ Pair ∷
+    Pair ∷ Nibble ∷ Plain ∷ Plain ∷ Plain ∷ Plain ∷ Plain ∷ Plain ∷ Plain ∷ Plain ∷ Address ∷ Branch ∷ Branch ∷ Branch ∷ Branch ∷ Branch ∷
+    Branch ∷ Branch ∷ Branch ∷ Branch ∷ Branch ∷ Branch ∷ Branch ∷ Address ∷ Plain ∷ Plain ∷ Plain ∷ Plain ∷ Plain ∷ Plain ∷ Plain ∷ Byte ∷
+    Plain ∷ Plain ∷ Plain ∷ Plain ∷ Plain ∷ Plain ∷ Plain ∷ Plain ∷ Plain ∷ Plain ∷ Nibble ∷ Plain ∷ Plain ∷ Plain ∷ Plain ∷ Halt ∷ []
+
 abbrev pub shapes : List ℕ
-shapes =
-    0 ∷ 1 ∷ 1 ∷ 1 ∷ 1 ∷ 4 ∷ 4 ∷ 1 ∷ 1 ∷ 1 ∷ 1 ∷ 1 ∷ 1 ∷ 1 ∷ 4 ∷ 4 ∷ 4 ∷ 1 ∷ 1 ∷ 1 ∷ 1 ∷ 1 ∷ 1 ∷ 1 ∷ 1 ∷ 1 ∷ 1 ∷ 1 ∷ 1 ∷ 1 ∷ 1 ∷ 1 ∷ 1 ∷ 1 ∷
-    1 ∷ 1 ∷ 1 ∷ 1 ∷ 1 ∷ 1 ∷ 1 ∷ 1 ∷ 1 ∷ 1 ∷ 1 ∷ 1 ∷ 1 ∷ 3 ∷ 5 ∷ 5 ∷ 4 ∷ 1 ∷ 1 ∷ 1 ∷ 1 ∷ 1 ∷ 1 ∷ 1 ∷ 1 ∷ 8 ∷ 7 ∷ 7 ∷ 7 ∷ 7 ∷ 7 ∷ 7 ∷ 7 ∷ 7 ∷
-    7 ∷ 7 ∷ 7 ∷ 7 ∷ 8 ∷ 1 ∷ 1 ∷ 1 ∷ 1 ∷ 1 ∷ 1 ∷ 1 ∷ 6 ∷ 1 ∷ 1 ∷ 1 ∷ 1 ∷ 1 ∷ 1 ∷ 1 ∷ 1 ∷ 1 ∷ 1 ∷ 4 ∷ 1 ∷ 1 ∷ 1 ∷ 1 ∷ 2 ∷ []
+shapes = map shape_number form_shapes
 
 abbrev pub size_in : ℕ → ℕ
 size_in s = pick (eqb s 0) 0 (pick (eqb s 1) 1 (pick (eqb s 3) 1 2))
@@ -71,9 +98,13 @@ reaches_in s moved v = pick (eqb s 7) (eqb (v / 2048) (moved / 2048)) true
 abbrev pub listed : Bytes → List ℕ
 listed b = take b.size (b.first ∷ b.second ∷ [])
 
--- the kinds of fixed words, commas and brackets
-abbrev pub leads_in : ℕ → Bool
-leads_in kind = leb 128 kind || eqb kind 44 || eqb kind 91 || eqb kind 93
+-- the number of a fixed word, a comma or a bracket
+abbrev pub leading : Kind → Option ℕ
+leading End = None
+leading Label = None
+leading Number = None
+leading (Fixed k) = Some (128 + k)
+leading (Sign c) = pick (eqb c 44 || eqb c 91 || eqb c 93) (Some c) None
 
 -- bytes at an address that are not past the end and not written; flags of 1 say which are
 abbrev pub is_taken : List ℕ → ℕ → Bool → Bool

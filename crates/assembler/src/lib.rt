@@ -5,3 +5,4 @@ pub mod assemble;
 pub mod forms;
 pub mod lines;
 pub mod passes;
+pub mod refused;

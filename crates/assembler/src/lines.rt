@@ -1,34 +1,37 @@
 // One line: its label, its form and its operand.
-ghost use Rattle.std.specs.Prelude.{◌≡◌, false, ◌≤◌, length};
-ghost use Rattle.operand.specs.Read.{names_at, tokens_at};
+ghost use Rattle.std.specs.Prelude.{◌≡◌, ◌≤◌, ◌<◌, length, is_some, unwrap_or, IfSome};
+ghost use Rattle.operand.specs.Read.{names_of, tokens_at};
 ghost use Rattle.assembler.specs.Statement.{statement};
-ghost use Rattle.assembler.specs.Shapes.{leads_in};
-ghost use Rattle.assembler.specs.Read.{Headed, Labelling, Operanded, Shows, bodied, label_in};
+ghost use Rattle.assembler.specs.Shapes.{leading};
+ghost use Rattle.assembler.specs.Read.{Headed, Labelling, Operanded, Shows, bodied, label_at, parts};
 
-use crate::forms::{BLANK, NONE, ORG, digits_of, form_of, shape_of};
-use operand::operands::operand;
-use operand::tokens::{END, FIXED, LABEL, token};
+use crate::forms::{ORG, digits_of, form_of, shape_of};
+use operand::labels::Labels;
+use operand::operands::{Value, operand};
+use operand::tokens::{Kind, token};
 
 // The words and signs of the longest form before its operand.
 const LONGEST: u8 = 6;
 
-// A line: whether it can be read, its form, its label if it has one, and what its operand counts.
+// What a line without an operand counts.
+const NOTHING: Value = Value {
+    missing: false,
+    plus: 0,
+    minus: 0,
+};
+
+// A line that can be read: its form, none where it is blank, where its label's word stands if it has one, and what its operand counts.
 #[derive(Clone, Copy)]
 pub struct Line {
-    pub readable: bool,
-    pub form: usize,
-    pub labelled: bool,
-    pub label: usize,
-    pub missing: bool,
-    pub plus: u64,
-    pub minus: u64,
+    pub form: Option<usize>,
+    pub label: Option<usize>,
+    pub value: Value,
 }
 
-// A label and its colon, if they stand here: where its word is, and what follows.
+// Where the word of a label stands that has its colon, if one stands here, and what follows.
 #[derive(Clone, Copy)]
 struct Label {
-    present: bool,
-    start: usize,
+    start: Option<usize>,
     next: usize,
 }
 
@@ -37,47 +40,38 @@ fn labelling(text: &[u8], at: usize) -> Label
     ensures { Labelling text.now (tokens_at text.now at) result }
 {
     let word = token(text, at);
-    let kind = word.kind;
-    if kind != LABEL {
+    let Kind::Label = word.kind else {
         return Label {
-            present: false,
-            start: at,
+            start: None,
             next: at,
         };
-    }
-    let start = word.start;
-    let after = word.next;
-    let colon = token(text, after);
-    let sign = colon.kind;
-    if sign != b':' {
+    };
+    let colon = token(text, word.next);
+    let Kind::Sign(b':') = colon.kind else {
         return Label {
-            present: false,
-            start: at,
+            start: None,
             next: at,
         };
-    }
-    let next = colon.next;
+    };
     Label {
-        present: true,
-        start,
-        next,
+        start: Some(word.start),
+        next: colon.next,
     }
 }
 
-// Whether a token is one of those before an operand: a fixed word, a comma or a bracket.
-fn leads(kind: u8) -> bool
-    ensures { result ≡ leads_in kind }
+// The number of a token that stands before an operand: a fixed word, a comma or a bracket.
+fn leading(kind: Kind) -> Option<u64>
+    ensures number { result ≡ leading kind }
+    ensures small { IfSome result (λ n. n < 512) }
 {
-    if kind >= FIXED {
-        return true;
+    match kind {
+        Kind::Fixed(k) => Some(128 + k as u64),
+        Kind::Sign(c) => match c {
+            b',' | b'[' | b']' => Some(c as u64),
+            _ => None,
+        },
+        _ => None,
     }
-    if kind == b',' {
-        return true;
-    }
-    if kind == b'[' {
-        return true;
-    }
-    kind == b']'
 }
 
 // The tokens before an operand as one number, and what follows them.
@@ -94,144 +88,86 @@ fn heading(text: &[u8], at: usize) -> Head
     let mut key = 0u64;
     let mut count: u8 = 0;
     let mut i = at;
+    // A loop and no iterator: each token says where the next starts.
     loop {
         let t = token(text, i);
-        let kind = t.kind;
-        if !leads(kind) {
+        let Some(number) = leading(t.kind) else {
             return Head { key, next: i };
-        }
+        };
         if count == LONGEST {
             return Head { key: 0, next: i };
         }
-        key = kind as u64 + 256 * key;
+        key = number + 256 * key;
         count += 1;
         i = t.next;
     }
 }
 
-fn unreadable() -> Line
-    ensures { result.readable ≡ false }
-{
-    Line {
-        readable: false,
-        form: NONE,
-        labelled: false,
-        label: 0,
-        missing: false,
-        plus: 0,
-        minus: 0,
-    }
-}
-
 // A line with an operand, which goes on to its end.
-fn with_operand(
-    text: &[u8],
-    name: Label,
-    form: usize,
-    at: usize,
-    starts: &[u16],
-    addresses: &[u16],
-    count: usize,
-) -> Line
-    requires { length text.now ≤ 65535 }
-    ensures { Operanded (names_at text.now starts.now count) addresses.now
-        (tokens_at text.now at) form name result }
+fn with_operand(labels: Labels, label: Option<usize>, form: usize, at: usize) -> Option<Line>
+    requires { length labels.text.now ≤ 65535 }
+    ensures { Operanded (names_of labels.entry.text.now labels.entry.starts.now) labels.entry.addresses.now
+        (tokens_at labels.entry.text.now at) form label (parts result) }
 {
-    let o = operand(text, at, starts, addresses, count);
-    if !o.readable {
-        return unreadable();
-    }
-    let labelled = name.present;
-    let label = name.start;
-    let missing = o.missing;
-    let plus = o.plus;
-    let minus = o.minus;
-    Line {
-        readable: true,
-        form,
-        labelled,
+    let value = operand(labels, at)?;
+    Some(Line {
+        form: Some(form),
         label,
-        missing,
-        plus,
-        minus,
-    }
+        value,
+    })
 }
 
 // What follows the label, by the number of its form.
 fn body(
-    text: &[u8],
-    name: Label,
-    form: usize,
+    labels: Labels,
+    above: &[u16],
+    label: Option<usize>,
+    form: Option<usize>,
     at: usize,
-    starts: &[u16],
-    addresses: &[u16],
-    above: usize,
-    all: usize,
-) -> Line
-    requires { (at ≤ length text.now) × (length text.now ≤ 65535) × (form ≤ 97) × (name.start ≤ length text.now) }
-    ensures { Shows text.now (names_at text.now starts.now above)
-        (names_at text.now starts.now all) addresses.now
-        (bodied form (label_in text.now name.present name.start) (tokens_at text.now at)) result }
+) -> Option<Line>
+    requires texts { (at ≤ length labels.text.now) × (length labels.text.now ≤ 65535) × (unwrap_or label 0 ≤ length labels.text.now) }
+    requires forms { IfSome form (λ k. k < 97) }
+    ensures { Shows labels.entry.text.now (names_of labels.entry.text.now above.now)
+        (names_of labels.entry.text.now labels.entry.starts.now) labels.entry.addresses.now
+        (bodied (unwrap_or form 97) (label_at labels.entry.text.now label) (tokens_at labels.entry.text.now at)) (parts result) }
 {
-    if form == NONE {
-        return unreadable();
-    }
+    let form = form?;
     if form == ORG {
-        return with_operand(text, name, form, at, starts, addresses, above);
+        let above = Labels {
+            text: labels.text,
+            starts: above,
+            addresses: labels.addresses,
+        };
+        return with_operand(above, label, form, at);
     }
-    let shape = shape_of(form);
-    if digits_of(shape) > 0 {
-        return with_operand(text, name, form, at, starts, addresses, all);
+    if digits_of(shape_of(Some(form))) > 0 {
+        return with_operand(labels, label, form, at);
     }
-    let end = token(text, at);
-    let last = end.kind;
-    if last != END {
-        return unreadable();
-    }
-    let labelled = name.present;
-    let label = name.start;
-    Line {
-        readable: true,
-        form,
-        labelled,
+    let Kind::End = token(labels.text, at).kind else {
+        return None;
+    };
+    Some(Line {
+        form: Some(form),
         label,
-        missing: false,
-        plus: 0,
-        minus: 0,
-    }
+        value: NOTHING,
+    })
 }
 
-// The line that starts here. An ORG's labels are looked up among the first `above`, another line's among the first `all`.
-pub(crate) fn read_line(
-    text: &[u8],
-    at: usize,
-    starts: &[u16],
-    addresses: &[u16],
-    above: usize,
-    all: usize,
-) -> Line
-    requires { (at ≤ length text.now) × (length text.now ≤ 65535) }
-    ensures { Shows text.now (names_at text.now starts.now above)
-        (names_at text.now starts.now all) addresses.now (statement (tokens_at text.now at)) result }
+// The line that starts here. An ORG's labels are looked up among those above.
+pub(crate) fn read_line(labels: Labels, above: &[u16], at: usize) -> Option<Line>
+    requires { (at ≤ length labels.text.now) × (length labels.text.now ≤ 65535) }
+    ensures { Shows labels.entry.text.now (names_of labels.entry.text.now above.now)
+        (names_of labels.entry.text.now labels.entry.starts.now) labels.entry.addresses.now
+        (statement (tokens_at labels.entry.text.now at)) (parts result) }
 {
-    let first = token(text, at);
-    let kind = first.kind;
-    if kind == END {
-        return Line {
-            readable: true,
-            form: BLANK,
-            labelled: false,
-            label: 0,
-            missing: false,
-            plus: 0,
-            minus: 0,
-        };
+    if let Kind::End = token(labels.text, at).kind {
+        return Some(Line {
+            form: None,
+            label: None,
+            value: NOTHING,
+        });
     }
-    let name = labelling(text, at);
-    let after = name.next;
-    let h = heading(text, after);
-    let key = h.key;
-    let next = h.next;
-    let form = form_of(key);
-    body(text, name, form, next, starts, addresses, above, all)
+    let name = labelling(labels.text, at);
+    let head = heading(labels.text, name.next);
+    body(labels, above, name.start, form_of(head.key), head.next)
 }

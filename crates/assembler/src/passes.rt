@@ -1,33 +1,39 @@
-// The passes over a text. Each gives the number of the first line that it finds fault with, 0 for none.
-ghost use Rattle.std.specs.Prelude.{◌≡◌, true, false, not, ◌&&◌, ◌+◌, ◌-◌, ◌%◌, ◌<◌, ◌≤◌, get_or, length, replicate, set, eqb};
+// The passes over a text. Each refuses it at the first line that it finds fault with.
+ghost use Rattle.std.specs.Prelude.{◌≡◌, true, false, not, ◌&&◌, ◌||◌, ◌+◌, ◌-◌, ◌%◌, ◌<◌, ◌≤◌, get_or, length, replicate, set, eqb, is_some, unwrap_or};
 ghost use Rattle.isa.specs.Choice.{pick};
 ghost use Rattle.operand.specs.Words.{among};
-ghost use Rattle.operand.specs.Read.{names_at, word_at};
+ghost use Rattle.operand.specs.Read.{names_of, word_at};
 ghost use Rattle.assembler.specs.Forms.{rom_size};
-ghost use Rattle.assembler.specs.Program.{end, first, mislabelled, misfit, misplaced, program, put, start, within};
-ghost use Rattle.assembler.specs.Shapes.{is_free, is_misfit};
-ghost use Rattle.assembler.specs.Passing.{Collected, Placed, Settled, line_end};
+ghost use Rattle.assembler.specs.Program.{end, first, line_of, mislabelled, misfit, misplaced, program, put, start, within};
+ghost use Rattle.assembler.specs.Shapes.{form_number, is_free, is_misfit, shape_number};
+ghost use Rattle.assembler.specs.Passing.{Collected, Placed, Refuses, Settled, line_end};
+ghost use Rattle.refusals.specs.declared.Refusal.TheVariants as R;
+ghost use Rattle.std.specs.List.{take_while};
 
-use crate::forms::{BRANCH, ORG, bytes_of, digits_of, first_of, shape_of, size_of, values_of};
-use crate::lines::read_line;
-use operand::labels::find;
+use crate::forms::{ORG, Shape, bytes_of, digits_of, first_of, shape_of, size_of, values_of};
+use crate::lines::{Line, read_line};
+use crate::refused::Refused;
+use operand::characters::word;
+use operand::labels::{Labels, find};
+use operand::operands::Value;
+use refusals::Refusal;
 use rom::reader::{MASK, moved_by};
 
 const LAST_ADDRESS: u64 = MASK as u64 - 1;
+
+// How many bytes stand before the first LF.
+fn line_length(text: &[u8]) -> usize
+    ensures { result ≡ length (take_while (λ c. not (eqb c 10)) text.now) }
+{
+    text.iter().take_while(|c| **c != b'\n').count()
+}
 
 // Where the line that starts here ends.
 fn line_end(text: &[u8], at: usize) -> usize
     requires { at ≤ length text.now }
     ensures { result ≡ line_end text.now at }
 {
-    let mut i = at;
-    while i < text.len() {
-        if text[i] == b'\n' {
-            return i;
-        }
-        i += 1;
-    }
-    i
+    at + line_length(&text[at..])
 }
 
 // Notes a number in the next place of a list if it is wanted, and gives the count then.
@@ -54,48 +60,53 @@ fn store(list: &mut [u8], at: usize, value: u8, wanted: bool)
     }
 }
 
-// What the first pass finds: the first line that cannot be read, and how many labels there are.
-#[derive(Clone, Copy)]
-pub struct Labels {
-    pub line: u32,
-    pub count: usize,
-}
-
-// Every line can be read; notes where the labels' words stand. No address is known yet: `none` is looked at by no line.
-pub(crate) fn read_lines(text: &[u8], starts: &mut [u16], none: &[u16]) -> Labels
+// Every line can be read; notes where the labels' words stand, and how many there are. No label is known yet.
+pub(crate) fn read_lines(text: &[u8], starts: &mut [u16]) -> Result<usize, Refused>
     requires { (length text.now ≤ 65535) × (length starts.old ≡ 32768) }
-    ensures { Collected text.now starts.new result }
+    ensures collected { Collected text.now starts.new result }
+    ensures refusal { Refuses R.Line result }
 {
+    let labels = Labels {
+        text,
+        starts: &[],
+        addresses: &[],
+    };
     let mut at = 0;
     let mut number: u32 = 1;
     let mut count = 0;
+    // A loop and no `split`: a label is kept as where its word starts in the text, and the line's number and the labels' count go along.
     loop {
-        let l = read_line(text, at, none, none, 0, 0);
-        if !l.readable {
-            return Labels {
+        let Some(l) = read_line(labels, &[], at) else {
+            return Err(Refused {
+                refusal: Refusal::Line,
                 line: number,
-                count,
-            };
-        }
-        count = note(starts, count, l.labelled, l.label);
+            });
+        };
+        count = note(starts, count, l.label.is_some(), l.label.unwrap_or(0));
         let end = line_end(text, at);
         if end == text.len() {
-            return Labels { line: 0, count };
+            return Ok(count);
         }
         at = end + 1;
         number += 1;
     }
 }
 
-// Whether a line's label is among the first ones.
-fn defined(text: &[u8], starts: &[u16], count: usize, labelled: bool, label: usize) -> bool
-    requires { count ≤ length starts.now }
-    ensures { result ≡ (labelled && among (names_at text.now starts.now count) (word_at text.now label)) }
+// Whether a line's label is among those above.
+fn defined(text: &[u8], above: &[u16], label: Option<usize>) -> bool
+    ensures { result ≡ (is_some label && among (names_of text.now above.now) (word_at text.now (unwrap_or label 0))) }
 {
-    if labelled {
-        return find(text, starts, count, label) < count;
+    match label {
+        Some(start) => find(text, above, word(text, start)).is_some(),
+        None => false,
     }
-    false
+}
+
+// Whether a line has a label that is missing, or its own is defined above.
+fn mislabels(text: &[u8], above: &[u16], l: Line) -> bool
+    ensures { result ≡ (l.value.missing || (is_some l.label && among (names_of text.now above.now) (word_at text.now (unwrap_or l.label 0)))) }
+{
+    l.value.missing || defined(text, above, l.label)
 }
 
 // One more where it is wanted.
@@ -110,55 +121,67 @@ fn counted(count: usize, wanted: bool) -> usize
 }
 
 // No label is missing, not above its ORG or defined again. No address is known yet: only what is missing is looked at.
-pub(crate) fn check_labels(text: &[u8], starts: &[u16], none: &[u16], all: usize) -> u32
-    requires { Settled text.now starts.now none.now all }
-    ensures { result ≡ first (mislabelled (end start (program text.now)).names) start 1 (program text.now) }
+pub(crate) fn check_labels(labels: Labels) -> Result<(), Refused>
+    requires { Settled labels.text.now labels.starts.now labels.addresses.now (length labels.starts.now) }
+    ensures line { line_of result ≡ first (mislabelled (end start (program labels.entry.text.now)).names) start 1 (program labels.entry.text.now) }
+    ensures refusal { Refuses R.Label result }
 {
     let mut at = 0;
     let mut number: u32 = 1;
     let mut count = 0;
+    // A loop and no `split`: a line is read where it starts in the text, and its number and the count of the labels above go along.
     loop {
-        let l = read_line(text, at, starts, none, count, all);
-        if l.missing {
-            return number;
+        let above = &labels.starts[..count];
+        let Some(l) = read_line(labels, above, at) else {
+            unreachable!()
+        };
+        if mislabels(labels.text, above, l) {
+            return Err(Refused {
+                refusal: Refusal::Label,
+                line: number,
+            });
         }
-        if defined(text, starts, count, l.labelled, l.label) {
-            return number;
-        }
-        count = counted(count, l.labelled);
-        let end = line_end(text, at);
-        if end == text.len() {
-            return 0;
+        count = counted(count, l.label.is_some());
+        let end = line_end(labels.text, at);
+        if end == labels.text.len() {
+            return Ok(());
         }
         at = end + 1;
         number += 1;
     }
 }
 
-// Whether a line is an ORG outside 0 to 4,095.
-fn strays(form: usize, plus: u64, minus: u64) -> bool
-    ensures { result ≡ (eqb form 0 && not (within rom_size plus minus)) }
+fn is_org(form: Option<usize>) -> bool
+    ensures { result ≡ eqb (form_number form) 0 }
 {
-    if form != ORG {
+    match form {
+        Some(form) => form == ORG,
+        None => false,
+    }
+}
+
+// Whether a line is an ORG outside 0 to 4,095.
+fn strays(form: Option<usize>, value: Value) -> bool
+    ensures { result ≡ (eqb (form_number form) 0 && not (within rom_size value.plus value.minus)) }
+{
+    if !is_org(form) {
         return false;
     }
-    if plus < minus {
-        return true;
+    match value.whole() {
+        Some(address) => address > LAST_ADDRESS,
+        None => true,
     }
-    plus - minus > LAST_ADDRESS
 }
 
 // A line's address: an ORG's value, or the next one.
-fn address_of(form: usize, plus: u64, minus: u64, address: usize) -> usize
-    ensures { result ≡ pick (eqb form 0) (plus - minus) address }
+fn address_of(form: Option<usize>, value: Value, address: usize) -> usize
+    ensures { result ≡ pick (eqb (form_number form) 0) (value.plus - value.minus) address }
 {
-    if form != ORG {
-        return address;
+    if is_org(form) {
+        value.whole().unwrap_or(0) as usize
+    } else {
+        address
     }
-    if plus < minus {
-        return 0;
-    }
-    (plus - minus) as usize
 }
 
 // Whether an address that is wanted is written already.
@@ -188,42 +211,56 @@ fn free(used: &[u8], at: usize, size: usize) -> bool
 }
 
 // Gives each line its place, and each label its address.
+// It takes the parts of a `Labels` and not one: it writes the addresses, which a `Labels` only reads.
 pub(crate) fn place_lines(
     text: &[u8],
     starts: &[u16],
     addresses: &mut [u16],
     used: &mut [u8],
-    all: usize,
-) -> u32
-    requires settled { Settled text.now starts.now addresses.old all }
+) -> Result<(), Refused>
+    requires settled { Settled text.now starts.now addresses.old (length starts.now) }
     requires unused { used.old ≡ replicate rom_size 0 }
-    ensures { (result ≡ first misplaced start 1 (program text.now))
-        × (result ≡ 0 → Placed text.now starts.now addresses.new all) }
+    ensures line { line_of result ≡ first misplaced start 1 (program text.now) }
+    ensures placed { line_of result ≡ 0 → Placed text.now starts.now addresses.new (length starts.now) }
+    ensures refusal { Refuses R.Operand result }
 {
     let mut at = 0;
     let mut number: u32 = 1;
     let mut count = 0;
     let mut address = 0;
+    // A loop and no `split`: a line is read where it starts in the text, and its number, its address and the count of the labels above go along.
     loop {
-        let l = read_line(text, at, starts, addresses, count, 0);
-        let form = l.form;
-        let plus = l.plus;
-        let minus = l.minus;
-        if strays(form, plus, minus) {
-            return number;
+        let above = &starts[..count];
+        // only an ORG's value is looked at, whose labels stand above
+        let labels = Labels {
+            text,
+            starts: &[],
+            addresses,
+        };
+        let Some(l) = read_line(labels, above, at) else {
+            unreachable!()
+        };
+        if strays(l.form, l.value) {
+            return Err(Refused {
+                refusal: Refusal::Operand,
+                line: number,
+            });
         }
-        let here = address_of(form, plus, minus, address);
-        let size = size_of(shape_of(form));
+        let here = address_of(l.form, l.value, address);
+        let size = size_of(shape_of(l.form));
         if !free(used, here, size) {
-            return number;
+            return Err(Refused {
+                refusal: Refusal::Operand,
+                line: number,
+            });
         }
-        count = note(addresses, count, l.labelled, here);
+        count = note(addresses, count, l.label.is_some(), here);
         store(used, here, 1, size > 0);
         store(used, here + 1, 1, size > 1);
         address = here + size;
         let end = line_end(text, at);
         if end == text.len() {
-            return 0;
+            return Ok(());
         }
         at = end + 1;
         number += 1;
@@ -231,52 +268,56 @@ pub(crate) fn place_lines(
 }
 
 // Whether a value is outside its field, or a branch does not fit, where a line has bytes at all.
-fn misfits(size: usize, shape: u8, address: usize, plus: u64, minus: u64) -> bool
+fn misfits(size: usize, shape: Shape, address: usize, value: Value) -> bool
     requires { (address ≤ rom_size) × (size ≤ 2) }
-    ensures { result ≡ is_misfit size shape address plus minus }
+    ensures { result ≡ is_misfit size (shape_number shape) address value.plus value.minus }
 {
     if size == 0 {
         return false;
     }
-    if plus < minus {
+    let Some(value) = value.whole() else {
         return true;
-    }
-    let value = plus - minus;
+    };
     if value >= values_of(digits_of(shape)) {
         return true;
     }
-    if shape != BRANCH {
+    let Shape::Branch = shape else {
         return false;
-    }
+    };
     let moved = moved_by(address as u16, size as u8);
     value / 2048 != moved as u64 / 2048
 }
 
 // Every value is in its field, and every branch fits.
-pub(crate) fn check_values(text: &[u8], starts: &[u16], addresses: &[u16], all: usize) -> u32
-    requires { Placed text.now starts.now addresses.now all }
-    ensures { result ≡ first (misfit (end start (program text.now))) start 1 (program text.now) }
+pub(crate) fn check_values(labels: Labels) -> Result<(), Refused>
+    requires { Placed labels.text.now labels.starts.now labels.addresses.now (length labels.starts.now) }
+    ensures line { line_of result ≡ first (misfit (end start (program labels.entry.text.now))) start 1 (program labels.entry.text.now) }
+    ensures refusal { Refuses R.Operand result }
 {
     let mut at = 0;
     let mut number: u32 = 1;
     let mut count = 0;
     let mut address = 0;
+    // A loop and no `split`: a line is read where it starts in the text, and its number, its address and the count of the labels above go along.
     loop {
-        let l = read_line(text, at, starts, addresses, count, all);
-        let form = l.form;
-        let plus = l.plus;
-        let minus = l.minus;
-        let here = address_of(form, plus, minus, address);
-        let shape = shape_of(form);
+        let above = &labels.starts[..count];
+        let Some(l) = read_line(labels, above, at) else {
+            unreachable!()
+        };
+        let here = address_of(l.form, l.value, address);
+        let shape = shape_of(l.form);
         let size = size_of(shape);
-        if misfits(size, shape, here, plus, minus) {
-            return number;
+        if misfits(size, shape, here, l.value) {
+            return Err(Refused {
+                refusal: Refusal::Operand,
+                line: number,
+            });
         }
-        count = counted(count, l.labelled);
+        count = counted(count, l.label.is_some());
         address = here + size;
-        let end = line_end(text, at);
-        if end == text.len() {
-            return 0;
+        let end = line_end(labels.text, at);
+        if end == labels.text.len() {
+            return Ok(());
         }
         at = end + 1;
         number += 1;
@@ -284,44 +325,36 @@ pub(crate) fn check_values(text: &[u8], starts: &[u16], addresses: &[u16], all: 
 }
 
 // The low 16 bits of a value.
-fn value_of(plus: u64, minus: u64) -> u16
-    ensures { result ≡ (plus - minus) % 65536 }
+fn value_of(value: Value) -> u16
+    ensures { result ≡ (value.plus - value.minus) % 65536 }
 {
-    if plus < minus {
-        return 0;
-    }
-    ((plus - minus) % 65536) as u16
+    (value.whole().unwrap_or(0) % 65536) as u16
 }
 
 // Puts each line's bytes at its address.
-pub(crate) fn write_lines(
-    text: &[u8],
-    starts: &[u16],
-    addresses: &[u16],
-    all: usize,
-    out: &mut [u8],
-)
-    requires placed { Placed text.now starts.now addresses.now all }
-    requires fits { first (misfit (end start (program text.now))) start 1 (program text.now) ≡ 0 }
-    ensures { out.new ≡ put (end start (program text.now)) start (program text.now) out.old }
+pub(crate) fn write_lines(labels: Labels, out: &mut [u8])
+    requires placed { Placed labels.text.now labels.starts.now labels.addresses.now (length labels.starts.now) }
+    requires fits { first (misfit (end start (program labels.text.now))) start 1 (program labels.text.now) ≡ 0 }
+    ensures { out.new ≡ put (end start (program labels.entry.text.now)) start (program labels.entry.text.now) out.old }
 {
     let mut at = 0;
     let mut count = 0;
     let mut address = 0;
+    // A loop and no `split`: a line is read where it starts in the text, and its address and the count of the labels above go along.
     loop {
-        let l = read_line(text, at, starts, addresses, count, all);
-        let form = l.form;
-        let plus = l.plus;
-        let minus = l.minus;
-        let here = address_of(form, plus, minus, address);
-        let bytes = bytes_of(shape_of(form), first_of(form), value_of(plus, minus));
+        let above = &labels.starts[..count];
+        let Some(l) = read_line(labels, above, at) else {
+            unreachable!()
+        };
+        let here = address_of(l.form, l.value, address);
+        let bytes = bytes_of(shape_of(l.form), first_of(l.form), value_of(l.value));
         let size = bytes.size;
         store(out, here, bytes.first, size > 0);
         store(out, here + 1, bytes.second, size > 1);
-        count = counted(count, l.labelled);
+        count = counted(count, l.label.is_some());
         address = here + size;
-        let end = line_end(text, at);
-        if end == text.len() {
+        let end = line_end(labels.text, at);
+        if end == labels.text.len() {
             return;
         }
         at = end + 1;

@@ -1,12 +1,11 @@
 -- What the bytes of an accepted text are (document 02, wish 4): reading them at a line's address gives that line's instruction, and every byte that
 -- no line writes is 3E. Assumes nothing.
-use Rattle.std.specs.Prelude.{ℕ, ◌+◌, ◌-◌, ◌<◌, ◌≤◌, ◌≡◌, true, false, List, ◌∷◌, get_or, length}
+use Rattle.std.specs.Prelude.{ℕ, ◌+◌, ◌-◌, ◌<◌, ◌≤◌, ◌≡◌, true, false, List, ◌∷◌, get_or, length, Some}
 use Rattle.std.proofs.Math.Option.{Option}
 use Rattle.assembler.specs.Forms.{rom_size}
 use Rattle.isa.specs.Reading.{Reading}
 use Rattle.isa.specs.Views.{View, on, jmp, branch, call, ret, reti, ei, view}
 use Rattle.isa.specs.declared.Instruction.{Instruction}
-use Rattle.isa.specs.declared.decoder.Decoded.TheVariants.{Read}
 use Rattle.rom.specs.Fetching.{branch_to, code_at, moved_by}
 use Rattle.operand.specs.Operand.{Term, minus, plus}
 use Rattle.assembler.specs.Forms as Forms
@@ -30,7 +29,7 @@ GoesBy ei moved v = Unit {0}
 
 -- a line with the form f and these terms, where this stands above it and `whole` above the end: its bytes read as its instruction
 pub record BytesRead (whole s : Above) (f : ℕ → Instruction) (ts : List Term) (bs : List ℕ) : Type 0 where
-  pub reads : Reading (code_at bs s.at).first (code_at bs s.at).second (Read (instruction whole f ts))
+  pub reads : Reading (code_at bs s.at).first (code_at bs s.at).second (Some (instruction whole f ts))
   pub fits : s.at + Forms.size f ≤ rom_size
   -- its operand has a value of its field, and a conditional branch goes to it
   pub in_field : within (Forms.field f) (plus whole.names whole.addresses ts) (minus whole.names whole.addresses ts) ≡ true

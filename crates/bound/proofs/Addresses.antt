@@ -8,13 +8,12 @@ use mathlib.Core.List.{List, [], ◌∷◌}
 use lib.Dec.{ltb}
 use lib.ListN.{get_or}
 use borrow.Author.Tests.{ltb-true}
+use Rattle.std.specs.Prelude.{Option, Some, None}
 use Rattle.isa.specs.Code.{addresses}
 use Rattle.isa.specs.Timing.{entries, columns_of}
 use Rattle.isa.specs.Views.{View, on, jmp, branch, call, ret, reti, ei, view}
 use Rattle.isa.specs.Reading.{opcodes, decoded}
 use Rattle.isa.specs.declared.Instruction.{Instruction}
-use Rattle.isa.specs.declared.decoder.Decoded.{Decoded}
-use Rattle.isa.specs.declared.decoder.Decoded.TheVariants.{Read, Unreadable}
 use Rattle.rom.specs.Fetching.{Bytes, code_at, read_at, cycles_at, moved_from}
 use Rattle.rom.specs.declared.reader.Code.{Code}
 use Rattle.rom.proofs.Fetching.{read-code, read-cycles, cycles-entry}
@@ -69,9 +68,9 @@ pub returned-cycles : (mask : List ℕ) → Bytes mask → (a : ℕ) → flow_at
 unfolding flow_at flow_of
 returned-cycles mask bytes a = go (read_at mask a) refl
   where
-    go : (d : Decoded) → read_at mask a ≡ d → flow_read d ≡ Back → cycles_at mask a ≡ 1
-    go (Read i) e b = read-cycles mask a bytes i e ∙ return-cycles (view i) b
-    go Unreadable e b = let z : ◌≡◌ {A = ℕ} 0 1 = cc in absurd (omega arith)
+    go : (d : Option Instruction) → read_at mask a ≡ d → flow_read d ≡ Back → cycles_at mask a ≡ 1
+    go (Some i) e b = read-cycles mask a bytes i e ∙ return-cycles (view i) b
+    go None e b = let z : ◌≡◌ {A = ℕ} 0 1 = cc in absurd (omega arith)
 
 -- ---- what follows
 module _ (mask : List ℕ) (a : ℕ) where
@@ -100,7 +99,7 @@ module _ (mask : List ℕ) (a : ℕ) where
       read = ap (λ (c : Code). decoded c.first c.second) at ∙ read-code mask a
 
       next : handed_to (flow_read (decoded c.first c.second)) moved ≡ next_addresses mask a
-      next = ap₂ (λ (d : Decoded) (n : ℕ). handed_to (flow_read d) n) read m ∙ sym next-flow
+      next = ap₂ (λ (d : Option Instruction) (n : ℕ). handed_to (flow_read d) n) read m ∙ sym next-flow
 
       go : (w : Ways) → HandedOn (decoded c.first c.second) moved w → StandsAt mask a w
       go Stop h = sym read ∙ h

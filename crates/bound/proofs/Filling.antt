@@ -18,14 +18,16 @@ use Rattle.reach.specs.Walk.{zeros}
 use Rattle.reach.proofs.Count.{after-set, get_d-zeros}
 use Rattle.checker.specs.Marks.{levels, pair, flow_at}
 use Rattle.checker.specs.Verdicts.{Marked, Safe, is_marked}
+use Rattle.checker.proofs.Reach.{Targets}
 use Rattle.checker.specs.declared.flow.Flow.{Flow}
-use Rattle.checker.specs.declared.flow.Flow.TheVariants.{Unread, On, Enable, Jump, To, Sub, Back}
+use Rattle.checker.specs.declared.flow.Flow.TheVariants.{Unread, Sub}
 use Rattle.bound.specs.Paths.{Endless}
 use Rattle.bound.specs.Bounds.{BoundAnswers}
 use Rattle.bound.specs.Lists.{bound_at, bounds_size, place_of, entry_of, Entries, Largest, Called, CallTargets}
 use Rattle.bound.specs.Paths.{Leads}
 use Rattle.bound.specs.Lists.{endless}
-use Rattle.bound.specs.Walk.{next_addresses, HaltsAt, RemembersOf, TargetOf}
+use Rattle.bound.specs.Walk.{next_addresses, HaltsAt, RemembersOf, target_of}
+use Rattle.std.specs.Prelude.{Option, Some, None, Ok}
 use Rattle.bound.proofs.Answers.{listed}
 use Rattle.bound.proofs.Turn.{Turned, fresh, fresh-left}
 
@@ -40,7 +42,7 @@ module _ (mask marks : List ℕ) (bytes : Bytes mask) (size : sized mask ≡ tru
     pub room : length list ≡ bounds_size
     pub known : RemembersOf mask (λ (k : ℕ). ⊥) found
     pub few : zeros found ≤ addresses
-    pub done : (b l : ℕ) → b < a → 0 < l → l < levels → BoundAnswers mask (pair b l) (bound_at (get_or list (place_of b l) 0))
+    pub done : (b l : ℕ) → b < a → 0 < l → l < levels → BoundAnswers mask (pair b l) (Ok (bound_at (get_or list (place_of b l) 0)))
 
   pub filling-start : (list : List ℕ) → length list ≡ bounds_size → Filling list (replicate addresses 0) 0
   filling-start list e = record { room = e; known = fresh mask (λ (k : ℕ). ⊥); few = fresh-left; done = λ b l h. absurd (omega arith) }
@@ -70,19 +72,19 @@ module _ (mask marks : List ℕ) (bytes : Bytes mask) (size : sized mask ≡ tru
       sure k (inl e) = inl e
       sure k (inr e) = f.known.unbounded k e
 
-      here : (b l : ℕ) → b ≡ a → 0 < l → l < levels → BoundAnswers mask (pair b l) (bound_at (pick (is_marked marks a l) n 0))
+      here : (b l : ℕ) → b ≡ a → 0 < l → l < levels → BoundAnswers mask (pair b l) (Ok (bound_at (pick (is_marked marks a l) n 0)))
       here b l e z k =
-          subst (λ (b : ℕ). BoundAnswers mask (pair b l) (bound_at (pick (is_marked marks a l) n 0))) (sym e)
+          subst (λ (b : ℕ). BoundAnswers mask (pair b l) (Ok (bound_at (pick (is_marked marks a l) n 0)))) (sym e)
           (listed mask marks a l size h k marked safe bytes z n t.0)
 
-      at : (b l m v : ℕ) → b ≡ a → l ≡ m → 0 < l → l < levels → v ≡ pick (is_marked marks a m) n 0 → BoundAnswers mask (pair b l) (bound_at v)
+      at : (b l m v : ℕ) → b ≡ a → l ≡ m → 0 < l → l < levels → v ≡ pick (is_marked marks a m) n 0 → BoundAnswers mask (pair b l) (Ok (bound_at v))
       at b l m v e f z k g =
-          subst (λ (v : ℕ). BoundAnswers mask (pair b l) (bound_at v)) (sym (g ∙ ap (λ (m : ℕ). pick (is_marked marks a m) n 0) (sym f))) (here b l e z k)
+          subst (λ (v : ℕ). BoundAnswers mask (pair b l) (Ok (bound_at v))) (sym (g ∙ ap (λ (m : ℕ). pick (is_marked marks a m) n 0) (sym f))) (here b l e z k)
 
       each : (b l : ℕ) → b < a + 1 → 0 < l → l < levels
-          → BoundAnswers mask (pair b l) (bound_at (get_or (set (set list (a * 2) x) (a * 2 + 1) y) (place_of b l) 0))
+          → BoundAnswers mask (pair b l) (Ok (bound_at (get_or (set (set list (a * 2) x) (a * 2 + 1) y) (place_of b l) 0)))
       each b l i z k =
-          let P : ℕ → Type 0 = λ (v : ℕ). BoundAnswers mask (pair b l) (bound_at v) in
+          let P : ℕ → Type 0 = λ (v : ℕ). BoundAnswers mask (pair b l) (Ok (bound_at v)) in
           after-set P (set list (a * 2) x) (a * 2 + 1) (place_of b l) y (omega (arith, length-set list (a * 2) x, f.room))
           (λ e. at b l 2 y (omega arith) (omega arith) z k ey)
           (λ e. after-set P list (a * 2) (place_of b l) x (omega (arith, f.room))
@@ -91,7 +93,7 @@ module _ (mask marks : List ℕ) (bytes : Bytes mask) (size : sized mask ≡ tru
 
   pub filling-end : (list found : List ℕ) (a : ℕ) → Filling list found a → addresses ≤ a → (length list ≡ bounds_size) × Entries mask list
   filling-end list found a f h =
-      (f.room, λ b l i z k. subst (λ (n : ℕ). BoundAnswers mask (pair b l) (bound_at n)) (sym (entry_at list b l f.room i z k)) (f.done b l (omega arith) z k))
+      (f.room, λ b l i z k. subst (λ (n : ℕ). BoundAnswers mask (pair b l) (Ok (bound_at n))) (sym (entry_at list b l f.room i z k)) (f.done b l (omega arith) z k))
 
 -- ---- the largest entry
 pub record Best (list : List ℕ) (best place : ℕ) : Type 0 where
@@ -139,16 +141,17 @@ module _ (list : List ℕ) (best place : ℕ) (b : Best list best place) where
       record { below = λ z. let k = b.before (omega arith) in omega (arith, b.within); most = λ k z. b.most k (omega arith); first = b.first }
 
 -- ---- the CALLs' targets
--- a target below 4,096 is a marked CALL's
-called : (m : Bool) (f : Flow) (r : ℕ) → TargetOf (pick m f Unread) r → r < addresses → (m ≡ true) × (t : ProgramAddress) × (f ≡ Sub t) × (t.0 ≡ r)
-called true Unread r e h = absurd (omega (arith, e))
-called true On r e h = absurd (omega (arith, e))
-called true Enable r e h = absurd (omega (arith, e))
-called true (Jump t) r e h = absurd (omega (arith, e))
-called true (To t) r e h = absurd (omega (arith, e))
-called true (Sub t) r e h = (refl, t, refl, sym e)
-called true Back r e h = absurd (omega (arith, e))
-called false f r e h = absurd (omega (arith, e))
+-- a target is a marked CALL's
+called : (m : Bool) (f : Flow) (r : ℕ) → Some r ≡ target_of (pick m f Unread) → (m ≡ true) × (t : ProgramAddress) × (f ≡ Sub t) × (t.0 ≡ r)
+called true (Sub t) r e = (refl, t, refl, cc)
+called true _ r e = absurd (cc)
+called false f r e = absurd (cc)
+
+-- and it is in range
+pub called-inside : (m : Bool) (f : Flow) (r : ℕ) → Targets f → Some r ≡ target_of (pick m f Unread) → r < addresses
+called-inside true (Sub t) r h e = let same : r ≡ t.0 = cc in omega (arith, h)
+called-inside true _ r h e = absurd (cc)
+called-inside false f r h e = absurd (cc)
 
 -- a marked pair is in range
 marked-inside : (marks : List ℕ) (a l : ℕ) → is_marked marks a l ≡ true → a < addresses
@@ -170,46 +173,49 @@ module _ (mask marks : List ℕ) where
   calling-start =
       record { size = length-replicate {A = ℕ} addresses 0; flags-two = λ t. omega (arith, get_d-zeros addresses t); sound = λ t e. absurd (omega (arith, get_d-zeros addresses t)); full = λ t h k z. absurd (omega arith) }
 
-  abbrev pub TargetAt : ℕ → ℕ → Type 0
-  TargetAt a r = TargetOf (pick (is_marked marks a 0) (flow_at mask a) Unread) r
+  module _ (flags : List ℕ) (a : ℕ) (c : Calling flags a) where
+    abbrev TargetAt : Option ℕ → Type 0
+    TargetAt r = r ≡ target_of (pick (is_marked marks a 0) (flow_at mask a) Unread)
 
-  module _ (flags : List ℕ) (a r : ℕ) (c : Calling flags a) (h : a < addresses) (target : TargetAt a r) where
     -- where a CALL at the address goes
-    goes : (t : ℕ) (k : Called mask marks t) → k.from ≡ a → r ≡ t
-    goes t k e = subst (λ (f : Flow). TargetOf f r) both target ∙ k.there
+    goes : (r : Option ℕ) → TargetAt r → (t : ℕ) (k : Called mask marks t) → k.from ≡ a → r ≡ Some t
+    goes r target t k e = target ∙ ap target_of both ∙ ap Some k.there
       where
         both : pick (is_marked marks a 0) (flow_at mask a) Unread ≡ Sub k.target
         both = subst (λ (a : ℕ). pick (is_marked marks a 0) (flow_at mask a) Unread ≡ Sub k.target) e (rw k.marked k.calls)
 
-    pub calling-new : r < addresses → Calling (set flags r 1) (a + 1)
-    calling-new l =
+    earlier : (t : ℕ) (k : Called mask marks t) → k.from < a + 1 → (k.from ≡ a → ⊥) → k.from < a
+    earlier t k z n = omega (arith, n)
+
+    pub calling-new : (r : ℕ) → r < addresses → TargetAt (Some r) → Calling (set flags r 1) (a + 1)
+    calling-new r l target =
         record {
           size = length-set flags r 1 ∙ c.size;
           flags-two = λ t. after-set (λ (v : ℕ). v ≤ 1) flags r t 1 (omega (arith, c.size)) (λ e. omega arith) (λ n. c.flags-two t);
           sound = λ t. after-set (λ (v : ℕ). v ≡ 1 → Called mask marks t) flags r t 1 (omega (arith, c.size)) (λ e z. new t e) (λ n. c.sound t);
           full = λ t i k z. after-set (λ (v : ℕ). v ≡ 1) flags r t 1 (omega (arith, c.size)) (λ e. refl)
-              (λ n. c.full t i k (earlier t k z (λ e. n (sym (goes t k e)))));
+              (λ n. c.full t i k (earlier t k z (λ e. n (same t (goes (Some r) target t k e)))));
         }
       where
+        same : (t : ℕ) → Some r ≡ Some t → t ≡ r
+        same t e = cc
+
         new : (t : ℕ) → t ≡ r → Called mask marks t
         new t e =
-            let x = called (is_marked marks a 0) (flow_at mask a) r target l in
+            let x = called (is_marked marks a 0) (flow_at mask a) r target in
             record { from = a; target = x.1; calls = x.2; there = x.3 ∙ sym e; marked = x.0 }
 
-        earlier : (t : ℕ) (k : Called mask marks t) → k.from < a + 1 → (k.from ≡ a → ⊥) → k.from < a
-        earlier t k z n = omega (arith, n)
-
-    pub calling-old : addresses ≤ r → Calling flags (a + 1)
-    calling-old l =
+    pub calling-old : TargetAt None → Calling flags (a + 1)
+    calling-old target =
         record {
           size = c.size;
           flags-two = c.flags-two;
           sound = c.sound;
-          full = λ t i k z. c.full t i k (earlier t i k z (λ e. omega (arith, goes t k e)));
+          full = λ t i k z. c.full t i k (earlier t k z (λ e. none t (goes None target t k e)));
         }
       where
-        earlier : (t : ℕ) → t < addresses → (k : Called mask marks t) → k.from < a + 1 → (k.from ≡ a → ⊥) → k.from < a
-        earlier t i k z n = omega (arith, n)
+        none : (t : ℕ) → None ≡ Some t → ⊥
+        none t e = cc
 
   pub calling-end : (flags : List ℕ) (a : ℕ) → Calling flags a → addresses ≤ a → CallTargets mask marks flags
   calling-end flags a c h =

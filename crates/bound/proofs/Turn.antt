@@ -1,14 +1,11 @@
 -- One turn of the walk over a mask, at an address that may be known: what its successors may be told, what they leave, and what the turn answers. The laws
 -- are Worst's, over any successor function; that an address is marked first takes one from what is not found yet. Assumes nothing.
-use Prim.Native.Nat.{ℕ, suc, ◌-◌, ◌<◌, ◌≤◌}
-use native.Mathlib.Decide.{ℕ_discrete}
+use Prim.Native.Nat.{ℕ, max, suc, ◌-◌, ◌<◌, ◌≤◌}
+use native.Mathlib.Decide.{ℕ_discrete, dec_le}
 use native.Mathlib.Omega.{arith}
 use mathlib.Core.Path.{◌≡◌, sym, subst}
-use mathlib.Core.Bool.{Bool, true, false}
 use mathlib.Core.List.{List}
-use lib.Dec.{ltb}
 use lib.ListN.{get_or, set, replicate, length-replicate}
-use Rattle.isa.specs.Choice.{pick}
 use Rattle.isa.specs.Code.{addresses}
 use Rattle.rom.specs.Fetching.{Bytes, cycles_at}
 use Rattle.reach.specs.Chains.{Member, here, there}
@@ -63,97 +60,105 @@ module _ (mask : List ℕ) (bytes : Bytes mask) where
       (stays (next_addresses mask) (HaltsAt mask) (cycles_at mask) a found before, omega arith),
     )
 
-    module _ (z : get_or found a 0 ≡ 0) where
-      marked : zeros found ≡ suc (zeros (set found a endless))
-      marked = zeros-mark found a 65534 (omega (arith, before.size)) z
+-- what is known when the turn of an address that is not found yet begins
+pub record Opened (mask : List ℕ) (a left : ℕ) (found : List ℕ) : Type 0 where
+  pub bytes : Bytes mask
+  pub inside : a < addresses
+  pub room : zeros found ≤ left
+  pub before : RemembersOf mask (λ (k : ℕ). Leads (next_addresses mask) k a) found
+  pub new : get_or found a 0 ≡ 0
 
-      pub some_left : 0 < left
-      some_left = omega (arith, marked)
+module _ {mask : List ℕ} {a left : ℕ} {found : List ℕ} (o : Opened mask a left found) where
+  marked : zeros found ≡ suc (zeros (set found a endless))
+  marked = zeros-mark found a 65534 (omega (arith, o.before.size)) o.new
 
-      -- while the chains of the address are walked
-      pub record Walked (now : List ℕ) : Type 0 where
-        pub opened : RemembersOf mask (λ (k : ℕ). get_or (set found a endless) k 0 ≡ endless) now
-        pub fewer : zeros now < zeros found
+  pub some_left : 0 < left
+  some_left = omega (arith, marked)
 
-      pub begun : Walked (set found a endless)
-      begun =
-          record { opened = opened (next_addresses mask) (HaltsAt mask) (cycles_at mask) a found before h; fewer = omega (arith, marked) }
+  -- while the chains of the address are walked
+  pub record Walked (now : List ℕ) : Type 0 where
+    pub opened : RemembersOf mask (λ (k : ℕ). get_or (set found a endless) k 0 ≡ endless) now
+    pub fewer : zeros now < zeros found
 
-      -- a successor's turn: what it is told, and what it leaves
-      pub inside : (q : ℕ) → Member q (next_addresses mask a) → q < addresses
-      inside q m = all-member (λ (k : ℕ). k < addresses) m (next_small mask a bytes)
+  pub begun : Walked (set found a endless)
+  begun =
+      record { opened = opened (next_addresses mask) (HaltsAt mask) (cycles_at mask) a found o.before o.inside; fewer = omega (arith, marked) }
 
-      pub given : (q : ℕ) (now : List ℕ) → Walked now → Member q (next_addresses mask a)
-          → ((q < addresses) × (zeros now ≤ left - 1)) × RemembersOf mask (λ (k : ℕ). Leads (next_addresses mask) k q) now
-      given q now w m =
-          let f = w.fewer in
-          ((inside q m, omega arith), descend (next_addresses mask) (HaltsAt mask) (cycles_at mask) a found before h q now w.opened m)
+  -- a successor's turn: what it is told, and what it leaves
+  pub inside : (q : ℕ) → Member q (next_addresses mask a) → q < addresses
+  inside q m = all-member (λ (k : ℕ). k < addresses) m (next_small mask a o.bytes)
 
-      pub after : (now new : List ℕ) → Walked now → Left mask now new → Walked new
-      after now new w r =
-          let f = w.fewer in
-          record {
-            opened = ascend (next_addresses mask) (HaltsAt mask) (cycles_at mask) a found before h now new w.opened r.0;
-            fewer = omega (arith, r.1);
-          }
+  pub given : (q : ℕ) (now : List ℕ) → Walked now → Member q (next_addresses mask a)
+      → ((q < addresses) × (zeros now ≤ left - 1)) × RemembersOf mask (λ (k : ℕ). Leads (next_addresses mask) k q) now
+  given q now w m =
+      let f = w.fewer in
+      ((inside q m, omega arith), descend (next_addresses mask) (HaltsAt mask) (cycles_at mask) a found o.before o.inside q now w.opened m)
 
-      -- what the turn answers
-      closes : (now : List ℕ) → Walked now → (r : ℕ) → ToldOf mask a r → Turned mask a found (set now a r) r
-      closes now w r t =
-          let f = w.fewer in
-          let y = zeros-set-most now a r in
-          (t, (closed (next_addresses mask) (HaltsAt mask) (cycles_at mask) a found before h now r w.opened t, omega arith))
+  pub after : (now new : List ℕ) → Walked now → Left mask now new → Walked new
+  after now new w r =
+      let f = w.fewer in
+      record {
+        opened = ascend (next_addresses mask) (HaltsAt mask) (cycles_at mask) a found o.before o.inside now new w.opened r.0;
+        fewer = omega (arith, r.1);
+      }
 
-      pub halts : HaltsAt mask a → (r : ℕ) → r ≡ endless → Turned mask a found (set (set found a endless) a r) r
-      halts e r p = closes (set found a endless) begun r (subst (ToldOf mask a) (sym p) (told-halt (next_addresses mask) (HaltsAt mask) (cycles_at mask) a e))
+  -- what the turn answers
+  closes : (now : List ℕ) → Walked now → (r : ℕ) → ToldOf mask a r → Turned mask a found (set now a r) r
+  closes now w r t =
+      let f = w.fewer in
+      let y = zeros-set-most now a r in
+      (t, (closed (next_addresses mask) (HaltsAt mask) (cycles_at mask) a found o.before o.inside now r w.opened t, omega arith))
 
-      settles : (now : List ℕ) (w r : ℕ) → Walked now → (HaltsAt mask a → ⊥)
-          → Worst (next_addresses mask) (HaltsAt mask) (cycles_at mask) (next_addresses mask a) w → ((w ≡ endless → ⊥) → w ≤ most_cycles)
-          → r ≡ settled w (cycles_at mask a) → Turned mask a found (set now a r) r
-      settles now w r k n worst s e =
-          closes now k r
-          (subst (ToldOf mask a) (sym e) (told-settled (next_addresses mask) (HaltsAt mask) (cycles_at mask) a w n worst s (two-cycles mask a)))
+  pub halts : HaltsAt mask a → (r : ℕ) → r ≡ endless → Turned mask a found (set (set found a endless) a r) r
+  halts e r p = closes (set found a endless) begun r (subst (ToldOf mask a) (sym p) (told-halt (next_addresses mask) (HaltsAt mask) (cycles_at mask) a e))
 
-      pub settles-none : (r : ℕ) → StandsAt mask a Out → r ≡ settled 0 (cycles_at mask a) → Turned mask a found (set (set found a endless) a r) r
-      settles-none r k =
-          settles (set found a endless) 0 r begun k.0
-          (subst (λ (qs : List ℕ). Worst (next_addresses mask) (HaltsAt mask) (cycles_at mask) qs 0) k.1
-          (worst-none (next_addresses mask) (HaltsAt mask) (cycles_at mask))) (λ n. omega arith)
+  settles : (now : List ℕ) (w r : ℕ) → Walked now → (HaltsAt mask a → ⊥)
+      → Worst (next_addresses mask) (HaltsAt mask) (cycles_at mask) (next_addresses mask a) w → ((w ≡ endless → ⊥) → w ≤ most_cycles)
+      → r ≡ settled w (cycles_at mask a) → Turned mask a found (set now a r) r
+  settles now w r k n worst s e =
+      closes now k r
+      (subst (ToldOf mask a) (sym e) (told-settled (next_addresses mask) (HaltsAt mask) (cycles_at mask) a w n worst s (two-cycles mask a)))
 
-      -- one way on
-      module _ (q : ℕ) (k : StandsAt mask a (One q)) where
-        pub one-first : Member q (next_addresses mask a)
-        one-first = subst (Member q) k.1 here
+  pub settles-none : (r : ℕ) → StandsAt mask a Out → r ≡ settled 0 (cycles_at mask a) → Turned mask a found (set (set found a endless) a r) r
+  settles-none r k =
+      settles (set found a endless) 0 r begun k.0
+      (subst (λ (qs : List ℕ). Worst (next_addresses mask) (HaltsAt mask) (cycles_at mask) qs 0) k.1
+      (worst-none (next_addresses mask) (HaltsAt mask) (cycles_at mask))) (λ n. omega arith)
 
-        pub settles-one : (now : List ℕ) (n r : ℕ) → Walked now → ToldOf mask q n → r ≡ settled n (cycles_at mask a) → Turned mask a found (set now a r) r
-        settles-one now n r w t =
-            settles now n r w k.0
-            (subst (λ (qs : List ℕ). Worst (next_addresses mask) (HaltsAt mask) (cycles_at mask) qs n) k.1
-            (worst-one (next_addresses mask) (HaltsAt mask) (cycles_at mask) q n t)) (told-small q n (inside q one-first) t)
+  -- one way on
+  module _ (q : ℕ) (k : StandsAt mask a (One q)) where
+    pub one-first : Member q (next_addresses mask a)
+    one-first = subst (Member q) k.1 here
 
-      -- two
-      module _ (q s : ℕ) (k : StandsAt mask a (Two q s)) where
-        pub two-first : Member q (next_addresses mask a)
-        two-first = subst (Member q) k.1 here
+    pub settles-one : (now : List ℕ) (n r : ℕ) → Walked now → ToldOf mask q n → r ≡ settled n (cycles_at mask a) → Turned mask a found (set now a r) r
+    settles-one now n r w t =
+        settles now n r w k.0
+        (subst (λ (qs : List ℕ). Worst (next_addresses mask) (HaltsAt mask) (cycles_at mask) qs n) k.1
+        (worst-one (next_addresses mask) (HaltsAt mask) (cycles_at mask) q n t)) (told-small mask o.bytes q n (inside q one-first) t)
 
-        pub two-second : Member s (next_addresses mask a)
-        two-second = subst (Member s) k.1 (there here)
+  -- two
+  module _ (q s : ℕ) (k : StandsAt mask a (Two q s)) where
+    pub two-first : Member q (next_addresses mask a)
+    two-first = subst (Member q) k.1 here
 
-        pub two-small : (n m : ℕ) → ToldOf mask q n → ToldOf mask s m → (pick (ltb n m) m n ≡ endless → ⊥) → pick (ltb n m) m n ≤ most_cycles
-        two-small n m t u = go (ltb n m)
-          where
-            go : (b : Bool) → (pick b m n ≡ endless → ⊥) → pick b m n ≤ most_cycles
-            go true e = told-small s m (inside s two-second) u e
-            go false e = told-small q n (inside q two-first) t e
+    pub two-second : Member s (next_addresses mask a)
+    two-second = subst (Member s) k.1 (there here)
 
-        pub settles-two : (now : List ℕ) (n m r : ℕ) → Walked now → ToldOf mask q n → ToldOf mask s m → r ≡ settled (pick (ltb n m) m n) (cycles_at mask a)
-            → Turned mask a found (set now a r) r
-        settles-two now n m r w t u =
-            settles now (pick (ltb n m) m n) r w k.0
-            (subst (λ (qs : List ℕ). Worst (next_addresses mask) (HaltsAt mask) (cycles_at mask) qs (pick (ltb n m) m n)) k.1
-            (worst-two (next_addresses mask) (HaltsAt mask) (cycles_at mask) q s n m t u (told-most q n (inside q two-first) t) (told-most s m (inside s two-second) u)))
-            (two-small n m t u)
+    pub two-small : (n m : ℕ) → ToldOf mask q n → ToldOf mask s m → (max n m ≡ endless → ⊥) → max n m ≤ most_cycles
+    two-small n m t u e = go (dec_le n m)
+      where
+        go : Dec (n ≤ m) → max n m ≤ most_cycles
+        go (yes l) = let k = told-small mask o.bytes s m (inside s two-second) u (λ y. e (omega arith)) in omega arith
+        go (no l) = let k = told-small mask o.bytes q n (inside q two-first) t (λ y. e (omega arith)) in omega arith
 
-        -- the second is known already
-        pub known-second : (now : List ℕ) → Walked now → (get_or now s 0 ≡ 0 → ⊥) → ToldOf mask s (get_or now s 0)
-        known-second now w = told-known (next_addresses mask) (HaltsAt mask) (cycles_at mask) s now (given s now w two-second).1
+    pub settles-two : (now : List ℕ) (n m r : ℕ) → Walked now → ToldOf mask q n → ToldOf mask s m → r ≡ settled (max n m) (cycles_at mask a)
+        → Turned mask a found (set now a r) r
+    settles-two now n m r w t u =
+        settles now (max n m) r w k.0
+        (subst (λ (qs : List ℕ). Worst (next_addresses mask) (HaltsAt mask) (cycles_at mask) qs (max n m)) k.1
+        (worst-two (next_addresses mask) (HaltsAt mask) (cycles_at mask) q s n m t u (told-most mask o.bytes q n (inside q two-first) t) (told-most mask o.bytes s m (inside s two-second) u)))
+        (two-small n m t u)
+
+    -- the second is known already
+    pub known-second : (now : List ℕ) → Walked now → (get_or now s 0 ≡ 0 → ⊥) → ToldOf mask s (get_or now s 0)
+    known-second now w = told-known (next_addresses mask) (HaltsAt mask) (cycles_at mask) s now (given s now w two-second).1

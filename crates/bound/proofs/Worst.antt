@@ -1,17 +1,18 @@
 -- The walk's numbers, over any successor function on addresses. What is worst among the successors of an address, and its own cost, is its number:
 -- its chains are its own address and a chain of a successor. An address that is met on the way to itself is on a loop, so that what is remembered of
 -- the way is true. Assumes nothing.
-use Prim.Native.Nat.{ℕ, suc, zero, ◌+◌, ◌*◌, ◌<◌, ◌≤◌}
+use Prim.Native.Nat.{ℕ, suc, zero, max, ◌+◌, ◌*◌, ◌<◌, ◌≤◌}
 use native.Mathlib.Omega.{arith}
+use native.Mathlib.Decide.{dec_le}
 use native.Mathlib.Nat.{le_of_suc-le-suc, not-suc-le-zero}
 use mathlib.Core.Path.{◌≡◌, refl, sym, ap, subst, ◌∙◌}
 use mathlib.Core.Bool.{Bool, true, false}
 use mathlib.Core.List.{List, [], ◌∷◌}
 use mathlib.Core.Logic.{◌⊎◌, inl, inr}
-use lib.Dec.{eqb, ltb}
+use lib.Dec.{eqb}
 use lib.ListN.{length, get_or, set, length-set}
 use lib.Seq.{get_or-set_other}
-use borrow.Author.Tests.{eqb-true, eqb-false, ltb-true, ltb-false}
+use borrow.Author.Tests.{eqb-true, eqb-false}
 use Rattle.isa.specs.Choice.{pick}
 use Rattle.isa.specs.Code.{addresses}
 use Rattle.reach.specs.Chains.{Member, here, there, Chain, one, more}
@@ -78,15 +79,14 @@ module _ (next : ℕ → List ℕ) (Halt : ℕ → Type 0) (cost : ℕ → ℕ) 
         met = λ f. inr (record { from = q; among = here; spends = (t.bounded f).longest.met });
       }
 
-  pub worst-two : (q r n m : ℕ) → Told next Halt cost q n → Told next Halt cost r m → n ≤ endless → m ≤ endless → Worst (q ∷ r ∷ []) (pick (ltb n m) m n)
-  worst-two q r n m t u h k = go (ltb n m) (ltb-true n m) (ltb-false n m)
+  pub worst-two : (q r n m : ℕ) → Told next Halt cost q n → Told next Halt cost r m → n ≤ endless → m ≤ endless → Worst (q ∷ r ∷ []) (max n m)
+  worst-two q r n m t u h k = go (dec_le n m)
     where
       both : (P : ℕ → Type 0) → P q → P r → {a : ℕ} → Member a (q ∷ r ∷ []) → P a
       both P x y m = all-member P m (x, (y, tt))
 
-      go : (b : Bool) → (b ≡ true → n < m) → (b ≡ false → m ≤ n) → Worst (q ∷ r ∷ []) (pick b m n)
-      go true f g =
-          let l = f refl in
+      second : n ≤ m → Worst (q ∷ r ∷ []) m
+      second l =
           record {
             unbounded = λ e. (r, there here, u.unbounded e);
             ends = λ e a. both (λ (a : ℕ). Endless next Halt a → ⊥) (t.bounded (λ z. omega arith)).ends (u.bounded e).ends;
@@ -94,8 +94,9 @@ module _ (next : ℕ → List ℕ) (Halt : ℕ → Type 0) (cost : ℕ → ℕ) 
                 (λ s. let y = (t.bounded (λ z. omega arith)).longest.most x s in omega arith) ((u.bounded e).longest.most x);
             met = λ e. inr (record { from = r; among = there here; spends = (u.bounded e).longest.met });
           }
-      go false f g =
-          let l = g refl in
+
+      first : m ≤ n → Worst (q ∷ r ∷ []) n
+      first l =
           record {
             unbounded = λ e. (q, here, t.unbounded e);
             ends = λ e a. both (λ (a : ℕ). Endless next Halt a → ⊥) (t.bounded e).ends (u.bounded (λ z. e (omega arith))).ends;
@@ -103,6 +104,10 @@ module _ (next : ℕ → List ℕ) (Halt : ℕ → Type 0) (cost : ℕ → ℕ) 
                 ((t.bounded e).longest.most x) (λ s. let y = (u.bounded (λ z. e (omega arith))).longest.most x s in omega arith);
             met = λ e. inr (record { from = q; among = here; spends = (t.bounded e).longest.met });
           }
+
+      go : Dec (n ≤ m) → Worst (q ∷ r ∷ []) (max n m)
+      go (yes l) = let e : m ≡ max n m = omega arith in subst (Worst (q ∷ r ∷ [])) e (second l)
+      go (no l) = let e : n ≡ max n m = omega arith in subst (Worst (q ∷ r ∷ [])) e (first (omega arith))
 
   -- the address itself, before what is worst behind it
   module _ (a w : ℕ) (going : Halt a → ⊥) (worst : Worst (next a) w) where

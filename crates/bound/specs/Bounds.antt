@@ -1,16 +1,17 @@
 -- Document 02, wish 5, "How long an edge is held": successors within a level, chains to a return and their cycles, 'no bound', and what each answer
 -- says. Assumes nothing.
-use Rattle.std.specs.Prelude.{ℕ, ◌<◌, ◌≡◌, true, cond, List, eqb}
+use Rattle.std.specs.Prelude.{ℕ, ◌<◌, ◌≡◌, true, cond, List, eqb, Result, Ok, Err, Some}
 use Rattle.isa.specs.Code.{addresses}
 use Rattle.isa.specs.declared.Instruction.TheVariants as I
-use Rattle.isa.specs.declared.decoder.Decoded.TheVariants.{Read}
 use Rattle.rom.specs.Fetching.{sized, read_at, cycles_at, moved_from}
 use Rattle.checker.specs.Marks.{levels, Pair, flow_at, onward, unless_forbidden, Reached}
 use Rattle.checker.specs.Verdicts.{Safe}
 use Rattle.checker.specs.declared.flow.Flow.TheVariants.{Back}
 use Rattle.bound.specs.Paths.{Endless, Longest}
 use Rattle.bound.specs.declared.bound.Bound.{Bound}
-use Rattle.bound.specs.declared.bound.Bound.TheVariants.{NotReached, NoBound, Cycles, BadMask, BadPair, MaskFails}
+use Rattle.bound.specs.declared.bound.Bound.TheVariants.{NotReached, NoBound, Cycles}
+use Rattle.refusals.specs.Numbers.{number_of}
+use Rattle.refusals.specs.declared.Refusal.{Refusal}
 
 -- "The vector successors of EI are not followed": document 01's successors without them. Above level 0 CALL is forbidden, so that each one left is in
 -- the pair's own level: hence "reached in that level"
@@ -23,7 +24,7 @@ Returns mask p = flow_at mask p.address ≡ Back
 
 -- "a HALT"
 abbrev pub Halts : List ℕ → Pair → Type 0
-Halts mask p = read_at mask p.address ≡ Read I.Halt
+Halts mask p = read_at mask p.address ≡ Some I.Halt
 
 -- a pair's cycles, by document 01's list
 abbrev pub cycles_of : List ℕ → Pair → ℕ
@@ -53,13 +54,11 @@ abbrev pub ReachedAbove : List ℕ → Pair → Type 0
 ReachedAbove mask p = (0 < p.level) × Reached mask p
 
 -- the paper's number of each answer, 0 for an answer that is not refused
-abbrev pub bound_refusal : Bound → ℕ
-bound_refusal NotReached = 0
-bound_refusal NoBound = 0
-bound_refusal (Cycles n) = 0
-bound_refusal BadMask = 1
-bound_refusal BadPair = 5
-bound_refusal MaskFails = 15
+abbrev pub bound_refusal : Result Bound Refusal → ℕ
+bound_refusal (Ok NotReached) = 0
+bound_refusal (Ok NoBound) = 0
+bound_refusal (Ok (Cycles n)) = 0
+bound_refusal (Err r) = number_of r
 
 -- what each number says: 0, that nothing is refused; document 01's "1: mask not 4,096 bytes"; "15 if the mask fails, after 1 and 5 (a pair out of
 -- range)"
@@ -72,14 +71,12 @@ BoundSays mask p n =
     ⊥)))
 
 -- an answer says what its number says, and what it tells of the pair
-abbrev pub BoundAnswers : List ℕ → Pair → Bound → Type 0
-BoundAnswers mask p NotReached = BoundSays mask p (bound_refusal NotReached) × (ReachedAbove mask p → ⊥)
-BoundAnswers mask p NoBound = BoundSays mask p (bound_refusal NoBound) × ReachedAbove mask p × Unbounded mask p
-BoundAnswers mask p (Cycles n) = BoundSays mask p (bound_refusal (Cycles n)) × ReachedAbove mask p × Bounded mask p n
-BoundAnswers mask p BadMask = BoundSays mask p (bound_refusal BadMask)
-BoundAnswers mask p BadPair = BoundSays mask p (bound_refusal BadPair)
-BoundAnswers mask p MaskFails = BoundSays mask p (bound_refusal MaskFails)
+abbrev pub BoundAnswers : List ℕ → Pair → Result Bound Refusal → Type 0
+BoundAnswers mask p (Ok NotReached) = BoundSays mask p (bound_refusal (Ok NotReached)) × (ReachedAbove mask p → ⊥)
+BoundAnswers mask p (Ok NoBound) = BoundSays mask p (bound_refusal (Ok NoBound)) × ReachedAbove mask p × Unbounded mask p
+BoundAnswers mask p (Ok (Cycles n)) = BoundSays mask p (bound_refusal (Ok (Cycles n))) × ReachedAbove mask p × Bounded mask p n
+BoundAnswers mask p (Err r) = BoundSays mask p (bound_refusal (Err r))
 
 -- the answer depends on the mask and the pair alone
 abbrev pub BoundDetermines : Type 0
-BoundDetermines = (mask : List ℕ) (p : Pair) (b c : Bound) → BoundAnswers mask p b → BoundAnswers mask p c → b ≡ c
+BoundDetermines = (mask : List ℕ) (p : Pair) (b c : Result Bound Refusal) → BoundAnswers mask p b → BoundAnswers mask p c → b ≡ c

@@ -1,6 +1,6 @@
 -- The bounds of all pairs above level 0 in one list, for a bench that asks for many: an entry for each address and its levels 1 and 2. Its largest entry
 -- is the longest that a program can stay above main. Then the targets of the CALLs that a mask may run. Assumes nothing.
-use Rattle.std.specs.Prelude.{ℕ, ◌+◌, ◌*◌, ◌-◌, ◌<◌, ◌≤◌, ◌≡◌, true, cond, ◌&&◌, List, eqb, ltb, length, get_or}
+use Rattle.std.specs.Prelude.{ℕ, ◌+◌, ◌*◌, ◌-◌, ◌<◌, ◌≤◌, ◌≡◌, true, cond, ◌&&◌, List, eqb, ltb, length, get_or, Result, Ok, Err}
 use Rattle.isa.specs.Choice.{pick}
 use Rattle.isa.specs.Code.{addresses}
 use Rattle.isa.specs.declared.ProgramAddress.{ProgramAddress}
@@ -11,8 +11,8 @@ use Rattle.checker.specs.declared.flow.Flow.TheVariants.{Sub}
 use Rattle.bound.specs.Bounds.{BoundAnswers}
 use Rattle.bound.specs.declared.bound.Bound.{Bound}
 use Rattle.bound.specs.declared.bound.Bound.TheVariants.{NotReached, NoBound, Cycles}
-use Rattle.bound.specs.declared.bounds.Bounds.{Bounds}
-use Rattle.bound.specs.declared.bounds.Bounds.TheVariants.{Listed, BadMask, BadList, MaskFails}
+use Rattle.refusals.specs.Numbers.{number_of}
+use Rattle.refusals.specs.declared.Refusal.{Refusal}
 
 -- 'no bound' as a number, out of reach of every bound
 abbrev pub endless : ℕ
@@ -39,14 +39,12 @@ entry_of list a l = pick (eqb (length list) bounds_size && ltb a addresses && lt
 
 -- each entry is the answer for its pair
 abbrev pub Entries : List ℕ → List ℕ → Type 0
-Entries mask list = (a l : ℕ) → a < addresses → 0 < l → l < levels → BoundAnswers mask (pair a l) (bound_at (entry_of list a l))
+Entries mask list = (a l : ℕ) → a < addresses → 0 < l → l < levels → BoundAnswers mask (pair a l) (Ok (bound_at (entry_of list a l)))
 
 -- the number of each answer: wish 5's, but for a pair's; 2 for a list of another length, as document 01 has it for marks
-abbrev pub bounds_refusal : Bounds → ℕ
-bounds_refusal Listed = 0
-bounds_refusal BadMask = 1
-bounds_refusal BadList = 2
-bounds_refusal MaskFails = 15
+abbrev pub bounds_refusal : Result (Unit {0}) Refusal → ℕ
+bounds_refusal (Ok u) = 0
+bounds_refusal (Err r) = number_of r
 
 -- what each refusal says
 abbrev pub BoundsRefused : List ℕ → List ℕ → ℕ → Type 0
@@ -58,7 +56,7 @@ BoundsRefused mask old n =
 
 -- what each answer says, by its number, of the mask and of the list at entry and at exit: 0, that each entry is there; after a refusal the list is as
 -- it was
-abbrev pub BoundsAnswer : List ℕ → List ℕ → List ℕ → Bounds → Type 0
+abbrev pub BoundsAnswer : List ℕ → List ℕ → List ℕ → Result (Unit {0}) Refusal → Type 0
 BoundsAnswer mask old new b =
     cond (eqb (bounds_refusal b) 0) ((length old ≡ bounds_size) × (length new ≡ bounds_size) × Entries mask new)
     (BoundsRefused mask old (bounds_refusal b) × (new ≡ old))

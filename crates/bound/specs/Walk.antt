@@ -1,15 +1,17 @@
 -- The walk, as the private functions state it, over any successor function on addresses: what a number says of an address, and what is remembered.
 -- Then what stands at an address of a mask. No promise of an exported function cites it. Assumes nothing.
-use Rattle.std.specs.Prelude.{ℕ, ◌+◌, ◌*◌, ◌≡◌, List, [], ◌∷◌, map, ◌⊎◌, eqb, length, get_or}
+use Rattle.std.specs.Prelude.{ℕ, ◌+◌, ◌*◌, ◌≡◌, List, [], ◌∷◌, map, ◌⊎◌, eqb, length, get_or, Option, Some, None, Result, Ok, Err}
+use Rattle.isa.specs.declared.Instruction.{Instruction}
 use Rattle.isa.specs.Choice.{pick}
 use Rattle.isa.specs.Code.{addresses}
 use Rattle.isa.specs.declared.Instruction.TheVariants as I
-use Rattle.isa.specs.declared.decoder.Decoded.{Decoded}
-use Rattle.isa.specs.declared.decoder.Decoded.TheVariants.{Read}
 use Rattle.rom.specs.Fetching.{read_at, cycles_at}
 use Rattle.checker.specs.Marks.{Pair, pair, flow_read, fault_in, onward}
 use Rattle.checker.specs.declared.flow.Flow.{Flow}
-use Rattle.checker.specs.declared.flow.Flow.TheVariants.{Unread, On, Enable, Jump, To, Sub, Back}
+use Rattle.checker.specs.Verdicts.{Marked, Safe}
+use Rattle.checker.specs.declared.flow.Flow.TheVariants.{Sub}
+use Rattle.refusals.specs.declared.Refusal.{Refusal}
+use Rattle.refusals.specs.declared.Refusal.TheVariants as R
 use Rattle.bound.specs.Paths.{Endless, Longest}
 use Rattle.bound.specs.Bounds.{within}
 use Rattle.bound.specs.Lists.{endless}
@@ -54,7 +56,7 @@ abbrev pub next_addresses : List ℕ → ℕ → List ℕ
 next_addresses mask a = map address_of (within mask (pair a 1))
 
 abbrev pub HaltsAt : List ℕ → ℕ → Type 0
-HaltsAt mask a = read_at mask a ≡ Read I.Halt
+HaltsAt mask a = read_at mask a ≡ Some I.Halt
 
 abbrev pub ToldOf : List ℕ → ℕ → ℕ → Type 0
 ToldOf mask = Told (next_addresses mask) (HaltsAt mask) (cycles_at mask)
@@ -74,11 +76,11 @@ Follows (One a) rest = a ∷ [] ≡ rest
 Follows (Two a b) rest = a ∷ b ∷ [] ≡ rest
 
 -- the ways of what two bytes read as: HALT's, or those of its flow
-abbrev pub HandedOn : Decoded → ℕ → Ways → Type 0
-HandedOn d moved Stop = d ≡ Read I.Halt
-HandedOn d moved Out = (d ≡ Read I.Halt → ⊥) × Follows Out (handed_to (flow_read d) moved)
-HandedOn d moved (One q) = (d ≡ Read I.Halt → ⊥) × Follows (One q) (handed_to (flow_read d) moved)
-HandedOn d moved (Two q r) = (d ≡ Read I.Halt → ⊥) × Follows (Two q r) (handed_to (flow_read d) moved)
+abbrev pub HandedOn : Option Instruction → ℕ → Ways → Type 0
+HandedOn d moved Stop = d ≡ Some I.Halt
+HandedOn d moved Out = (d ≡ Some I.Halt → ⊥) × Follows Out (handed_to (flow_read d) moved)
+HandedOn d moved (One q) = (d ≡ Some I.Halt → ⊥) × Follows (One q) (handed_to (flow_read d) moved)
+HandedOn d moved (Two q r) = (d ≡ Some I.Halt → ⊥) × Follows (Two q r) (handed_to (flow_read d) moved)
 
 -- what stands at an address: HALT, or what follows
 abbrev pub StandsAt : List ℕ → ℕ → Ways → Type 0
@@ -87,12 +89,12 @@ StandsAt mask a Out = (HaltsAt mask a → ⊥) × Follows Out (next_addresses ma
 StandsAt mask a (One q) = (HaltsAt mask a → ⊥) × Follows (One q) (next_addresses mask a)
 StandsAt mask a (Two q r) = (HaltsAt mask a → ⊥) × Follows (Two q r) (next_addresses mask a)
 
--- the target of a CALL; 4,096 where there is none
-abbrev pub TargetOf : Flow → ℕ → Type 0
-TargetOf Unread n = n ≡ addresses
-TargetOf On n = n ≡ addresses
-TargetOf Enable n = n ≡ addresses
-TargetOf (Jump t) n = n ≡ addresses
-TargetOf (To t) n = n ≡ addresses
-TargetOf (Sub t) n = n ≡ t.0
-TargetOf Back n = n ≡ addresses
+-- the target of a CALL
+abbrev pub target_of : Flow → Option ℕ
+target_of (Sub t) = Some t.0
+target_of _ = None
+
+-- what is answered with the marks of a mask of 4,096 bytes
+abbrev pub Passing : List ℕ → List ℕ → Result (Unit {0}) Refusal → Type 0
+Passing mask marks (Ok u) = Marked mask marks × Safe mask
+Passing mask marks (Err r) = (r ≡ R.Fails) × (Safe mask → ⊥)

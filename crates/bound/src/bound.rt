@@ -1,15 +1,19 @@
 // The bound of a pair.
-ghost use Rattle.std.specs.Prelude.{◌≡◌};
+ghost use Rattle.std.specs.Prelude.{◌≡◌, true};
+ghost use Rattle.rom.specs.Fetching.{sized};
 ghost use Rattle.checker.specs.Marks.{pair};
 ghost use Rattle.bound.specs.Bounds.{BoundAnswers};
 ghost use Rattle.bound.specs.Lists.{bound_of};
+ghost use Rattle.bound.specs.Walk.{Passing};
 
 use crate::longest::{ENDLESS, longest};
 use checker::check::{MARKS, Verdict, check, is_marked};
 use isa::{ADDRESSES, PLACES};
-use rom::reader::mask_ok;
+use refusals::Refusal;
+use rom::reader::check_mask;
+use std::fmt;
 
-#[derive(Clone, Copy)]
+#[derive(Clone, Copy, Debug, PartialEq, Eq)]
 pub enum Bound {
     // The pair is unmarked, or in level 0.
     NotReached,
@@ -17,16 +21,21 @@ pub enum Bound {
     NoBound,
     // The largest cycle total of a chain to a return.
     Cycles(u16),
-    // Refusal 1: the mask has not 4,096 bytes.
-    BadMask,
-    // Refusal 5: the pair is out of range.
-    BadPair,
-    // Refusal 15: the mask fails.
-    MaskFails,
+}
+
+// As `checkmask` prints it.
+impl fmt::Display for Bound {
+    fn fmt<W: fmt::Write>(&self, f: &mut fmt::Formatter<W>) -> fmt::Result {
+        match self {
+            Bound::NotReached => write!(f, "not reached"),
+            Bound::NoBound => write!(f, "no bound"),
+            Bound::Cycles(cycles) => write!(f, "{cycles}"),
+        }
+    }
 }
 
 // The answer for a number of the walk.
-fn told(found: u16) -> Bound
+pub(crate) fn told(found: u16) -> Bound
     ensures { result ≡ bound_of found }
 {
     if found == ENDLESS {
@@ -35,30 +44,30 @@ fn told(found: u16) -> Bound
     Bound::Cycles(found)
 }
 
+// The marks of a mask that passes; one that fails is refused.
+pub(crate) fn mark_passed(mask: &[u8], marks: &mut [u8; MARKS]) -> Result<(), Refusal>
+    requires { sized mask.now ≡ true }
+    ensures { Passing mask.now marks.new result }
+{
+    match check(mask, marks)? {
+        Verdict::Passed => Ok(()),
+        Verdict::Failed { .. } => Err(Refusal::Fails),
+    }
+}
+
 // The most cycles from a pair above main to a return.
-pub fn bound_of(mask: &[u8], address: u16, level: u8) -> Bound
+pub fn bound_of(mask: &[u8], address: u16, level: u8) -> Result<Bound, Refusal>
     ensures { BoundAnswers mask.now (pair address level) result }
 {
-    if !mask_ok(mask) {
-        return Bound::BadMask;
-    }
-    if ADDRESSES <= address {
-        return Bound::BadPair;
-    }
-    if 2 < level {
-        return Bound::BadPair;
+    check_mask(mask)?;
+    if ADDRESSES <= address || 2 < level {
+        return Err(Refusal::Range);
     }
     let mut marks = [0u8; MARKS];
-    let verdict = check(mask, &mut marks);
-    let Verdict::Passed = verdict else {
-        return Bound::MaskFails;
-    };
-    if level == 0 {
-        return Bound::NotReached;
-    }
-    if !is_marked(&marks, address, level) {
-        return Bound::NotReached;
+    mark_passed(mask, &mut marks)?;
+    if level == 0 || !is_marked(&marks, address, level) {
+        return Ok(Bound::NotReached);
     }
     let mut found = [0u16; PLACES];
-    told(longest(mask, &mut found, address, ADDRESSES))
+    Ok(told(longest(mask, &mut found, address, ADDRESSES)))
 }

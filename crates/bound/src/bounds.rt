@@ -3,36 +3,27 @@ ghost use Rattle.std.specs.Prelude.{◌≡◌, true, length};
 ghost use Rattle.isa.specs.Choice.{pick};
 ghost use Rattle.rom.specs.Fetching.{sized};
 ghost use Rattle.checker.specs.Verdicts.{Marked, Safe, is_marked};
-ghost use Rattle.bound.specs.Lists.{BoundsAnswer, Entries, Largest, bounds_size, entry_of};
+ghost use Rattle.bound.specs.Lists.{BoundsAnswer, Entries, Largest, bound_at, bounds_size, entry_of};
 
+use crate::bound::{Bound, mark_passed, told};
 use crate::longest::longest;
-use checker::check::{MARKS, Verdict, check, is_marked};
+use checker::check::{MARKS, is_marked};
 use isa::{ADDRESSES, PLACES};
-use rom::reader::mask_ok;
+use refusals::Refusal;
+use rom::reader::check_mask;
 
 // How many entries the list has: two for each address.
 pub const BOUNDS: usize = PLACES * 2;
-
-#[derive(Clone, Copy)]
-pub enum Bounds {
-    // Each entry is the answer for its pair.
-    Listed,
-    // Refusal 1: the mask has not 4,096 bytes.
-    BadMask,
-    // Refusal 2: the list has not 8,192 entries.
-    BadList,
-    // Refusal 15: the mask fails.
-    MaskFails,
-}
 
 // A pair's entry for the number of its address: 0 where it is not marked.
 fn entry(marks: &[u8; MARKS], address: u16, level: u8, number: u16) -> u16
     ensures { result ≡ pick (is_marked marks.now address level) number 0 }
 {
     if is_marked(marks, address, level) {
-        return number;
+        number
+    } else {
+        0
     }
-    0
 }
 
 // The entries of every address, by one walk that goes on from address to address.
@@ -41,52 +32,46 @@ fn fill(mask: &[u8], marks: &[u8; MARKS], list: &mut [u16])
     ensures { (length list.new ≡ bounds_size) × Entries mask.now list.new }
 {
     let mut found = [0u16; PLACES];
-    let mut address: u16 = 0;
-    while address < ADDRESSES {
+    for address in 0..ADDRESSES {
         let number = longest(mask, &mut found, address, ADDRESSES);
         let at = address as usize * 2;
         list[at] = entry(marks, address, 1, number);
         list[at + 1] = entry(marks, address, 2, number);
-        address += 1;
     }
 }
 
 // The bound of each pair above main, under a mask that passes.
-pub fn bounds_of(mask: &[u8], list: &mut [u16]) -> Bounds
+pub fn bounds_of(mask: &[u8], list: &mut [u16]) -> Result<(), Refusal>
     ensures { BoundsAnswer mask.now list.old list.new result }
 {
-    if !mask_ok(mask) {
-        return Bounds::BadMask;
-    }
+    check_mask(mask)?;
     if list.len() != BOUNDS { // refusal 2
-        return Bounds::BadList;
+        return Err(Refusal::Buffer);
     }
     let mut marks = [0u8; MARKS];
-    let verdict = check(mask, &mut marks);
-    let Verdict::Passed = verdict else {
-        return Bounds::MaskFails;
-    };
+    mark_passed(mask, &mut marks)?;
     fill(mask, &marks, list);
-    Bounds::Listed
+    Ok(())
 }
 
 // The entry of a pair above main; 0 for any other pair, and for a list of another length.
-pub fn entry_of(list: &[u16], address: u16, level: u8) -> u16
+fn number_at(list: &[u16], address: u16, level: u8) -> u16
     ensures { result ≡ entry_of list.now address level }
 {
-    if list.len() != BOUNDS {
-        return 0;
-    }
-    if ADDRESSES <= address {
-        return 0;
-    }
-    if level == 0 {
-        return 0;
-    }
-    if 2 < level {
+    if list.len() != BOUNDS || ADDRESSES <= address || level == 0 || 2 < level {
         return 0;
     }
     list[address as usize * 2 + (level as usize - 1)]
+}
+
+// The bound that a list has for a pair above main; `NotReached` for any other pair, and for a list of another length.
+pub fn entry_of(list: &[u16], address: u16, level: u8) -> Bound
+    ensures { result ≡ bound_at (entry_of list.now address level) }
+{
+    match number_at(list, address, level) {
+        0 => Bound::NotReached,
+        found => told(found),
+    }
 }
 
 // The first place of a largest entry.
@@ -94,12 +79,10 @@ pub fn largest(list: &[u16]) -> usize
     ensures { Largest list.now result }
 {
     let mut best: usize = 0;
-    let mut place: usize = 0;
-    while place < list.len() {
+    for place in 0..list.len() {
         if list[best] < list[place] {
             best = place;
         }
-        place += 1;
     }
     best
 }

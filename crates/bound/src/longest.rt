@@ -1,6 +1,5 @@
 // The longest way to a return, in cycles, by a walk that remembers what it found.
-ghost use Rattle.std.specs.Prelude.{◌≡◌, ℕ, ◌%◌, ◌<◌, ◌≤◌, ltb, get_or, set};
-ghost use Rattle.isa.specs.Choice.{pick};
+ghost use Rattle.std.specs.Prelude.{◌≡◌, ℕ, ◌%◌, ◌<◌, ◌≤◌, get_or, set};
 ghost use Rattle.isa.specs.Code.{addresses};
 ghost use Rattle.reach.specs.Walk.{zeros};
 ghost use Rattle.bound.specs.Paths.{Leads};
@@ -12,22 +11,14 @@ use isa::PLACES;
 use rom::reader::code_at;
 use rom::timing::entry;
 
-// No bound. An address has it too while the chains from it are walked: one that comes back to it has met a loop.
+// No bound. It stays a number beside 0 for nothing known: `Entries`, `Largest` and `LongestWait` speak of the numbers in the list of bounds. An address
+// has it too while the chains from it are walked: one that comes back to it has met a loop.
 pub const ENDLESS: u16 = 65535;
 
-fn larger(a: u16, b: u16) -> u16
-    ensures { result ≡ pick (ltb a b) b a }
-{
-    if a < b {
-        return b;
-    }
-    a
-}
-
-// An address is found: the cycles of its entry in the list of lengths and cycles, and the most that can follow.
-fn settle(found: &mut [u16; PLACES], address: u16, worst: u16, timing: u8) -> u16
+// An address is found: its cycles, and the most that can follow.
+fn settle(found: &mut [u16; PLACES], address: u16, worst: u16, cycles: u8) -> u16
     requires { (address < addresses) × ((worst ≡ endless → ⊥) → worst ≤ most_cycles) }
-    ensures value { result ≡ settled worst (timing % 16) }
+    ensures value { result ≡ settled worst cycles }
     ensures found_after { found.new ≡ set found.old address result }
 {
     let at = address as usize;
@@ -35,7 +26,7 @@ fn settle(found: &mut [u16; PLACES], address: u16, worst: u16, timing: u8) -> u1
         found[at] = ENDLESS;
         return ENDLESS;
     }
-    let all = worst + (timing % 16) as u16;
+    let all = worst + cycles as u16;
     found[at] = all;
     all
 }
@@ -57,21 +48,21 @@ pub(crate) fn longest(mask: &[u8], found: &mut [u16; PLACES], address: u16, left
     found[at] = ENDLESS; // while its chains are walked
     let code = code_at(mask, address);
     let timing = entry(code.first);
-    match ways_by(address, code.first, code.second, timing) {
-        Ways::Stop => settle(found, address, ENDLESS, timing),
-        Ways::Out => settle(found, address, 0, timing),
+    match ways_by(address, code.first, code.second, timing.bytes) {
+        Ways::Stop => settle(found, address, ENDLESS, timing.cycles),
+        Ways::Out => settle(found, address, 0, timing.cycles),
         Ways::One(a) => {
             let one = longest(mask, found, a, left - 1);
-            settle(found, address, one, timing)
+            settle(found, address, one, timing.cycles)
         }
         Ways::Two(a, b) => {
             let one = longest(mask, found, a, left - 1);
             let other = found[b as usize];
             if other != 0 {
-                return settle(found, address, larger(one, other), timing);
+                return settle(found, address, one.max(other), timing.cycles);
             }
             let two = longest(mask, found, b, left - 1);
-            settle(found, address, larger(one, two), timing)
+            settle(found, address, one.max(two), timing.cycles)
         }
     }
 }

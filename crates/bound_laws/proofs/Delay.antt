@@ -10,6 +10,7 @@ use mathlib.Core.List.{List, [], ◌∷◌}
 use mathlib.Core.Logic.{◌⊎◌, inl, inr}
 use lib.Dec.{eqb}
 use borrow.Author.Tests.{eq-eqb}
+use Rattle.std.specs.Prelude.{Some, None}
 use Rattle.isa.specs.Choice.{pick}
 use Rattle.rom.specs.Fetching.{Bytes}
 use Rattle.datapath.specs.Timer.{counted}
@@ -28,7 +29,6 @@ use Rattle.machine.specs.Events.{woken, wakes, pinned, interrupted, clocked, cou
 use Rattle.machine.specs.Events.{Input, power, named, answer_to, Call, steps_of, after, Every, UnderMask}
 use Rattle.machine.specs.declared.Machine.{Machine}
 use Rattle.machine.specs.declared.events.Event.TheVariants.{Run, Pins as PinsEvent, Int, Tmclk, Res}
-use Rattle.machine.specs.declared.events.Named.TheVariants.{Known, Unknown}
 use Rattle.checker.specs.Verdicts.{Safe}
 use Rattle.bound_laws.specs.Delay.{spent_in, spent, NoRestart, run, UpTo, this, later, Taken, DelayBounded}
 use Rattle.bound_laws.proofs.Ends.{finds}
@@ -91,7 +91,7 @@ module _ (mask : List ℕ) (safe : Safe mask) (bytes : Bytes mask) (n : ℕ) whe
     unfolding applied happened steps_of after spent refusal_of mask_ok values_ok
     run-ended i r e y = rw (e, add-zero) y
 
-    run-one : (r : ℕ) → One k mask (named (Known (Run r))) m
+    run-one : (r : ℕ) → One k mask (named (Some (Run r))) m
     unfolding applied happened steps_of
     run-one r = go (eqb (refusal_of mask (Run r) m) 0) refl
       where
@@ -110,19 +110,19 @@ module _ (mask : List ℕ) (safe : Safe mask) (bytes : Bytes mask) (n : ℕ) whe
         → One k given i m
     unfolding applied happened pinned interrupted counting steps_of yielded
     input-one given (power options image) u q = absurd (q.0 options image refl)
-    input-one given (named Unknown) u q = inl (answered-waits (pick (valid (state_of m)) 7 5) m stays)
-    input-one given (named (Known (Run r))) u q = subst (λ (g : List ℕ). One k g (named (Known (Run r))) m) (sym (u r refl)) (run-one r)
-    input-one given (named (Known (PinsEvent pm ps pp))) u q =
+    input-one given (named None) u q = inl (answered-waits (pick (valid (state_of m)) 7 5) m stays)
+    input-one given (named (Some (Run r))) u q = subst (λ (g : List ℕ). One k g (named (Some (Run r))) m) (sym (u r refl)) (run-one r)
+    input-one given (named (Some (PinsEvent pm ps pp))) u q =
         inl (answered-waits (refusal_of given (PinsEvent pm ps pp) m) (happened given (PinsEvent pm ps pp) m)
         (pinned-waits (λ (c : Cpu). record { pm = pm; ps = ps; pp = pp; int = c.pins.int }) (wakes pm ps pp m.cpu)))
-    input-one given (named (Known (Int level))) u q =
+    input-one given (named (Some (Int level))) u q =
         inl (answered-waits (refusal_of given (Int level) m) (happened given (Int level) m)
         (pinned-waits (λ (c : Cpu). record { pm = c.pins.pm; ps = c.pins.ps; pp = c.pins.pp; int = level })
         (eqb m.cpu.pins.int 1 && eqb level 0)))
-    input-one given (named (Known (Tmclk r))) u q =
+    input-one given (named (Some (Tmclk r))) u q =
         inl (answered-waits (refusal_of given (Tmclk r) m) (happened given (Tmclk r) m)
         (counted-waits (clocked m.cpu) (counted m.cpu.timer.count r)))
-    input-one given (named (Known Res)) u q = absurd (q.1 refl)
+    input-one given (named (Some Res)) u q = absurd (q.1 refl)
 
   -- ---- every list
   found : (calls : List Call) → Every (UnderMask mask) calls → Every NoRestart calls → (k : ℕ) (m : Machine) → Waiting mask safe n k (standing m.cpu)

@@ -8,9 +8,9 @@ use mathlib.Core.List.{List, [], ◌∷◌}
 use mathlib.Core.Logic.{◌⊎◌, inl, inr}
 use lib.Dec.{eqb}
 use borrow.Author.Tests.{eq-eqb, eqb-true}
+use Rattle.std.specs.Prelude.{Option, Some, None}
+use Rattle.isa.specs.declared.Instruction.{Instruction}
 use Rattle.isa.specs.Choice.{pick}
-use Rattle.isa.specs.declared.decoder.Decoded.{Decoded}
-use Rattle.isa.specs.declared.decoder.Decoded.TheVariants.{Read, Unreadable}
 use Rattle.rom.specs.Fetching.{read_at, length_at, cycles_at}
 use Rattle.cpu.specs.State.{State, on_cpu, with_fault}
 use Rattle.cpu.specs.Effect.{effect}
@@ -27,7 +27,6 @@ use Rattle.machine.specs.Events.{Input, power, named, answer_to, Call, steps_of,
 use Rattle.machine.specs.declared.Machine.{Machine}
 use Rattle.machine.specs.declared.events.Event.{Event}
 use Rattle.machine.specs.declared.events.Event.TheVariants.{Run, Pins, Int, Tmclk, Res}
-use Rattle.machine.specs.declared.events.Named.TheVariants.{Known, Unknown}
 use Rattle.cpu.proofs.Leaves.{Standing, ticked-same}
 use Rattle.bound_laws.specs.Delay.{spent_by, spent_in, spent, NoRestart, SpentCounts}
 use Rattle.bound_laws.proofs.Sides.{Aside, effect-sides, counting-same, ticked-cycles}
@@ -78,9 +77,9 @@ module _ (mask : List ℕ) (s : State) where
             ∙ tested (eqb new.status.fault 0) true (eq-eqb new.status.fault 0 f)
         go false p = none ∙ tested (eqb t.cpu.status.fault 0) false p
 
-    instructed-counts : (d : Decoded) (l n : ℕ) → Counts n (instructed mask d l n s)
-    instructed-counts Unreadable l n = none
-    instructed-counts (Read i) l n = settled-counts n (effect mask i (on_cpu (moved l) s)) (effect-sides mask i (on_cpu (moved l) s)).cycles
+    instructed-counts : (d : Option Instruction) (l n : ℕ) → Counts n (instructed mask d l n s)
+    instructed-counts None l n = none
+    instructed-counts (Some i) l n = settled-counts n (effect mask i (on_cpu (moved l) s)) (effect-sides mask i (on_cpu (moved l) s)).cycles
 
     executed-counts : Counts (cycles_at mask s.cpu.control.pc.0) (executed mask s)
     unfolding executed
@@ -127,7 +126,7 @@ module _ (mask : List ℕ) (m : Machine) (small : m.cpu.cycles < 2 ^ 32) where
   same_count : {n : ℕ} → n ≡ m.cpu.cycles → n ≡ (m.cpu.cycles + 0) % 2 ^ 32
   same_count e = e ∙ none mask (state_of m) small
 
-  happened-counts : (e : Event) → (happened mask e m).cpu.cycles ≡ (m.cpu.cycles + spent_in mask (steps_of (named (Known e))) (state_of m)) % 2 ^ 32
+  happened-counts : (e : Event) → (happened mask e m).cpu.cycles ≡ (m.cpu.cycles + spent_in mask (steps_of (named (Some e))) (state_of m)) % 2 ^ 32
   unfolding happened pinned interrupted counting steps_of yielded
   happened-counts (Run n) = ran-counts mask n (state_of m) small
   happened-counts (Pins pm ps pp) = same_count (pick-cycles (wakes pm ps pp m.cpu) (woken m.cpu) m.cpu refl refl)
@@ -150,9 +149,9 @@ module _ (mask : List ℕ) (m : Machine) (small : m.cpu.cycles < 2 ^ 32) where
       ≡ (m.cpu.cycles + pick (eqb (answer_to mask i m).refusal 0) (spent_in mask (steps_of i) (state_of m)) 0) % 2 ^ 32
   unfolding applied steps_of yielded
   input-counts (power options image) q = absurd (q options image refl)
-  input-counts (named (Known e)) q =
-      answered-counts (refusal_of mask e m) (spent_in mask (steps_of (named (Known e))) (state_of m)) (happened mask e m) (happened-counts e)
-  input-counts (named Unknown) q = answered-counts (pick (valid (state_of m)) 7 5) 0 m (same_count refl)
+  input-counts (named (Some e)) q =
+      answered-counts (refusal_of mask e m) (spent_in mask (steps_of (named (Some e))) (state_of m)) (happened mask e m) (happened-counts e)
+  input-counts (named None) q = answered-counts (pick (valid (state_of m)) 7 5) 0 m (same_count refl)
 
 list_counts : (calls : List Call) (m : Machine) → Every NoRestart calls → m.cpu.cycles < 2 ^ 32
     → (after calls m).cpu.cycles ≡ (m.cpu.cycles + spent calls m) % 2 ^ 32

@@ -8,9 +8,8 @@ use mathlib.Core.Path.{◌≡◌, refl, sym, ap, subst, ◌∙◌}
 use mathlib.Core.List.{List, [], ◌∷◌}
 use mathlib.Core.Logic.{◌⊎◌, inl, inr}
 use borrow.Author.Tests.{eq-eqb, ne_eqb}
+use Rattle.std.specs.Prelude.{Option, Some, None}
 use Rattle.isa.specs.Views.{View, on, jmp, branch, call, ret, reti, ei, view}
-use Rattle.isa.specs.declared.decoder.Decoded.{Decoded}
-use Rattle.isa.specs.declared.decoder.Decoded.TheVariants.{Read, Unreadable}
 use Rattle.isa.specs.declared.Instruction.{Instruction}
 use Rattle.isa.specs.declared.Instruction.TheVariants as I
 use Rattle.rom.specs.Fetching.{read_at, length_at, cycles_at, moved_from}
@@ -95,8 +94,8 @@ module _ (mask : List ℕ) (safe : Safe mask) (n : ℕ) where
         inr (record { soon = w.fits (cycles_of mask (pair_of s)) (spends-here mask (e ∙ b)); main = l; no-fault = z ∙ w.no-fault })
 
     -- what waits is no HALT
-    no-halt : (i : Instruction) → read_at mask s.pc ≡ Read i → i ≡ I.Halt → ⊥
-    no-halt i e h = w.waits.ends (record { at = pair_of s; reached = reached-start; shown = inr (e ∙ ap Read h) })
+    no-halt : (i : Instruction) → read_at mask s.pc ≡ Some i → i ≡ I.Halt → ⊥
+    no-halt i e h = w.waits.ends (record { at = pair_of s; reached = reached-start; shown = inr (e ∙ ap Some h) })
 
   -- ---- one step
   module _ (k : ℕ) (s : State) (w : Waiting k (standing s.cpu)) (awake : s.cpu.status.halted ≡ 0) where
@@ -115,12 +114,12 @@ module _ (mask : List ℕ) (safe : Safe mask) (n : ℕ) where
     abbrev pc : ℕ
     pc = s.cpu.control.pc.0
 
-    instructed-next : (d : Decoded) → read_at mask pc ≡ d
+    instructed-next : (d : Option Instruction) → read_at mask pc ≡ d
         → Next (k + cycles_at mask pc) s.cpu (instructed mask d (length_at mask pc) (cycles_at mask pc) s).cpu
     unfolding flow_at flow_of
-    instructed-next Unreadable e =
+    instructed-next None e =
         absurd (omega (arith, no-fault-of mask safe (pair_of (standing s.cpu)) Unread w.waits.reached (ap flow_read e)))
-    instructed-next (Read i) e =
+    instructed-next (Some i) e =
         let here = standing s.cpu in
         let m = on_cpu (moved (length_at mask pc)) s in
         let t = effect mask i m in

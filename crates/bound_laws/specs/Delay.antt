@@ -2,7 +2,7 @@
 -- halted or faulted: once its steps have spent that many cycles, it has come to level 0". One claim over whole lists. It speaks of what the exported
 -- functions promise: `bound_of` promises `BoundAnswers`, `bounds_of` `BoundsAnswer`, and the machine's functions `answer_to` of each input, which `after`
 -- puts together. Assumes nothing.
-use Rattle.std.specs.Prelude.{ℕ, ◌+◌, ◌%◌, ◌^◌, ◌<◌, ◌≤◌, ◌≡◌, List, [], ◌∷◌, eqb, get_or}
+use Rattle.std.specs.Prelude.{ℕ, ◌+◌, ◌%◌, ◌^◌, ◌<◌, ◌≤◌, ◌≡◌, List, [], ◌∷◌, eqb, get_or, Some, Ok}
 use Rattle.isa.specs.Choice.{pick}
 use Rattle.rom.specs.Fetching.{Bytes, cycles_at}
 use Rattle.cpu.specs.State.{State}
@@ -14,12 +14,10 @@ use Rattle.machine.specs.Machine.{state_of}
 use Rattle.machine.specs.Events.{power, named, answer_to, Call, steps_of, after, Every, UnderMask}
 use Rattle.machine.specs.declared.Machine.{Machine}
 use Rattle.machine.specs.declared.events.Event.TheVariants.{Run, Res}
-use Rattle.machine.specs.declared.events.Named.TheVariants.{Known}
 use Rattle.checker.specs.Marks.{pair}
 use Rattle.bound.specs.Bounds.{BoundAnswers, ReachedAbove}
 use Rattle.bound.specs.Lists.{endless, BoundsAnswer, Largest}
 use Rattle.bound.specs.declared.bound.Bound.TheVariants.{Cycles}
-use Rattle.bound.specs.declared.bounds.Bounds.TheVariants.{Listed}
 
 -- ---- "its steps have spent that many cycles": a count of their own, not the 32-bit one, which goes on past its largest value to zero
 -- one step: "A step when halted or faulted changes nothing"; where an interrupt is taken, "2 cycles"; else the instruction's, by document 01's list,
@@ -45,10 +43,10 @@ spent (k ∷ ks) m =
 -- ---- "it has come to level 0"
 -- "events without RES or power-on"
 abbrev pub NoRestart : Call → Type 0
-NoRestart k = ((options : Options) (image : List ℕ) → k.input ≡ power options image → ⊥) × (k.input ≡ named (Known Res) → ⊥)
+NoRestart k = ((options : Options) (image : List ℕ) → k.input ≡ power options image → ⊥) × (k.input ≡ named (Some Res) → ⊥)
 
 abbrev pub run : List ℕ → ℕ → Call
-run mask n = record { mask = mask; input = named (Known (Run n)) }
+run mask n = record { mask = mask; input = named (Some (Run n)) }
 
 -- a list of inputs as far as some step: that step's Run ends with it, and what comes after is left out
 pub data UpTo : List Call → List Call → Type 0 where
@@ -81,7 +79,7 @@ pub record Came (mask : List ℕ) (n : ℕ) (calls : List Call) (m : Machine) : 
 abbrev pub DelayBounded : Type 0
 DelayBounded =
     (mask : List ℕ) → Bytes mask
-    → (n : ℕ) (m : Machine) → BoundAnswers mask (pair m.cpu.control.pc.0 m.cpu.interrupts.level) (Cycles n)
+    → (n : ℕ) (m : Machine) → BoundAnswers mask (pair m.cpu.control.pc.0 m.cpu.interrupts.level) (Ok (Cycles n))
     → m.cpu.status.halted ≡ 0 → m.cpu.status.fault ≡ 0
     → (calls : List Call) → Every (UnderMask mask) calls → Every NoRestart calls
     → n ≤ spent calls m → Came mask n calls m
@@ -90,7 +88,7 @@ DelayBounded =
 -- run. The entries have 16 bits
 abbrev pub LongestWait : Type 0
 LongestWait =
-    (mask old list : List ℕ) → Bytes mask → BoundsAnswer mask old list Listed → ((k : ℕ) → get_or list k 0 < 2 ^ 16)
+    (mask old list : List ℕ) → Bytes mask → BoundsAnswer mask old list (Ok tt) → ((k : ℕ) → get_or list k 0 < 2 ^ 16)
     → (place : ℕ) → Largest list place → (get_or list place 0 ≡ endless → ⊥)
     → (m : Machine) → ReachedAbove mask (pair m.cpu.control.pc.0 m.cpu.interrupts.level)
     → m.cpu.status.halted ≡ 0 → m.cpu.status.fault ≡ 0

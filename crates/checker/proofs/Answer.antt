@@ -3,25 +3,26 @@
 -- pairs. Assumes nothing.
 use Prim.Native.Nat.{ℕ, zero, suc, ◌+◌, ◌*◌, ◌/◌, ◌%◌, ◌^◌, ◌<◌, ◌≤◌}
 use native.Mathlib.Omega.{arith}
-use native.Mathlib.Decide.{ℕ_discrete}
 use mathlib.Core.Path.{◌≡◌, refl, sym, ap, subst, ◌∙◌}
 use mathlib.Core.Bool.{Bool, true, false}
 use mathlib.Core.List.{List}
-use lib.Dec.{eqb, ltb}
+use lib.Dec.{eqb}
 use lib.ListN.{length, get_or}
 use lib.Seq.{ext_get_or}
-use borrow.Author.Tests.{lt-ltb, eq-eqb, eqb-true, eqb-false, ltb-true, ltb-false}
+use borrow.Author.Tests.{lt-ltb, eq-eqb, eqb-true, eqb-false}
 use Rattle.isa.specs.Code.{addresses}
 use Rattle.rom.specs.Fetching.{sized}
-use Rattle.reach.specs.Walk.{Found, Names}
+use Rattle.reach.specs.Walk.{Found, Free, Names}
 use Rattle.checker.specs.Marks.{levels, Pair, pair, fault, Reached}
-use Rattle.checker.specs.Verdicts.{marks_size, is_marked, Marked, rank, Lowest, Safe, Written, Answers, AnswersDetermine, number_of}
-use Rattle.checker.specs.Walk.{pairs, next_codes, fault_at, mark_of, Packed, verdict_of}
+use Rattle.checker.specs.Verdicts.{marks_size, is_marked, Marked, rank, Lowest, Safe, Written, Refused, Answers, AnswersDetermine}
+use Rattle.checker.specs.Walk.{pairs, next_codes, fault_at, mark_of, Packed, NamesOf, verdict_of}
 use Rattle.checker.specs.declared.walk.Named.{Named}
 use Rattle.checker.specs.declared.check.Verdict.{Verdict}
-use Rattle.checker.specs.declared.check.Verdict.TheVariants.{Passed, Failed, BadMask, BadMarks}
+use Rattle.checker.specs.declared.check.Verdict.TheVariants.{Passed, Failed}
+use Rattle.std.specs.Prelude.{Option, Some, None, Result, Ok, Err}
+use Rattle.refusals.specs.declared.Refusal.{Refusal}
+use Rattle.refusals.specs.declared.Refusal.TheVariants as R
 use Rattle.checker.proofs.Reach.{pair-rank, rank-pair, code-reached, reached-code, reached-level}
-use Rattle.isa.specs.Choice.{pick}
 
 -- the bit of a level in a mark byte is its flag
 flag : (seen : List ℕ) → ((k : ℕ) → get_or seen k 0 ≤ 1) → (a l : ℕ) → l < levels → mark_of seen a / 2 ^ l % 2 ≡ get_or seen (a * levels + l) 0
@@ -58,41 +59,29 @@ module _ (mask seen : List ℕ) (s : Found pairs (next_codes mask) seen) where
       told : (a l : ℕ) → a < addresses → l < levels → get_or marks a 0 / 2 ^ l % 2 ≡ get_or seen (a * levels + l) 0
       told a l h k = ap (λ (n : ℕ). n / 2 ^ l % 2) (p.byte a h) ∙ flag seen s.flags a l k
 
-  module _ (m : Named) (n : Names pairs (fault_at mask) seen m.code m.fault) where
+  -- the lowest of them that is forbidden
+  module _ (m : Named) (n : Names (fault_at mask) seen m.code m.fault) where
     -- a reached pair that is forbidden is no lower than the named one
     not_lower : (p : Pair) → Reached mask p → (fault mask p ≡ 0 → ⊥) → m.code ≤ rank p
     not_lower p r z = n.lowest (rank p) (flagged p r).1 (λ y. z (sym (ap (fault mask) (pair-rank p (reached-level mask p r))) ∙ y))
 
-    pub lowest : m.code < pairs → Lowest mask m.fault (m.code / levels) (m.code % levels)
-    lowest h =
+    pub lowest : Lowest mask m.fault (m.code / levels) (m.code % levels)
+    lowest =
         record {
-          reached = code-reached mask m.code (s.sound m.code (n.found h));
-          forbidden = n.forbidden h;
-          not-zero = n.not-zero h;
+          reached = code-reached mask m.code (s.sound m.code n.found);
+          forbidden = n.forbidden;
+          not-zero = n.not-zero;
           lowest = λ p r z. subst (λ (k : ℕ). k ≤ rank p) (sym (rank-pair m.code)) (not_lower p r z);
         }
 
-    pub safe : pairs ≤ m.code → Safe mask
-    safe h p r = go (ℕ_discrete (fault mask p) 0)
-      where
-        go : Dec (fault mask p ≡ 0) → fault mask p ≡ 0
-        go (yes e) = e
-        go (no z) = absurd (omega (arith, not_lower p r z, (flagged p r).0))
+  -- none of them is
+  pub safe : Free (fault_at mask) seen → Safe mask
+  safe f p r = sym (ap (fault mask) (pair-rank p (reached-level mask p r))) ∙ f (rank p) (flagged p r).1
 
-    pub answered : (old marks : List ℕ) → sized mask ≡ true → length old ≡ marks_size → Packed seen marks → Answers mask old marks (verdict_of m)
-    answered old marks e f p = go (ltb m.code pairs) refl
-      where
-        go : (b : Bool) → ltb m.code pairs ≡ b → Answers mask old marks (pick b (Failed m.fault (m.code / levels) (m.code % levels)) Passed)
-        go true t = (record { mask_size = e; marks-size = f; marked = marked marks p }, lowest (ltb-true m.code pairs t))
-        go false t = (record { mask_size = e; marks-size = f; marked = marked marks p }, safe (ltb-false m.code pairs t))
-
--- a verdict is not refused
-pub not-refused : (m : Named) → number_of (verdict_of m) ≡ 0
-not-refused m = go (ltb m.code pairs)
-  where
-    go : (b : Bool) → number_of (pick b (Failed m.fault (m.code / levels) (m.code % levels)) Passed) ≡ 0
-    go true = refl
-    go false = refl
+  pub answered : (m : Option Named) → NamesOf mask seen m → (old marks : List ℕ) → sized mask ≡ true → length old ≡ marks_size → Packed seen marks
+      → Answers mask old marks (Ok (verdict_of m))
+  answered None n old marks e f p = (record { mask_size = e; marks-size = f; marked = marked marks p }, safe n)
+  answered (Some m) n old marks e f p = (record { mask_size = e; marks-size = f; marked = marked marks p }, lowest m n)
 
 -- ---- the only answer
 -- a bit that is 1 in both or in neither
@@ -143,39 +132,44 @@ same-lowest mask f a l g b m v w =
 
 -- what a mask and marks of the right lengths are answered, by what is reached
 module _ (mask old new : List ℕ) (m : sized mask ≡ true) (o : length old ≡ marks_size) where
-  pub answer-passed : (v : Verdict) → Safe mask → Answers mask old new v → v ≡ Passed
-  answer-passed Passed s w = refl
-  answer-passed (Failed f a l) s w = absurd (w.1.not-zero (sym w.1.forbidden ∙ s (pair a l) w.1.reached))
-  answer-passed BadMask s w = absurd (w.0 m)
-  answer-passed BadMarks s w = absurd (w.1 o)
+  pub not-refused : (r : Refusal) → Refused mask old r → ⊥
+  not-refused R.Mask n = n m
+  not-refused R.Buffer n = n.1 o
+  not-refused _ n = n
 
-  pub answer-failed : (f a l : ℕ) (v : Verdict) → Lowest mask f a l → Answers mask old new v → v ≡ Failed f a l
-  answer-failed f a l Passed s w = absurd (s.not-zero (sym s.forbidden ∙ w.1 (pair a l) s.reached))
-  answer-failed f a l (Failed g b n) s w = same-lowest mask g b n f a l w.1 s
-  answer-failed f a l BadMask s w = absurd (w.0 m)
-  answer-failed f a l BadMarks s w = absurd (w.1 o)
+  pub answer-passed : (v : Result Verdict Refusal) → Safe mask → Answers mask old new v → v ≡ Ok Passed
+  answer-passed (Ok Passed) s w = refl
+  answer-passed (Ok (Failed f a l)) s w = absurd (w.1.not-zero (sym w.1.forbidden ∙ s (pair a l) w.1.reached))
+  answer-passed (Err r) s w = absurd (not-refused r w.0)
+
+  pub answer-failed : (f a l : ℕ) (v : Result Verdict Refusal) → Lowest mask f a l → Answers mask old new v → v ≡ Ok (Failed f a l)
+  answer-failed f a l (Ok Passed) s w = absurd (s.not-zero (sym s.forbidden ∙ w.1 (pair a l) s.reached))
+  answer-failed f a l (Ok (Failed g b n)) s w = ap Ok (same-lowest mask g b n f a l w.1 s)
+  answer-failed f a l (Err r) s w = absurd (not-refused r w.0)
+
+-- a refusal excludes each other one
+same-refusal : (mask old : List ℕ) (r q : Refusal) → Refused mask old r → Refused mask old q → r ≡ q
+same-refusal mask old R.Mask R.Mask x y = refl
+same-refusal mask old R.Mask R.Buffer x y = absurd (x y.0)
+same-refusal mask old R.Buffer R.Mask x y = absurd (y x.0)
+same-refusal mask old R.Buffer R.Buffer x y = refl
+same-refusal mask old R.Mask _ x y = absurd y
+same-refusal mask old R.Buffer _ x y = absurd y
+same-refusal mask old _ q x y = absurd x
+
+-- the marks of an answer that is not refused are written
+pub written : (mask old new : List ℕ) (v : Verdict) → Answers mask old new (Ok v) → Written mask old new
+written mask old new Passed w = w.0
+written mask old new (Failed f a l) w = w.0
 
 pub answers-determine : AnswersDetermine
-answers-determine mask old new other v w a b = go v a
+answers-determine mask old new other v w a b = go v w a b
   where
-    -- the same marks, of an answer that is not refused
-    written : (v : Verdict) → Written mask old new → w ≡ v → (Answers mask old other v → Written mask old other) → (v ≡ w) × (new ≡ other)
-    written v x e f = (sym e, same-marks mask new other x.marked (f (subst (Answers mask old other) e b)).marked)
-
-    go : (v : Verdict) → Answers mask old new v → (v ≡ w) × (new ≡ other)
-    go Passed a = written Passed a.0 (answer-passed mask old other a.0.mask_size a.0.marks-size w a.1 b) (λ x. x.0)
-    go (Failed f c l) a = written (Failed f c l) a.0 (answer-failed mask old other a.0.mask_size a.0.marks-size f c l w a.1 b) (λ x. x.0)
-    go BadMask a = bad-mask w b
-      where
-        bad-mask : (w : Verdict) → Answers mask old other w → (BadMask ≡ w) × (new ≡ other)
-        bad-mask Passed b = absurd (a.0 b.0.mask_size)
-        bad-mask (Failed f c l) b = absurd (a.0 b.0.mask_size)
-        bad-mask BadMask b = (refl, a.1 ∙ sym b.1)
-        bad-mask BadMarks b = absurd (a.0 b.0)
-    go BadMarks a = bad-marks w b
-      where
-        bad-marks : (w : Verdict) → Answers mask old other w → (BadMarks ≡ w) × (new ≡ other)
-        bad-marks Passed b = absurd (a.1 b.0.marks-size)
-        bad-marks (Failed f c l) b = absurd (a.1 b.0.marks-size)
-        bad-marks BadMask b = absurd (b.0 a.0)
-        bad-marks BadMarks b = (refl, a.2 ∙ sym b.2)
+    go : (v w : Result Verdict Refusal) → Answers mask old new v → Answers mask old other w → (v ≡ w) × (new ≡ other)
+    go (Ok Passed) (Ok w) a b =
+        (sym (answer-passed mask old other a.0.mask_size a.0.marks-size (Ok w) a.1 b), same-marks mask new other a.0.marked (written mask old other w b).marked)
+    go (Ok (Failed f c l)) (Ok w) a b =
+        (sym (answer-failed mask old other a.0.mask_size a.0.marks-size f c l (Ok w) a.1 b), same-marks mask new other a.0.marked (written mask old other w b).marked)
+    go (Ok v) (Err r) a b = let w = written mask old new v a in absurd (not-refused mask old other w.mask_size w.marks-size r b.0)
+    go (Err r) (Ok w) a b = let v = written mask old other w b in absurd (not-refused mask old new v.mask_size v.marks-size r a.0)
+    go (Err r) (Err q) a b = (ap Err (same-refusal mask old r q a.0 b.0), a.1 ∙ sym b.1)

@@ -9,9 +9,9 @@ use mathlib.Core.List.{List, [], ◌∷◌}
 use lib.Dec.{ltb, eqb}
 use lib.ListN.{get_or}
 use borrow.Author.Tests.{lt-ltb, le-ltb, eq-eqb, ne_eqb}
+use Rattle.std.specs.Prelude.{Some, None}
 use Rattle.isa.specs.Choice.{pick}
 use Rattle.isa.specs.Reading.{Entry, undefined, whole, fixed, nibble, byte, opcodes, complete, decoded}
-use Rattle.isa.specs.declared.decoder.Decoded.TheVariants.{Read, Unreadable}
 use Rattle.isa.specs.declared.Instruction.{Instruction}
 use Rattle.isa.specs.Views.{view}
 use Rattle.checker.specs.declared.flow.Flow.{Flow}
@@ -26,7 +26,7 @@ flow_in (fixed k i) b = pick (eqb b k) (flow_of i) Unread
 flow_in (nibble f) b = pick (ltb b 16) (flow_of (f b)) Unread
 flow_in (byte f) b = flow_of (f b)
 
-picked : (t : Bool) (i : Instruction) → pick t (flow_of i) Unread ≡ flow_read (pick t (Read i) Unreadable)
+picked : (t : Bool) (i : Instruction) → pick t (flow_of i) Unread ≡ flow_read (pick t (Some i) None)
 picked true i = refl
 picked false i = refl
 

@@ -1,4 +1,5 @@
 pub mod Flows
+pub mod Lengths
 pub mod Reach
 pub mod Successors
 pub mod Naming

@@ -7,11 +7,10 @@ use mathlib.Core.Bool.{Bool, true}
 use mathlib.Core.List.{List, [], map}
 use lib.Dec.{eqb}
 use borrow.Author.Tests.{ltb-true}
+use Rattle.std.specs.Prelude.{Option, Some, None}
 use Rattle.isa.specs.Choice.{pick}
 use Rattle.isa.specs.Code.{addresses, in_range}
 use Rattle.isa.specs.Views.{View, on, jmp, branch, call, ret, reti, ei, view}
-use Rattle.isa.specs.declared.decoder.Decoded.{Decoded}
-use Rattle.isa.specs.declared.decoder.Decoded.TheVariants.{Read, Unreadable}
 use Rattle.isa.specs.declared.Instruction.{Instruction}
 use Rattle.rom.specs.Fetching.{Bytes, read_at, moved_from}
 use Rattle.rom.proofs.Fetching.{read-fields}
@@ -119,9 +118,9 @@ module _ (mask : List ℕ) where
     unfolding flow_at
     flow-targets a = go (read_at mask a) refl
       where
-        go : (d : Decoded) → read_at mask a ≡ d → Targets (flow_read d)
-        go (Read i) e = targets i (read-fields mask a bytes i e)
-        go Unreadable e = tt
+        go : (d : Option Instruction) → read_at mask a ≡ d → Targets (flow_read d)
+        go (Some i) e = targets i (read-fields mask a bytes i e)
+        go None e = tt
 
     next_address : (p q : Pair) → Member q (successors mask p) → InAddresses q
     next_address p q =

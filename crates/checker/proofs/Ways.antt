@@ -19,22 +19,23 @@ use Rattle.checker.specs.Verdicts.{rank, Safe}
 use Rattle.checker.specs.Walk.{pairs, pair_of, next_codes, fault_at}
 use Rattle.checker.specs.Ways.{Way, Lists, TooShort, WayAnswers, WayDetermines, WayToVerdict, WayFits, NeverTooShort}
 use Rattle.checker.specs.Trail.{pairs_at, ListedTo}
-use Rattle.checker.specs.declared.way.Listing.{Listing}
-use Rattle.checker.specs.declared.way.Listing.TheVariants.{Listed, BadMask, MaskPasses, BadList}
+use Rattle.std.specs.Prelude.{Result, Ok, Err}
+use Rattle.refusals.specs.declared.Refusal.{Refusal}
+use Rattle.refusals.specs.declared.Refusal.TheVariants as R
 use Rattle.checker.specs.declared.walk.Named.{Named}
 use Rattle.checker.proofs.Reach.{rank-pair, reached-level, code-shortest, shortest-codes, codes-small}
 use Rattle.checker.proofs.Answer.{lowest, same-pair}
 
 -- ---- the answer
 module _ (mask seen queue starts : List ℕ) (s : Found pairs (next_codes mask) seen) (t : Traced pairs (next_codes mask) seen queue starts) where
-  module _ (m : Named) (n : Names pairs (fault_at mask) seen m.code m.fault) (h : m.code < pairs) where
+  module _ (m : Named) (n : Names (fault_at mask) seen m.code m.fault) where
     pub standing : Stands pairs queue m.code
     standing =
-        let p = t.stands m.code (n.found h) in
+        let p = t.stands m.code n.found in
         record { at = p.at; below = omega (arith, p.below, t.places); holds = p.holds }
 
     below : (at : ℕ) → StandsFirst queue m.code at → at < t.tail
-    below at f = let p = t.stands m.code (n.found h) in omega (arith, f.first p.at p.holds, p.below)
+    below at f = let p = t.stands m.code n.found in omega (arith, f.first p.at p.holds, p.below)
 
     way_back : (js : List ℕ) (count end : ℕ) → StandsFirst queue m.code end → Counted starts end count → Up starts 0 js end → count ≡ length js → Way mask (pairs_at queue js)
     way_back js count end f c u e =
@@ -42,7 +43,7 @@ module _ (mask seen queue starts : List ℕ) (s : Found pairs (next_codes mask) 
           f = m.fault;
           a = m.code / levels;
           l = m.code % levels;
-          named = lowest mask seen s m n h;
+          named = lowest mask seen s m n;
           shortest =
               code-shortest mask (pair_of m.code) (omega arith)
               (subst (Shortest (next_codes mask) 0 (map (λ (j : ℕ). get_or queue j 0) js)) (sym (rank-pair m.code))
@@ -52,8 +53,8 @@ module _ (mask seen queue starts : List ℕ) (s : Found pairs (next_codes mask) 
     pairs-length : (js : List ℕ) → length (pairs_at queue js) ≡ length js
     pairs-length js = map-length pair_of (map (λ (j : ℕ). get_or queue j 0) js) ∙ map-length (λ (j : ℕ). get_or queue j 0) js
 
-    pub answered : (old new : List ℕ) (r : Listing) → sized mask ≡ true → ListedTo queue starts m.code old new r → WayAnswers mask old new r
-    answered old new (Listed n) e x =
+    pub answered : (old new : List ℕ) (r : Result ℕ Refusal) → sized mask ≡ true → ListedTo queue starts m.code old new r → WayAnswers mask old new r
+    answered old new (Ok n) e x =
         let p = x.listings in
         let l : Lists mask old new n =
         record {
@@ -65,9 +66,7 @@ module _ (mask seen queue starts : List ℕ) (s : Found pairs (next_codes mask) 
           bytes = p.bytes;
         } in
         l
-    answered old new BadMask e x = absurd x
-    answered old new MaskPasses e x = absurd x
-    answered old new BadList e (x, kept) =
+    answered old new (Err R.List) e (x, kept) =
         let u = up_from x.ended.counted stay in
         let n : x.count ≡ length u.0 = omega (arith, u.2) in
         let s : TooShort mask old =
@@ -78,6 +77,7 @@ module _ (mask seen queue starts : List ℕ) (s : Found pairs (next_codes mask) 
           short = omega (arith, x.short, pairs-length u.0);
         } in
         (s, kept)
+    answered old new (Err _) e x = absurd x
 
 -- ---- the only answer
 same_count : (mask : List ℕ) (c d : List Pair) → Way mask c → Way mask d → length c ≡ length d
@@ -100,26 +100,65 @@ way-to-verdict mask old new f a l chain v w =
 not-safe : (mask : List ℕ) (c : List Pair) → Way mask c → Safe mask → ⊥
 not-safe mask c v s = v.named.not-zero (sym v.named.forbidden ∙ s (pair v.a v.l) v.named.reached)
 
+-- what a refusal's number says, by the refusal
+Refusing : List ℕ → List ℕ → Refusal → Type 0
+Refusing mask old R.Mask = sized mask ≡ true → ⊥
+Refusing mask old R.Passes = (sized mask ≡ true) × Safe mask
+Refusing mask old R.List = TooShort mask old
+Refusing mask old _ = ⊥
+
+said : (mask old new : List ℕ) (r : Refusal) → WayAnswers mask old new (Err r) → Refusing mask old r × (new ≡ old)
+unfolding Refusing
+said mask old new R.Mask x = x
+said mask old new R.Buffer x = x
+said mask old new R.Value x = x
+said mask old new R.Choice x = x
+said mask old new R.Range x = x
+said mask old new R.Format x = x
+said mask old new R.Kind x = x
+said mask old new R.Start x = x
+said mask old new R.Room x = x
+said mask old new R.Passes x = x
+said mask old new R.List x = x
+said mask old new R.Line x = x
+said mask old new R.Operand x = x
+said mask old new R.Label x = x
+said mask old new R.Fails x = x
+said mask old new R.Glass x = x
+
+module _ (mask old : List ℕ) where
+  not-refused : {new : List ℕ} {n : ℕ} (r : Refusal) → Lists mask old new n → Refusing mask old r → ⊥
+  unfolding Refusing
+  not-refused R.Mask x y = y x.mask_size
+  not-refused R.Passes x y = not-safe mask x.chain x.way y.1
+  not-refused R.List x y = omega (arith, x.fits, x.counted, same_count mask x.chain y.chain x.way y.way, y.short)
+  not-refused _ x y = y
+
+  -- a refusal excludes each other one
+  same-refusal : (r q : Refusal) → Refusing mask old r → Refusing mask old q → r ≡ q
+  unfolding Refusing
+  same-refusal R.Mask R.Mask x y = refl
+  same-refusal R.Mask R.Passes x y = absurd (x y.0)
+  same-refusal R.Mask R.List x y = absurd (x y.mask_size)
+  same-refusal R.Passes R.Mask x y = absurd (y x.0)
+  same-refusal R.Passes R.Passes x y = refl
+  same-refusal R.Passes R.List x y = absurd (not-safe mask y.chain y.way x.1)
+  same-refusal R.List R.Mask x y = absurd (y x.mask_size)
+  same-refusal R.List R.Passes x y = absurd (not-safe mask x.chain x.way y.1)
+  same-refusal R.List R.List x y = refl
+  same-refusal R.Mask _ x y = absurd y
+  same-refusal R.Passes _ x y = absurd y
+  same-refusal R.List _ x y = absurd y
+  same-refusal _ q x y = absurd x
+
 pub way-determines : WayDetermines
 way-determines mask old new other v w x y = go v w x y
   where
-    go : (v w : Listing) → WayAnswers mask old new v → WayAnswers mask old other w → v ≡ w
-    go (Listed n) (Listed m) x y = ap Listed (x.counted ∙ same_count mask x.chain y.chain x.way y.way ∙ sym y.counted)
-    go (Listed n) BadMask x y = absurd (y.0 x.mask_size)
-    go (Listed n) MaskPasses x y = absurd (not-safe mask x.chain x.way y.0.1)
-    go (Listed n) BadList x y = absurd (omega (arith, x.fits, x.counted, same_count mask x.chain y.0.chain x.way y.0.way, y.0.short))
-    go BadMask (Listed m) x y = absurd (x.0 y.mask_size)
-    go BadMask BadMask x y = refl
-    go BadMask MaskPasses x y = absurd (x.0 y.0.0)
-    go BadMask BadList x y = absurd (x.0 y.0.mask_size)
-    go MaskPasses (Listed m) x y = absurd (not-safe mask y.chain y.way x.0.1)
-    go MaskPasses BadMask x y = absurd (y.0 x.0.0)
-    go MaskPasses MaskPasses x y = refl
-    go MaskPasses BadList x y = absurd (not-safe mask y.0.chain y.0.way x.0.1)
-    go BadList (Listed m) x y = absurd (omega (arith, y.fits, y.counted, same_count mask x.0.chain y.chain x.0.way y.way, x.0.short))
-    go BadList BadMask x y = absurd (y.0 x.0.mask_size)
-    go BadList MaskPasses x y = absurd (not-safe mask x.0.chain x.0.way y.0.1)
-    go BadList BadList x y = refl
+    go : (v w : Result ℕ Refusal) → WayAnswers mask old new v → WayAnswers mask old other w → v ≡ w
+    go (Ok n) (Ok m) x y = ap Ok (x.counted ∙ same_count mask x.chain y.chain x.way y.way ∙ sym y.counted)
+    go (Ok n) (Err r) x y = absurd (not-refused mask old r x (said mask old other r y).0)
+    go (Err r) (Ok m) x y = absurd (not-refused mask old r y (said mask old new r x).0)
+    go (Err r) (Err q) x y = ap Err (same-refusal mask old r q (said mask old new r x).0 (said mask old other q y).0)
 
 -- ---- the length that always does
 pub way-fits : WayFits

@@ -1,10 +1,8 @@
 -- Document 01, "Marks": pairs, which of them are forbidden, and their successors. Assumes nothing.
-use Rattle.std.specs.Prelude.{ℕ, List, [], ◌∷◌, ◌++◌, eqb}
+use Rattle.std.specs.Prelude.{ℕ, List, [], ◌∷◌, ◌++◌, eqb, Option, Some, None}
 use Rattle.isa.specs.Choice.{pick}
 use Rattle.isa.specs.Reading.{fault_number}
 use Rattle.rom.specs.Fetching.{read_at, moved_from, branch_to}
-use Rattle.isa.specs.declared.decoder.Decoded.{Decoded}
-use Rattle.isa.specs.declared.decoder.Decoded.TheVariants.{Read, Unreadable}
 use Rattle.isa.specs.declared.Instruction.{Instruction}
 use Rattle.isa.specs.Views.{View, on, jmp, branch, call, ret, reti, ei, view}
 use Rattle.reach.specs.Chains.{Reaches}
@@ -38,16 +36,16 @@ unfoldable pub flow_of : Instruction → Flow
 flow_of i = flow_by (view i)
 
 -- where what stands at an address hands the program on: nowhere, if it cannot be read
-abbrev pub flow_read : Decoded → Flow
-flow_read (Read i) = flow_of i
-flow_read Unreadable = Unread
+abbrev pub flow_read : Option Instruction → Flow
+flow_read (Some i) = flow_of i
+flow_read None = Unread
 
 unfoldable pub flow_at : List ℕ → ℕ → Flow
 flow_at mask a = flow_read (read_at mask a)
 
 -- "it cannot be read, is CALL in level 1 or 2, or is RET or RETI in level 0": fault 1, 2 or 3, and 0 where there is none
 abbrev pub fault_in : Flow → ℕ → ℕ
-fault_in Unread l = fault_number Unreadable
+fault_in Unread l = fault_number None
 fault_in On l = 0
 fault_in Enable l = 0
 fault_in (Jump t) l = 0

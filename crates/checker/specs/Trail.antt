@@ -1,12 +1,12 @@
 -- The way back of reach/specs/Trail, listed as pairs, as the private functions state it. No promise of an exported function cites it. Assumes
 -- nothing.
-use Rattle.std.specs.Prelude.{ℕ, ◌*◌, ◌<◌, ◌≤◌, ◌≡◌, List, ◌++◌, map, length, drop, get_or}
+use Rattle.std.specs.Prelude.{ℕ, ◌*◌, ◌<◌, ◌≤◌, ◌≡◌, List, ◌++◌, map, length, drop, get_or, Result, Ok, Err}
 use Rattle.reach.specs.Trail.{Up, Ended}
 use Rattle.checker.specs.Marks.{Pair}
 use Rattle.checker.specs.Walk.{pair_of}
 use Rattle.checker.specs.Ways.{listed}
-use Rattle.checker.specs.declared.way.Listing.{Listing}
-use Rattle.checker.specs.declared.way.Listing.TheVariants.{Listed, BadMask, MaskPasses, BadList}
+use Rattle.refusals.specs.declared.Refusal.{Refusal}
+use Rattle.refusals.specs.declared.Refusal.TheVariants as R
 
 -- the pairs at places of the queue
 abbrev pub pairs_at : List ℕ → List ℕ → List Pair
@@ -30,8 +30,7 @@ pub record ShortOf (queue starts : List ℕ) (code : ℕ) (old : List ℕ) : Typ
   pub ended : Ended queue starts code count
   pub short : length old < 3 * count
 
-abbrev pub ListedTo : List ℕ → List ℕ → ℕ → List ℕ → List ℕ → Listing → Type 0
-ListedTo queue starts code old new (Listed n) = ListsTo queue starts code n old new
-ListedTo queue starts code old new BadMask = ⊥
-ListedTo queue starts code old new MaskPasses = ⊥
-ListedTo queue starts code old new BadList = ShortOf queue starts code old × (new ≡ old)
+abbrev pub ListedTo : List ℕ → List ℕ → ℕ → List ℕ → List ℕ → Result ℕ Refusal → Type 0
+ListedTo queue starts code old new (Ok n) = ListsTo queue starts code n old new
+ListedTo queue starts code old new (Err R.List) = ShortOf queue starts code old × (new ≡ old)
+ListedTo queue starts code old new (Err _) = ⊥

@@ -1,11 +1,14 @@
 -- What the checker writes and answers. Assumes nothing.
-use Rattle.std.specs.Prelude.{ℕ, ◌+◌, ◌*◌, ◌/◌, ◌%◌, ◌^◌, ◌<◌, ◌≤◌, ◌≡◌, Bool, true, ◌&&◌, List, length, get_or, eqb, ltb}
+use Rattle.std.specs.Prelude.{ℕ, ◌+◌, ◌*◌, ◌/◌, ◌%◌, ◌^◌, ◌<◌, ◌≤◌, ◌≡◌, Bool, true, ◌&&◌, List, length, get_or, eqb, ltb, Result, Ok, Err}
 use Rattle.isa.specs.Choice.{pick}
 use Rattle.isa.specs.Code.{addresses}
 use Rattle.rom.specs.Fetching.{sized}
 use Rattle.checker.specs.Marks.{levels, Pair, pair, fault, Reached}
 use Rattle.checker.specs.declared.check.Verdict.{Verdict}
-use Rattle.checker.specs.declared.check.Verdict.TheVariants.{Passed, Failed, BadMask, BadMarks}
+use Rattle.checker.specs.declared.check.Verdict.TheVariants.{Passed, Failed}
+use Rattle.refusals.specs.Numbers as Numbers
+use Rattle.refusals.specs.declared.Refusal.{Refusal}
+use Rattle.refusals.specs.declared.Refusal.TheVariants as R
 
 -- "2: .. marks .. not .. 4,096": how many mark bytes there are
 abbrev pub marks_size : ℕ
@@ -43,25 +46,28 @@ pub record Written (mask old new : List ℕ) : Type 0 where
   pub marks-size : length old ≡ marks_size
   pub marked : Marked mask new
 
--- what each answer says of the mask, and of the marks at entry and at exit: document 01's numbers are 1 "mask not 4,096 bytes" and 2
--- "marks .. not .. 4,096", and then the marks are as they were
-abbrev pub Answers : List ℕ → List ℕ → List ℕ → Verdict → Type 0
-Answers mask old new Passed = Written mask old new × Safe mask
-Answers mask old new (Failed f a l) = Written mask old new × Lowest mask f a l
-Answers mask old new BadMask = (sized mask ≡ true → ⊥) × (new ≡ old)
-Answers mask old new BadMarks = (sized mask ≡ true) × (length old ≡ marks_size → ⊥) × (new ≡ old)
+-- what each refusal says: document 01's numbers are 1 "mask not 4,096 bytes" and 2 "marks .. not .. 4,096"
+abbrev pub Refused : List ℕ → List ℕ → Refusal → Type 0
+Refused mask marks R.Mask = sized mask ≡ true → ⊥
+Refused mask marks R.Buffer = (sized mask ≡ true) × (length marks ≡ marks_size → ⊥)
+Refused mask marks _ = ⊥
+
+-- what each answer says of the mask, and of the marks at entry and at exit: on a refusal the marks are as they were
+abbrev pub Answers : List ℕ → List ℕ → List ℕ → Result Verdict Refusal → Type 0
+Answers mask old new (Ok Passed) = Written mask old new × Safe mask
+Answers mask old new (Ok (Failed f a l)) = Written mask old new × Lowest mask f a l
+Answers mask old new (Err r) = Refused mask old r × (new ≡ old)
 
 -- the answer and the marks depend on the mask and the marks at entry alone
 abbrev pub AnswersDetermine : Type 0
 AnswersDetermine =
-    (mask old new other : List ℕ) (v w : Verdict) → Answers mask old new v → Answers mask old other w → (v ≡ w) × (new ≡ other)
+    (mask old new other : List ℕ) (v w : Result Verdict Refusal) → Answers mask old new v → Answers mask old other w → (v ≡ w) × (new ≡ other)
 
 -- the paper's number of each answer, 0 for an answer that is not refused
-abbrev pub number_of : Verdict → ℕ
-number_of Passed = 0
-number_of (Failed f a l) = 0
-number_of BadMask = 1
-number_of BadMarks = 2
+abbrev pub number_of : Result Verdict Refusal → ℕ
+number_of (Ok Passed) = 0
+number_of (Ok (Failed f a l)) = 0
+number_of (Err r) = Numbers.number_of r
 
 -- "1: mask not 4,096 bytes"; "2: .. marks .. not .. 4,096"; the lowest number wins
 abbrev pub check_refusal : List ℕ → List ℕ → ℕ

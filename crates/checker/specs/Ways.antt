@@ -1,14 +1,14 @@
 -- Document 02, wish 2, "The way to a forbidden place": what is listed, and what each answer says. "Which of several is free", so a listed chain
 -- is held to a relation; the answer and the count are determined. Assumes nothing.
-use Rattle.std.specs.Prelude.{ℕ, ◌*◌, ◌/◌, ◌%◌, ◌<◌, ◌≤◌, ◌≡◌, true, cond, List, [], ◌∷◌, ◌++◌, eqb, length, drop}
+use Rattle.std.specs.Prelude.{ℕ, ◌*◌, ◌/◌, ◌%◌, ◌<◌, ◌≤◌, ◌≡◌, true, cond, List, [], ◌∷◌, ◌++◌, eqb, length, drop, Result, Ok, Err}
 use Rattle.isa.specs.Code.{addresses}
 use Rattle.rom.specs.Fetching.{Bytes, sized}
 use Rattle.reach.specs.Chains.{Shortest}
 use Rattle.checker.specs.Marks.{levels, Pair, pair, successors}
 use Rattle.checker.specs.Verdicts.{Lowest, Safe, Answers}
 use Rattle.checker.specs.declared.check.Verdict.TheVariants.{Failed}
-use Rattle.checker.specs.declared.way.Listing.{Listing}
-use Rattle.checker.specs.declared.way.Listing.TheVariants.{Listed, BadMask, MaskPasses, BadList}
+use Rattle.refusals.specs.Numbers.{number_of}
+use Rattle.refusals.specs.declared.Refusal.{Refusal}
 
 -- "three bytes a pair (address low byte first, level)"
 unfoldable pub listed : List Pair → List ℕ
@@ -40,18 +40,14 @@ pub record TooShort (mask old : List ℕ) : Type 0 where
   pub short : length old < 3 * length chain
 
 -- the paper's number of each answer, 0 for an answer that is not refused
-abbrev pub way_refusal : Listing → ℕ
-way_refusal (Listed n) = 0
-way_refusal BadMask = 1
-way_refusal MaskPasses = 10
-way_refusal BadList = 11
+abbrev pub way_refusal : Result ℕ Refusal → ℕ
+way_refusal (Ok n) = 0
+way_refusal (Err r) = number_of r
 
 -- and its value, "its count of pairs": 0 beside a refusal
-abbrev pub way_count : Listing → ℕ
-way_count (Listed n) = n
-way_count BadMask = 0
-way_count MaskPasses = 0
-way_count BadList = 0
+abbrev pub way_count : Result ℕ Refusal → ℕ
+way_count (Ok n) = n
+way_count (Err r) = 0
 
 -- what each refusal says: document 01's "1: mask not 4,096 bytes"; "10 if the mask passes, after 1; 11 if the list is too short, after 10"
 abbrev pub WayRefused : List ℕ → List ℕ → ℕ → Type 0
@@ -60,19 +56,19 @@ WayRefused mask old n =
 
 -- what each answer says, by its number, of the mask and of the list at entry and at exit: 0, that so many pairs are listed; after a refusal the list
 -- is as it was. "Which of several is free": the bytes listed are those of some shortest chain
-abbrev pub WayAnswers : List ℕ → List ℕ → List ℕ → Listing → Type 0
+abbrev pub WayAnswers : List ℕ → List ℕ → List ℕ → Result ℕ Refusal → Type 0
 WayAnswers mask old new v =
     cond (eqb (way_refusal v) 0) (Lists mask old new (way_count v)) (WayRefused mask old (way_refusal v) × (new ≡ old))
 
 -- the answer, its count with it, depends on the mask and the list at entry alone
 abbrev pub WayDetermines : Type 0
 WayDetermines =
-    (mask old new other : List ℕ) (v w : Listing) → WayAnswers mask old new v → WayAnswers mask old other w → v ≡ w
+    (mask old new other : List ℕ) (v w : Result ℕ Refusal) → WayAnswers mask old new v → WayAnswers mask old other w → v ≡ w
 
 -- the way leads to the pair that the checker's verdict names
 abbrev pub WayToVerdict : Type 0
 WayToVerdict =
-    (mask old new : List ℕ) (f a l : ℕ) (chain : List Pair) → Answers mask old new (Failed f a l) → Way mask chain
+    (mask old new : List ℕ) (f a l : ℕ) (chain : List Pair) → Answers mask old new (Ok (Failed f a l)) → Way mask chain
     → Shortest (successors mask) (pair 0 0) chain (pair a l)
 
 -- a shortest chain has each pair once, so at most 12,288 pairs; a list of three bytes for each is never too short

@@ -1,6 +1,6 @@
 // What the instruction at a pair says of it. A pair's code is three times its address, and its level added: 0 to 12,287.
 ghost use Rattle.std.specs.Prelude.{◌≡◌};
-ghost use Rattle.checker.specs.Walk.{Faults, codes_of, fault_at, next_codes};
+ghost use Rattle.checker.specs.Walk.{Faults, codes_in, fault_at, next_codes};
 
 use crate::flow::{Flow, flow_by};
 use rom::reader::{code_at, moved_by};
@@ -14,18 +14,16 @@ const EDGE: u16 = 8 * 3 + 2;
 // The codes of a pair's successors.
 #[derive(Clone, Copy)]
 pub enum Codes {
-    // None: the pair is forbidden. Its fault.
-    Forbidden(u8),
-    // None: a return.
+    // A return's.
     Nothing,
     One(u16),
     Two(u16, u16),
     Three(u16, u16, u16),
 }
 
-// The successors of a pair, or its fault. Nothing stands between the tests of the length and those of the flow, which are the same.
-pub(crate) fn next_codes(mask: &[u8], code: u16) -> Codes
-    ensures result_value { codes_of result ≡ next_codes mask.now code }
+// The successors of a pair, or the fault of a forbidden one. Nothing stands between the tests of the length and those of the flow, which are the same.
+pub(crate) fn next_codes(mask: &[u8], code: u16) -> Result<Codes, u8>
+    ensures result_value { codes_in result ≡ next_codes mask.now code }
     ensures faults { Faults result (fault_at mask.now code) }
 {
     let address = code / 3;
@@ -34,29 +32,29 @@ pub(crate) fn next_codes(mask: &[u8], code: u16) -> Codes
     let size = length(bytes.first);
     let flow = flow_by(bytes.first, bytes.second);
     match flow {
-        Flow::Unread => Codes::Forbidden(1),
-        Flow::On => Codes::One(moved_by(address, size) * 3 + level),
-        Flow::Enable => Codes::Three(moved_by(address, size) * 3 + level, TIMER, EDGE),
-        Flow::Jump(t) => Codes::One(t.0 * 3 + level),
+        Flow::Unread => Err(1),
+        Flow::On => Ok(Codes::One(moved_by(address, size) * 3 + level)),
+        Flow::Enable => Ok(Codes::Three(moved_by(address, size) * 3 + level, TIMER, EDGE)),
+        Flow::Jump(t) => Ok(Codes::One(t.0 * 3 + level)),
         Flow::To(t) => {
             let moved = moved_by(address, size);
-            Codes::Two(
+            Ok(Codes::Two(
                 moved * 3 + level,
                 (moved / 2048 * 2048 + t.0 % 2048) * 3 + level,
-            )
+            ))
         }
         Flow::Sub(t) => {
             if level == 0 {
-                Codes::Two(t.0 * 3 + 1, moved_by(address, size) * 3)
+                Ok(Codes::Two(t.0 * 3 + 1, moved_by(address, size) * 3))
             } else {
-                Codes::Forbidden(2)
+                Err(2)
             }
         }
         Flow::Back => {
             if level == 0 {
-                Codes::Forbidden(3)
+                Err(3)
             } else {
-                Codes::Nothing
+                Ok(Codes::Nothing)
             }
         }
     }

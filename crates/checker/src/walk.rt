@@ -1,8 +1,8 @@
-// The walk over the pairs that chains from the start reach, each taken once, in the order in which they were found.
-ghost use Rattle.std.specs.Prelude.{◌≡◌, ◌<◌, replicate};
+// The walk over the pairs that a mask may run.
+ghost use Rattle.std.specs.Prelude.{◌≡◌, ◌<◌, ◌≤◌, get_or, replicate};
 ghost use Rattle.reach.specs.Trail.{Traced};
-ghost use Rattle.reach.specs.Walk.{Found, Names, Room, Small, pushed, pushed_all, work};
-ghost use Rattle.checker.specs.Walk.{codes_of, fault_at, lowered, next_codes, pairs};
+ghost use Rattle.reach.specs.Walk.{Found, Room, Small, pushed, pushed_all, work};
+ghost use Rattle.checker.specs.Walk.{NamesOf, codes_of, lowered, next_codes, pairs};
 
 use crate::next::{Codes, next_codes};
 use isa::ADDRESSES;
@@ -10,104 +10,111 @@ use isa::ADDRESSES;
 // How many pairs there are, and codes of them: an address in three levels.
 pub(crate) const PAIRS: usize = ADDRESSES as usize * 3;
 
-// What is named where no pair is forbidden: no pair's code.
-pub(crate) const NO_PAIR: u16 = PAIRS as u16;
-
-// A code that is not found yet goes to the queue's end. Returns how many are found.
-fn push(seen: &mut [u8; PAIRS], queue: &mut [u16; PAIRS], tail: u16, code: u16) -> u16
-    requires code_lt_pairs { code < pairs }
-    requires room { Room pairs seen.old tail }
-    ensures { work seen.new queue.new result ≡ pushed (work seen.old queue.old tail) code }
-{
-    let at = code as usize;
-    if seen[at] != 0 {
-        return tail;
-    }
-    let end = tail as usize;
-    seen[at] = 1;
-    queue[end] = code;
-    tail + 1
-}
-
-// Each of these codes that is not found yet goes to the queue's end.
-fn push_all(seen: &mut [u8; PAIRS], queue: &mut [u16; PAIRS], tail: u16, codes: Codes) -> u16
-    requires small { Small pairs (codes_of codes) }
-    requires room { Room pairs seen.old tail }
-    ensures { work seen.new queue.new result ≡ pushed_all (work seen.old queue.old tail) (codes_of codes) }
-{
-    match codes {
-        Codes::Forbidden(_) => tail,
-        Codes::Nothing => tail,
-        Codes::One(a) => push(seen, queue, tail, a),
-        Codes::Two(a, b) => {
-            let one = push(seen, queue, tail, a);
-            push(seen, queue, one, b)
-        }
-        Codes::Three(a, b, c) => {
-            let one = push(seen, queue, tail, a);
-            let two = push(seen, queue, one, b);
-            push(seen, queue, two, c)
-        }
-    }
-}
-
-// A forbidden code and its fault; `NO_PAIR` where there is none.
+// A forbidden code and its fault, by document 01's number, which the machine's status and the hosts have too.
 #[derive(Clone, Copy)]
 pub struct Named {
     pub code: u16,
     pub fault: u8,
 }
 
-// The lower of what is named and this code, if it is forbidden.
-fn lower(named: Named, code: u16, codes: Codes) -> Named
-    ensures { result ≡ lowered named code codes }
+// The lower of what is named, if anything is, and this forbidden code.
+fn lower(named: Option<Named>, code: u16, fault: u8) -> Named
+    ensures { result ≡ lowered named code fault }
 {
-    match codes {
-        Codes::Forbidden(fault) => {
-            if code < named.code {
-                Named {
-                    code: code,
-                    fault: fault,
-                }
-            } else {
-                named
-            }
-        }
-        Codes::Nothing => named,
-        Codes::One(_) => named,
-        Codes::Two(_, _) => named,
-        Codes::Three(_, _, _) => named,
+    match named {
+        Some(lowest) if lowest.code <= code => lowest,
+        _ => Named {
+            code: code,
+            fault: fault,
+        },
     }
 }
 
-// The walk. It leaves a flag for each code, 1 where chains from the start, code 0, reach its pair; the codes found, in their order; and for each
-// of their places how many were found when its turn came, which is all that the way back needs. It returns the lowest forbidden code.
-pub(crate) fn walk(
-    mask: &[u8],
-    seen: &mut [u8; PAIRS],
-    queue: &mut [u16; PAIRS],
-    starts: &mut [u16; PAIRS],
-) -> Named
-    requires { (seen.old ≡ replicate pairs 0) × (queue.old ≡ replicate pairs 0) × (starts.old ≡ replicate pairs 0) }
-    ensures found { Found pairs (next_codes mask.now) seen.new }
-    ensures traced { Traced pairs (next_codes mask.now) seen.new queue.new starts.new }
-    ensures names { Names pairs (fault_at mask.now) seen.new result.code result.fault }
-{
-    seen[0] = 1;
-    let mut head: u16 = 0;
-    let mut tail: u16 = 1;
-    let mut named = Named {
-        code: NO_PAIR,
-        fault: 0,
-    };
-    while head < tail {
-        let at = head as usize;
-        starts[at] = tail;
-        let code = queue[at];
-        let codes = next_codes(mask, code);
-        named = lower(named, code, codes);
-        tail = push_all(seen, queue, tail, codes);
-        head += 1;
+// What the walk finds.
+#[derive(Drop)]
+pub(crate) struct Walk {
+    // A flag for each code, 1 where chains from the start, code 0, reach its pair.
+    pub(crate) seen: [u8; PAIRS],
+    // The codes found, in the order in which they were found.
+    pub(crate) queue: [u16; PAIRS],
+    // For each of their places how many were found when its turn came, which is all that the way back needs.
+    pub(crate) starts: [u16; PAIRS],
+    ghost opens: { get_or starts 0 0 ≤ 1 },
+}
+
+impl Walk {
+    pub(crate) fn new() -> Walk
+        ensures { (result.seen ≡ replicate pairs 0) × (result.queue ≡ replicate pairs 0) × (result.starts ≡ replicate pairs 0) }
+    {
+        Walk {
+            seen: [0; PAIRS],
+            queue: [0; PAIRS],
+            starts: [0; PAIRS],
+        }
     }
-    named
+
+    // A code that is not found yet goes to the queue's end. Returns how many are found.
+    fn push(&mut self, tail: u16, code: u16) -> u16
+        requires code_lt_pairs { code < pairs }
+        requires room { Room pairs self.old.seen tail }
+        ensures found { work self.new.seen self.new.queue result ≡ pushed (work self.old.seen self.old.queue tail) code }
+        ensures starts_kept { self.new.starts ≡ self.old.starts }
+    {
+        let at = code as usize;
+        if self.seen[at] != 0 {
+            return tail;
+        }
+        let end = tail as usize;
+        self.seen[at] = 1;
+        self.queue[end] = code;
+        tail + 1
+    }
+
+    // Each of these codes that is not found yet goes to the queue's end.
+    fn push_all(&mut self, tail: u16, codes: Codes) -> u16
+        requires small { Small pairs (codes_of codes) }
+        requires room { Room pairs self.old.seen tail }
+        ensures found { work self.new.seen self.new.queue result ≡ pushed_all (work self.old.seen self.old.queue tail) (codes_of codes) }
+        ensures starts_kept { self.new.starts ≡ self.old.starts }
+    {
+        match codes {
+            Codes::Nothing => tail,
+            Codes::One(a) => self.push(tail, a),
+            Codes::Two(a, b) => {
+                let one = self.push(tail, a);
+                self.push(one, b)
+            }
+            Codes::Three(a, b, c) => {
+                let one = self.push(tail, a);
+                let two = self.push(one, b);
+                self.push(two, c)
+            }
+        }
+    }
+
+    // The walk over the pairs that chains from the start reach, each taken once, in the order in which they were found. Returns the lowest forbidden
+    // code, if there is one.
+    pub(crate) fn run(&mut self, mask: &[u8]) -> Option<Named>
+        requires { (self.old.seen ≡ replicate pairs 0) × (self.old.queue ≡ replicate pairs 0) × (self.old.starts ≡ replicate pairs 0) }
+        ensures found { Found pairs (next_codes mask.now) self.new.seen }
+        ensures traced { Traced pairs (next_codes mask.now) self.new.seen self.new.queue self.new.starts }
+        ensures names { NamesOf mask.now self.new.seen result }
+    {
+        self.seen[0] = 1;
+        let mut head: u16 = 0;
+        let mut tail: u16 = 1;
+        let mut named: Option<Named> = None;
+        // No `for`: the queue grows as it is walked.
+        while head < tail {
+            let at = head as usize;
+            self.starts[at] = tail;
+            let code = self.queue[at];
+            head += 1;
+            match next_codes(mask, code) {
+                Ok(codes) => tail = self.push_all(tail, codes),
+                Err(fault) => named = Some(lower(named, code, fault)),
+            }
+        }
+        named
+    }
 }

@@ -2,6 +2,7 @@
 -- remainder, a nibble made of bits, a value of the machine in the same range, the AND, OR or XOR of two nibbles, half of a byte, two
 -- nibbles put together, or a field of the instruction; and `sound` says that the fields of what two bytes read as are in range. A step
 -- changes only a machine with neither halt nor fault, and sets at most one of the two, so that it never halts with a fault. Assumes nothing.
+use Rattle.std.specs.Prelude.{Option, Some, None}
 use Rattle.std.proofs.Common.{◌≡◌, ℕ, ◌+◌, ◌*◌, ◌/◌, ◌%◌, ◌^◌, ◌<◌, Bool, true, false, ◌&&◌, ◌||◌, eqb, ltb, List, refl, arith, ltb-true, eqb-true}
 use lib.Bits.{and_lt, or_lt, xor_lt}
 use borrow.Author.Tests.{not-false}
@@ -10,8 +11,6 @@ use Rattle.rom.specs.Fetching.{Bytes, branch_to, read_at}
 use Rattle.rom.proofs.Fetching.{read-fields}
 use Rattle.isa.specs.Code.{addresses, in_range}
 use Rattle.isa.specs.declared.ProgramAddress.{ProgramAddress}
-use Rattle.isa.specs.declared.decoder.Decoded.{Decoded}
-use Rattle.isa.specs.declared.decoder.Decoded.TheVariants.{Read, Unreadable}
 use Rattle.isa.specs.declared.Pointer.{Pointer}
 use Rattle.isa.specs.declared.Pointer.TheVariants.{R1R0, R3R2}
 use Rattle.isa.specs.declared.Port.{Port}
@@ -260,10 +259,10 @@ module _ (mask : List ℕ) (s : State) (b : Bytes mask) (v : Valid s) where
         (record { cpu = ticked-in w.cpu n; memory = w.memory })
         (record { cpu = fault-in v.cpu t.cpu.status.fault e w.cpu.status.fault; memory = v.memory })
 
-    instructed-valid : (d : Decoded) (l n : ℕ) → read_at mask s.cpu.control.pc.0 ≡ d → Valid (instructed mask d l n s)
-    instructed-valid (Read i) l n q =
+    instructed-valid : (d : Option Instruction) (l n : ℕ) → read_at mask s.cpu.control.pc.0 ≡ d → Valid (instructed mask d l n s)
+    instructed-valid (Some i) l n q =
         settled-valid n _ (effect-valid mask (on_cpu (moved l) s) b (record { cpu = moved_in v.cpu l; memory = v.memory }) e f i (read-fields mask s.cpu.control.pc.0 b i q))
-    instructed-valid Unreadable l n q = record { cpu = fault-in v.cpu 1 e (omega arith); memory = v.memory }
+    instructed-valid None l n q = record { cpu = fault-in v.cpu 1 e (omega arith); memory = v.memory }
 
     executed-valid : Valid (executed mask s)
     unfolding executed

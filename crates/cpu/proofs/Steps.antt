@@ -1,6 +1,7 @@
 -- What the proofs of one step share, on definitions alone: a faulting instruction sets the fault alone, and what the code at the
 -- PC, read and timed, makes of a step. Assumes nothing.
-use Rattle.std.proofs.Common.{◌≡◌, ℕ, ◌+◌, ◌%◌, ◌^◌, ◌<◌, Bool, true, false, eqb, List, sym, refl, ap, ◌∙◌, subst, ap₂, inl, inr, arith, eq-eqb, ne_eqb}
+use Rattle.std.specs.Prelude.{Option, Some}
+use Rattle.std.proofs.Common.{◌≡◌, ℕ, ◌+◌, ◌%◌, ◌^◌, ◌<◌, Bool, true, false, eqb, List, [], sym, refl, ap, ◌∙◌, subst, ap₂, inl, inr, arith, eq-eqb, ne_eqb}
 use Rattle.isa.specs.Choice.{pick}
 use Rattle.rom.specs.Fetching.{code_at, read_at, length_at, cycles_at, moved_by}
 use Rattle.rom.specs.declared.reader.Code.{Code}
@@ -8,15 +9,13 @@ use Rattle.rom.proofs.Fetching.{read-there, length-code, cycles-code}
 use Rattle.isa.specs.Reading.{Reading}
 use Rattle.isa.specs.Timing.{Columns, columns_of, columns_at}
 use Rattle.isa.specs.Views.{View, on, jmp, branch, call, ret, reti, ei, view}
-use Rattle.isa.specs.declared.decoder.Decoded.{Decoded}
-use Rattle.isa.specs.declared.decoder.Decoded.TheVariants.{Read}
 use Rattle.isa.proofs.Exact.{timed as timed-at}
 use Rattle.isa.specs.declared.ProgramAddress.{ProgramAddress}
 use Rattle.isa.specs.declared.Instruction.{Instruction}
 use Rattle.datapath.specs.Timer.{clocks, counted}
 use Rattle.cpu.specs.State.{State, state, on_cpu, address, with_pc, with_cf, with_tf, with_held, with_level, with_stack, with_fault, with_cycles}
 use Rattle.cpu.specs.Effect.{called, returned, returned_with_carry, effect}
-use Rattle.cpu.specs.Step.{timed, ticked, entered, moved, settled, instructed, executed, vector_of, stepped, step}
+use Rattle.cpu.specs.Step.{timed, ticked, entered, moved, settled, instructed, executed, vector_of, stepped, stopped, step}
 use Rattle.cpu.specs.declared.Cpu.{Cpu}
 use Rattle.cpu.proofs.Leaves.{standing, Leaves, leaves}
 
@@ -80,33 +79,33 @@ finished mask i s t l n {r} e z p =
     ∙ rw (eq-eqb (effect mask i (on_cpu (moved l) s)).cpu.status.fault 0 (ap (λ (x : State). x.cpu.status.fault) (sym e) ∙ z)) refl
 
 -- the code at the PC: what it reads as, and what that does
-module _ (mask : List ℕ) (s : State) (k : Code) (d : Decoded) (at : k ≡ code_at mask s.cpu.control.pc.0) (h : k.second < 256) (r : Reading k.first k.second d) where
+module _ (mask : List ℕ) (s : State) (k : Code) (d : Option Instruction) (at : k ≡ code_at mask s.cpu.control.pc.0) (h : k.second < 256) (r : Reading k.first k.second d) where
   abbrev pc : ℕ
   pc = s.cpu.control.pc.0
 
   pub read : d ≡ read_at mask pc
   read = read-there mask pc k at h d r
 
-  columns-first : (i : Instruction) → d ≡ Read i → columns_of i ≡ columns_at (code_at mask pc).first
+  columns-first : (i : Instruction) → d ≡ Some i → columns_of i ≡ columns_at (code_at mask pc).first
   columns-first i e = sym ((timed-at k.first).read k.second i h (subst (Reading k.first k.second) e r)) ∙ ap (λ (k : Code). columns_at k.first) at
 
   -- length and cycles by what was read are those of the code
-  pub size-read : (i : Instruction) → d ≡ Read i → (columns_of i).bytes ≡ length_at mask pc
+  pub size-read : (i : Instruction) → d ≡ Some i → (columns_of i).bytes ≡ length_at mask pc
   size-read i e = ap (λ (c : Columns). c.bytes) (columns-first i e) ∙ length-code mask pc
 
-  pub cycles-read : (i : Instruction) → d ≡ Read i → (columns_of i).cycles ≡ cycles_at mask pc
+  pub cycles-read : (i : Instruction) → d ≡ Some i → (columns_of i).cycles ≡ cycles_at mask pc
   cycles-read i e = ap (λ (c : Columns). c.cycles) (columns-first i e) ∙ cycles-code mask pc
 
   pub fetched : instructed mask d (length_at mask pc) (cycles_at mask pc) s ≡ executed mask s
   unfolding executed
-  fetched = ap (λ (d : Decoded). instructed mask d (length_at mask pc) (cycles_at mask pc) s) read
+  fetched = ap (λ (d : Option Instruction). instructed mask d (length_at mask pc) (cycles_at mask pc) s) read
 
 -- the whole instruction, at the two ways out that the code has behind its effect, t
 pub record Ended (mask : List ℕ) (s t : State) : Type 0 where
   pub in-fault : s.cpu.status.fault ≡ 0 → (t.cpu.status.fault ≡ 0 → ⊥) → state (with_pc (address s.cpu.control.pc.0) t.cpu) t.memory ≡ executed mask s
   pub in-time : {r : Cpu} (n : ℕ) → t.cpu.status.fault ≡ 0 → n ≡ cycles_at mask s.cpu.control.pc.0 → r ≡ ticked n t.cpu → state r t.memory ≡ executed mask s
 
-pub whole : (mask : List ℕ) (s t : State) (i : Instruction) (d : Decoded) (n to : ℕ) → d ≡ Read i
+pub whole : (mask : List ℕ) (s t : State) (i : Instruction) (d : Option Instruction) (n to : ℕ) → d ≡ Some i
     → instructed mask d (length_at mask s.cpu.control.pc.0) (cycles_at mask s.cpu.control.pc.0) s ≡ executed mask s
     → n ≡ length_at mask s.cpu.control.pc.0 → to ≡ moved_by n s.cpu.control.pc.0 → t ≡ effect mask i (state (with_pc (address to) s.cpu) s.memory) → Ended mask s t
 whole mask s t i d n to known at size went done =
@@ -114,7 +113,7 @@ whole mask s t i d n to known at size went done =
     let m = cycles_at mask s.cpu.control.pc.0 in
     let there : to ≡ moved_by l s.cpu.control.pc.0 = went ∙ ap (λ (n : ℕ). moved_by n s.cpu.control.pc.0) size in
     let reached : t ≡ effect mask i (on_cpu (moved l) s) = done ∙ ap (λ (a : ℕ). effect mask i (state (with_pc (address a) s.cpu) s.memory)) there in
-    let all : settled m s (effect mask i (on_cpu (moved l) s)) ≡ executed mask s = ap (λ (d : Decoded). instructed mask d l m s) (sym known) ∙ at in
+    let all : settled m s (effect mask i (on_cpu (moved l) s)) ≡ executed mask s = ap (λ (d : Option Instruction). instructed mask d l m s) (sym known) ∙ at in
     record {
       in-fault = λ z f. faulted mask i s t l m reached z f ∙ all;
       in-time = λ {r} n z q p. finished mask i s t l m reached z (p ∙ ap (λ (n : ℕ). ticked n t.cpu) q) ∙ all;
@@ -129,15 +128,18 @@ pub still : (n x : ℕ) (c : Cpu) → (c.timer.running ≡ 1 → ⊥) → x ≡ 
 unfolding ticked
 still n x c e p = ap (λ (y : ℕ). with_cycles y c) p ∙ rw (ne_eqb c.timer.running 1 e) refl
 
+-- a stopped processor, by the tests of the code
+pub stopped-halted : (c : Cpu) → (c.status.halted ≡ 0 → ⊥) → stopped (state c []) ≡ true
+stopped-halted c h = rw (ne_eqb c.status.halted 0 h) refl
+
+pub stopped-faulted : (c : Cpu) → c.status.halted ≡ 0 → (c.status.fault ≡ 0 → ⊥) → stopped (state c []) ≡ true
+stopped-faulted c h f = rw (eq-eqb c.status.halted 0 h, ne_eqb c.status.fault 0 f) refl
+
 -- ---- one step, by the tests of the code
 module _ (mask : List ℕ) (s : State) where
-  pub halted-stops : (s.cpu.status.halted ≡ 0 → ⊥) → s ≡ step mask s
+  pub stops : stopped s ≡ true → s ≡ step mask s
   unfolding step
-  halted-stops h = rw (ne_eqb s.cpu.status.halted 0 h) refl
-
-  pub fault-stops : s.cpu.status.halted ≡ 0 → (s.cpu.status.fault ≡ 0 → ⊥) → s ≡ step mask s
-  unfolding step
-  fault-stops h f = rw (eq-eqb s.cpu.status.halted 0 h, ne_eqb s.cpu.status.fault 0 f) refl
+  stops e = rw e refl
 
   going : s.cpu.status.halted ≡ 0 → s.cpu.status.fault ≡ 0 → stepped mask s ≡ step mask s
   unfolding step

@@ -1,5 +1,6 @@
 -- What an instruction, a step and a Run count of the gap, on definitions alone: one that faults makes no access, one that does not makes those of
 -- what was read, and a step counts where it runs one. Assumes nothing.
+use Rattle.std.specs.Prelude.{Option, Some}
 use Rattle.std.proofs.Common.{◌≡◌, ℕ, zero, suc, ◌+◌, ◌-◌, ◌<◌, Bool, true, false, ◌&&◌, eqb, List, [], ◌∷◌, map, sym, refl, ap, ◌∙◌, subst, ap₂, arith, eq-eqb, ne_eqb}
 use Rattle.isa.specs.Choice.{pick}
 use Rattle.isa.specs.Views.{View, on, jmp, branch, call, ret, reti, ei, view}
@@ -8,15 +9,13 @@ use Rattle.isa.specs.declared.ProgramAddress.{ProgramAddress}
 use Rattle.isa.specs.declared.Pointer.{Pointer}
 use Rattle.isa.specs.declared.Pointer.TheVariants.{R1R0, R3R2}
 use Rattle.isa.specs.declared.Instruction.{Instruction}
-use Rattle.isa.specs.declared.decoder.Decoded.{Decoded}
-use Rattle.isa.specs.declared.decoder.Decoded.TheVariants.{Read}
 use Rattle.rom.specs.Fetching.{read_at}
 use Rattle.datapath.specs.Memory.{strays, tallied}
 use Rattle.datapath.proofs.Tally.{tallied-add}
 use Rattle.cpu.specs.State.{State, with_pc}
 use Rattle.cpu.specs.Effect.{place_of, effect}
 use Rattle.cpu.specs.Gap.{pointers, accesses, accesses_of, strays_at, strays_by, strays_in}
-use Rattle.cpu.specs.Step.{executed, vector_of, step}
+use Rattle.cpu.specs.Step.{executed, stopped, vector_of, step}
 use Rattle.cpu.specs.Run.{yielded}
 use Rattle.cpu.specs.declared.Cpu.{Cpu}
 use Rattle.cpu.proofs.Leaves.{standing, Leaves, leaves}
@@ -51,21 +50,17 @@ module _ (mask : List ℕ) (s : State) (count : ℕ) {t : State} (e : t ≡ exec
   unfolding strays_at tallied
   uncounted f = rw (ne_eqb (executed mask s).cpu.status.fault 0 (λ z. f (ap (λ (x : State). x.cpu.status.fault) e ∙ z))) refl
 
-  pub counted : t.cpu.status.fault ≡ 0 → (i : Instruction) → Read i ≡ read_at mask s.cpu.control.pc.0 → tallied count (strays (accesses i s.cpu)) ≡ tallied count (strays_at mask s)
+  pub counted : t.cpu.status.fault ≡ 0 → (i : Instruction) → Some i ≡ read_at mask s.cpu.control.pc.0 → tallied count (strays (accesses i s.cpu)) ≡ tallied count (strays_at mask s)
   unfolding strays_at
   counted z i r =
-      ap (λ (d : Decoded). tallied count (strays (accesses_of d s.cpu))) r
+      ap (λ (d : Option Instruction). tallied count (strays (accesses_of d s.cpu))) r
       ∙ rw (eq-eqb (executed mask s).cpu.status.fault 0 (ap (λ (x : State). x.cpu.status.fault) (sym e) ∙ z)) refl
 
 -- ---- one step, by the tests of the code
 module _ (mask : List ℕ) (s : State) (count : ℕ) where
-  pub halted-counts-none : (s.cpu.status.halted ≡ 0 → ⊥) → count ≡ tallied count (strays_by mask s)
+  pub still-counts-none : stopped s ≡ true → count ≡ tallied count (strays_by mask s)
   unfolding strays_by tallied
-  halted-counts-none h = rw (ne_eqb s.cpu.status.halted 0 h) refl
-
-  pub fault-counts-none : s.cpu.status.halted ≡ 0 → (s.cpu.status.fault ≡ 0 → ⊥) → count ≡ tallied count (strays_by mask s)
-  unfolding strays_by tallied
-  fault-counts-none h f = rw (eq-eqb s.cpu.status.halted 0 h, ne_eqb s.cpu.status.fault 0 f) refl
+  still-counts-none e = rw e refl
 
   module _ (h : s.cpu.status.halted ≡ 0) (f : s.cpu.status.fault ≡ 0) where
     pub interrupt-counts-none : (vector_of s.cpu ≡ 0 → ⊥) → count ≡ tallied count (strays_by mask s)

@@ -1,14 +1,12 @@
 -- Document 02, wish 6: "Every data read and write shall also tell whether it fell in the gap, and the machine counts such accesses". Which data
 -- accesses an instruction makes, and how many of a step's, and of a Run's, fall in the gap. No number here has a limit. Assumes nothing.
-use Rattle.std.specs.Prelude.{ℕ, ◌+◌, List, [], ◌∷◌, map, ◌==◌}
+use Rattle.std.specs.Prelude.{ℕ, ◌+◌, List, [], ◌∷◌, map, ◌==◌, Option, Some, None}
 use Rattle.isa.specs.Choice.{pick}
 use Rattle.isa.specs.declared.DataAddress.{DataAddress}
 use Rattle.isa.specs.declared.Pointer.{Pointer}
 use Rattle.isa.specs.declared.Pointer.TheVariants.{R1R0}
 use Rattle.isa.specs.declared.Instruction.{Instruction}
 use Rattle.isa.specs.declared.Instruction.TheVariants as I
-use Rattle.isa.specs.declared.decoder.Decoded.{Decoded}
-use Rattle.isa.specs.declared.decoder.Decoded.TheVariants.{Read, Unreadable}
 use Rattle.rom.specs.Fetching.{read_at}
 use Rattle.datapath.specs.Memory.{strays}
 use Rattle.cpu.specs.State.{State}
@@ -87,9 +85,9 @@ abbrev pub accesses : Instruction → Cpu → List DataAddress
 accesses i c = map (λ (p : Pointer). place_of p c) (pointers i)
 
 -- those of what stands at the PC
-abbrev pub accesses_of : Decoded → Cpu → List DataAddress
-accesses_of (Read i) c = accesses i c
-accesses_of Unreadable c = []
+abbrev pub accesses_of : Option Instruction → Cpu → List DataAddress
+accesses_of (Some i) c = accesses i c
+accesses_of None c = []
 
 -- an instruction that runs: "a refused or faulting instruction none"
 unfoldable pub strays_at : List ℕ → State → ℕ

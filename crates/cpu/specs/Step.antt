@@ -1,10 +1,9 @@
 -- Document 01, "One step, and events": one step. Assumes nothing.
-use Rattle.std.specs.Prelude.{ℕ, ◌+◌, ◌%◌, ◌^◌, Bool, not, ◌&&◌, List, ◌==◌}
+use Rattle.std.specs.Prelude.{ℕ, ◌+◌, ◌%◌, ◌^◌, Bool, not, ◌&&◌, List, ◌==◌, Option, Some, None}
+use Rattle.isa.specs.declared.Instruction.{Instruction}
 use Rattle.isa.specs.Choice.{pick}
 use Rattle.isa.specs.Reading.{fault_number}
 use Rattle.rom.specs.Fetching.{read_at, length_at, cycles_at, moved_by}
-use Rattle.isa.specs.declared.decoder.Decoded.{Decoded}
-use Rattle.isa.specs.declared.decoder.Decoded.TheVariants.{Read, Unreadable}
 use Rattle.datapath.specs.Timer.{clocks, counted}
 use Rattle.datapath.specs.declared.timer.Count.{Count}
 use Rattle.cpu.specs.State.{State, on_cpu, address, with_pc, with_tf, with_count, with_held, with_level, with_stack, with_fault, with_cycles}
@@ -36,9 +35,9 @@ settled n before after =
     pick (after.cpu.status.fault == 0) (on_cpu (ticked n) after) (on_cpu (with_fault after.cpu.status.fault) before)
 
 -- "An instruction that cannot be read gives fault 1"
-abbrev pub instructed : List ℕ → Decoded → ℕ → ℕ → State → State
-instructed mask (Read i) size cycles s = settled cycles s (effect mask i (on_cpu (moved size) s))
-instructed mask Unreadable size cycles s = on_cpu (with_fault (fault_number Unreadable)) s
+abbrev pub instructed : List ℕ → Option Instruction → ℕ → ℕ → State → State
+instructed mask (Some i) size cycles s = settled cycles s (effect mask i (on_cpu (moved size) s))
+instructed mask None size cycles s = on_cpu (with_fault (fault_number None)) s
 
 -- "Otherwise one instruction runs"
 unfoldable pub executed : List ℕ → State → State

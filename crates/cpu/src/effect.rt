@@ -16,6 +16,7 @@ use isa::{Condition, Instruction, Pointer, Port};
 
 impl Cpu {
     // The processor after an instruction, the PC having moved on. A fault is set in the status. `gap` counts the accesses that stray.
+    #[tactic(auto, using(crate::proofs::Branched::branched_pc), unfolding(crate::specs::Effect::effect, crate::specs::Gap::pointers, datapath::specs::Memory::strays, datapath::specs::Memory::tallied))]
     pub(crate) fn effect(
         mut self,
         instruction: Instruction,

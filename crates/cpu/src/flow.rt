@@ -42,6 +42,7 @@ pub(crate) fn table(mask: &[u8], page: u16, high: u8, low: u8) -> u8
 
 impl Cpu {
     // CALL: the stack carry stays.
+    #[tactic(auto, unfolding(crate::specs::Effect::called))]
     pub(crate) fn call(mut self, target: ProgramAddress) -> Cpu
         ensures { result ≡ called target self }
     {
@@ -58,6 +59,7 @@ impl Cpu {
     }
 
     // RET.
+    #[tactic(auto, unfolding(crate::specs::Effect::returned))]
     pub(crate) fn ret(mut self) -> Cpu
         ensures { result ≡ returned self }
     {
@@ -72,6 +74,7 @@ impl Cpu {
     }
 
     // RETI: CF comes back too.
+    #[tactic(auto, unfolding(crate::specs::Effect::returned_with_carry))]
     pub(crate) fn reti(mut self) -> Cpu
         ensures { result ≡ returned_with_carry self }
     {

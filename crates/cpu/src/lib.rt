@@ -1,5 +1,6 @@
 // The processor: document 01's machine but for its data memory, in small structs of numbers, in the document's order. A flag is 0 or 1.
-// Structs of numbers alone are kept in registers once their callees are inlined; the data memory and the count of strays are lent beside them. They are laid out as C
+// Structs of numbers alone are kept in registers once their callees are inlined; the data memory and the count of strays are lent beside them, each by
+// itself: `load` and `store` take the memory, `tally` the count, so a struct that lends both would be taken apart at each call. They are laid out as C
 // does, for hosts that lend a machine.
 #![tactic(auto)]
 

@@ -21,6 +21,7 @@ impl Cpu {
     }
 
     // The nibble there. `gap` counts the read where it strays.
+    #[tactic(auto, using(datapath::proofs::Tally::tallied_one))]
     pub(crate) fn operand(self, p: Pointer, memory: &[u8; MEMORY], gap: &mut u16) -> u8
         ensures value { result ≡ nibble_at p (state self memory.now) }
         ensures gap_after { gap.new ≡ tallied gap.old (strays (place_of p self ∷ [])) }
@@ -32,6 +33,7 @@ impl Cpu {
     }
 
     // Writes the nibble there. `gap` counts the write where it strays.
+    #[tactic(auto, using(datapath::proofs::Tally::tallied_one))]
     pub(crate) fn put(self, p: Pointer, memory: &mut [u8; MEMORY], value: u8, gap: &mut u16)
         ensures memory_after { state self memory.new ≡ with_nibble p value (state self memory.old) }
         ensures gap_after { gap.new ≡ tallied gap.old (strays (place_of p self ∷ [])) }
@@ -60,44 +62,30 @@ impl Cpu {
     }
 
     // Rn.
+    #[tactic(auto, unfolding(crate::specs::Effect::register_of))]
     pub(crate) fn register(self, n: u8) -> u8
         ensures { result ≡ register_of n self }
     {
-        if n == 0 {
-            return self.registers.r0;
+        match n {
+            0 => self.registers.r0,
+            1 => self.registers.r1,
+            2 => self.registers.r2,
+            3 => self.registers.r3,
+            _ => self.registers.r4,
         }
-        if n == 1 {
-            return self.registers.r1;
-        }
-        if n == 2 {
-            return self.registers.r2;
-        }
-        if n == 3 {
-            return self.registers.r3;
-        }
-        self.registers.r4
     }
 
+    #[tactic(auto, unfolding(crate::specs::Effect::with_register))]
     pub(crate) fn set_register(mut self, n: u8, value: u8) -> Cpu
         ensures { result ≡ with_register n value self }
     {
-        if n == 0 {
-            self.registers.r0 = value;
-            return self;
+        match n {
+            0 => self.registers.r0 = value,
+            1 => self.registers.r1 = value,
+            2 => self.registers.r2 = value,
+            3 => self.registers.r3 = value,
+            _ => self.registers.r4 = value,
         }
-        if n == 1 {
-            self.registers.r1 = value;
-            return self;
-        }
-        if n == 2 {
-            self.registers.r2 = value;
-            return self;
-        }
-        if n == 3 {
-            self.registers.r3 = value;
-            return self;
-        }
-        self.registers.r4 = value;
         self
     }
 

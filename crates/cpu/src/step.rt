@@ -1,5 +1,5 @@
 // One step: an interrupt taken, or one instruction, and the cycles that it spends.
-ghost use Rattle.std.specs.Prelude.{◌≡◌, ◌==◌};
+ghost use Rattle.std.specs.Prelude.{◌≡◌, ◌==◌, Some, None};
 ghost use Rattle.isa.specs.Choice.{pick};
 ghost use Rattle.datapath.specs.Memory.{tallied};
 ghost use Rattle.cpu.specs.Gap.{strays_at, strays_by};
@@ -9,20 +9,10 @@ ghost use Rattle.cpu.specs.Step.{entered, executed, step, ticked, timed, vector_
 use crate::Cpu;
 use datapath::memory::MEMORY;
 use datapath::timer::{Count, advance, clock};
-use isa::decoder::{Decoded, decode};
+use isa::decoder::decode;
 use rom::reader::{code_at, moved_by};
 use rom::timing::{cycles_of, length_of};
 use std::num::wrapping_add_u32;
-
-// One of two numbers.
-fn chosen(first: bool, a: u8, b: u8) -> u8
-    ensures { result ≡ pick first a b }
-{
-    if first {
-        return a;
-    }
-    b
-}
 
 impl Cpu {
     // The timer's new count; passing 255 to 0 sets TF.
@@ -33,12 +23,12 @@ impl Cpu {
         self.timer.count = count;
         if k.passed == 1 {
             self.control.tf = 1;
-            return self;
         }
         self
     }
 
     // `spent` cycles go by: a running timer moves on by the clocks since the old cycle count.
+    #[tactic(auto, unfolding(crate::specs::Step::ticked))]
     pub(crate) fn tick(mut self, spent: u8) -> Cpu
         ensures { result ≡ ticked spent self }
     {
@@ -55,6 +45,7 @@ impl Cpu {
     }
 
     // An interrupt is taken: PC and CF go to the stack, and what called for it is cleared, the held edge for 8 and TF for 4.
+    #[tactic(auto, unfolding(crate::specs::Step::entered))]
     pub(crate) fn enter(mut self, vector: u16) -> Cpu
         ensures { result ≡ entered vector (pick (vector == 8) (with_held 0 self) (with_tf 0 self)) }
     {
@@ -64,31 +55,29 @@ impl Cpu {
         self.stack.carry = cf;
         self.interrupts.level = 2;
         self.control.pc.0 = vector;
-        let edge = vector == 8;
-        let held = chosen(edge, 0, self.interrupts.held);
-        let tf = chosen(edge, self.control.tf, 0);
-        self.interrupts.held = held;
-        self.control.tf = tf;
+        if vector == 8 {
+            self.interrupts.held = 0;
+        } else {
+            self.control.tf = 0;
+        }
         self.tick(2)
     }
 
-    // The vector of the interrupt to take, 0 for none: a held edge goes before TF.
-    pub(crate) fn pending(self) -> u16
-        ensures { result ≡ vector_of self }
+    // The vector of the interrupt to take: a held edge goes before TF.
+    #[tactic(auto, unfolding(crate::specs::Step::vector_of))]
+    pub(crate) fn pending(self) -> Option<u16>
+        ensures { result ≡ pick (vector_of self == 0) None (Some (vector_of self)) }
     {
-        if self.interrupts.enabled != 1 {
-            return 0;
-        }
-        if self.interrupts.level != 0 {
-            return 0;
+        if self.interrupts.enabled != 1 || self.interrupts.level != 0 {
+            return None;
         }
         if self.interrupts.held == 1 {
-            return 8;
+            return Some(8);
         }
         if self.control.tf == 1 {
-            return 4;
+            return Some(4);
         }
-        0
+        None
     }
 
     // One instruction, on a processor without a fault. One that faults sets the fault alone, so the PC goes back and no copy is kept.
@@ -100,7 +89,7 @@ impl Cpu {
     {
         let before = self.control.pc.0;
         let code = code_at(mask, before);
-        let Decoded::Read(instruction) = decode(code.first, code.second) else {
+        let Some(instruction) = decode(code.first, code.second) else {
             self.status.fault = 1;
             return self;
         };
@@ -122,22 +111,19 @@ impl Cpu {
         ensures memory_after { state result memory.new ≡ step mask.now (state self memory.old) }
         ensures gap_after { gap.new ≡ tallied gap.old (strays_by mask.now (state self memory.old)) }
     {
-        let vector = self.pending();
-        if vector != 0 {
+        if let Some(vector) = self.pending() {
             return self.enter(vector);
         }
         self.execute(mask, memory, gap)
     }
 
     // One step, on the data memory that is lent.
+    #[tactic(auto, unfolding(crate::specs::Step::step, crate::specs::Gap::strays_by, datapath::specs::Memory::tallied))]
     pub fn step(self, mask: &[u8], memory: &mut [u8; MEMORY], gap: &mut u16) -> Cpu
         ensures memory_after { state result memory.new ≡ step mask.now (state self memory.old) }
         ensures gap_after { gap.new ≡ tallied gap.old (strays_by mask.now (state self memory.old)) }
     {
-        if self.status.halted != 0 {
-            return self;
-        }
-        if self.status.fault != 0 {
+        if self.status.halted != 0 || self.status.fault != 0 {
             return self;
         }
         self.go_on(mask, memory, gap)

@@ -1,2 +1,1 @@
-pub mod Rotate
 pub mod Tally

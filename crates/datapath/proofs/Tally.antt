@@ -21,9 +21,9 @@ strays-append [] m = zero-add (strays m)
 strays-append (a ∷ l) m = add_assoc (flag (in_gap a)) (strays l) (strays m) ∙ ap (λ (n : ℕ). flag (in_gap a) + n) (strays-append l m)
 
 -- one access, and one list after the other
-pub tallied-one : (count : ℕ) (a : DataAddress) → tallied count (flag (in_gap a)) ≡ tallied count (strays (a ∷ []))
+pub tallied_one : (count : ℕ) (a : DataAddress) → tallied count (flag (in_gap a)) ≡ tallied count (strays (a ∷ []))
 unfolding strays
-tallied-one count a = ap (tallied count) (sym (add-zero (flag (in_gap a))))
+tallied_one count a = ap (tallied count) (sym (add-zero (flag (in_gap a))))
 
 pub tallied-append : (count : ℕ) (l m : List DataAddress) → tallied (tallied count (strays l)) (strays m) ≡ tallied count (strays (l ++ m))
 tallied-append count l m = tallied-add count (strays l) (strays m) ∙ ap (tallied count) (strays-append l m)

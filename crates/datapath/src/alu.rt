@@ -3,7 +3,7 @@ ghost use Rattle.std.specs.Prelude.{◌≡◌, ◌-◌, ◌%◌, ◌+◌};
 ghost use Rattle.std.specs.Int.Bits.{bit_and, bit_or, bit_xor};
 ghost use Rattle.datapath.specs.Alu.{adjusted, bit_set, decremented, incremented, not_zero, rotated_left, rotated_left_through, rotated_right, rotated_right_through, subtracted, summed};
 
-// A nibble and the carry that goes with it.
+// A nibble and the carry that goes with it: both count, whatever the other is.
 #[derive(Clone, Copy)]
 pub struct Sum {
     pub value: u8,
@@ -15,15 +15,9 @@ pub fn add(a: u8, b: u8, c: u8) -> Sum
     ensures { result ≡ summed a b c }
 {
     let total = a as u16 + b as u16 + c as u16;
-    if 15 < total {
-        return Sum {
-            value: (total % 16) as u8,
-            carry: 1,
-        };
-    }
     Sum {
         value: (total % 16) as u8,
-        carry: 0,
+        carry: u8::from(15 < total),
     }
 }
 
@@ -31,23 +25,14 @@ pub fn add(a: u8, b: u8, c: u8) -> Sum
 pub fn subtract(a: u8, b: u8, c: u8) -> Sum
     ensures { result ≡ subtracted a b c }
 {
-    if b < 16 {
-        return add(a, 15 - b, c);
-    }
-    add(a, 0, c)
+    add(a, 15u8.saturating_sub(b), c)
 }
 
 // DAA.
 pub fn decimal_adjust(a: u8, carry: u8) -> Sum
     ensures { result ≡ adjusted a carry }
 {
-    if 9 < a {
-        return Sum {
-            value: ((a as u16 + 6) % 16) as u8,
-            carry: 1,
-        };
-    }
-    if carry == 1 {
+    if 9 < a || carry == 1 {
         return Sum {
             value: ((a as u16 + 6) % 16) as u8,
             carry: 1,
@@ -60,11 +45,7 @@ pub fn decimal_adjust(a: u8, carry: u8) -> Sum
 pub fn rotate_left(a: u8) -> Sum
     ensures { result ≡ rotated_left a }
 {
-    let n = a % 16;
-    Sum {
-        value: n * 2 % 16 + n / 8,
-        carry: n / 8,
-    }
+    rotate_left_through(a, a % 16 / 8)
 }
 
 // RLC: the carry goes into bit 0, and bit 3 into the carry.
@@ -82,11 +63,7 @@ pub fn rotate_left_through(a: u8, carry: u8) -> Sum
 pub fn rotate_right(a: u8) -> Sum
     ensures { result ≡ rotated_right a }
 {
-    let n = a % 16;
-    Sum {
-        value: n / 2 + n % 2 * 8,
-        carry: n % 2,
-    }
+    rotate_right_through(a, a % 2)
 }
 
 // RRC: the carry goes into bit 3, and bit 0 into the carry.

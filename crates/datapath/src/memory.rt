@@ -8,7 +8,7 @@ use isa::DataAddress;
 // How many nibbles there are: 00h-7Fh, then E0h-FFh.
 pub const MEMORY: usize = 160;
 
-// What a read gives: the nibble, and whether the address is in the gap.
+// What a read gives: the nibble, 0 in the gap too, and whether the address is there. So it is no Option.
 #[derive(Clone, Copy)]
 pub struct Access {
     pub nibble: u8,
@@ -23,6 +23,7 @@ pub fn pointer(high: u8, low: u8) -> DataAddress
 }
 
 // The nibble at an address; 80h-DFh read 0.
+#[tactic(auto, unfolding(crate::specs::Memory::loaded))]
 pub fn load(memory: &[u8; MEMORY], address: DataAddress) -> Access
     ensures { result ≡ accessed memory.now address }
 {
@@ -46,6 +47,7 @@ pub fn load(memory: &[u8; MEMORY], address: DataAddress) -> Access
 }
 
 // Writes the nibble at an address; 80h-DFh ignore it. The answer tells whether the address is one of those.
+#[tactic(auto, unfolding(crate::specs::Memory::stored))]
 pub fn store(memory: &mut [u8; MEMORY], address: DataAddress, value: u8) -> bool
     ensures memory_after { memory.new ≡ stored memory.old address value }
     ensures value { result ≡ in_gap address }
@@ -63,12 +65,11 @@ pub fn store(memory: &mut [u8; MEMORY], address: DataAddress, value: u8) -> bool
 }
 
 // Counts an access where it fell in the gap. The count stops at its largest value.
+#[tactic(auto, unfolding(crate::specs::Memory::tallied))]
 pub fn tally(gap: &mut u16, stray: bool)
     ensures { gap.new ≡ tallied gap.old (flag stray) }
 {
     if stray {
-        if *gap < 65535 {
-            *gap += 1;
-        }
+        *gap = gap.saturating_add(1);
     }
 }

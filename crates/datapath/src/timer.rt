@@ -2,7 +2,7 @@
 ghost use Rattle.std.specs.Prelude.{◌≡◌};
 ghost use Rattle.datapath.specs.Timer.{clocks, counted};
 
-// A count and a flag that is 1 where it passed 255.
+// A count and a flag that is 1 where it passed 255. It is a number, as the flags of the processor are: `Cpu::timed` takes any.
 #[derive(Clone, Copy)]
 pub struct Count {
     pub count: u8,
@@ -26,14 +26,8 @@ pub fn advance(count: u8, n: u16) -> Count
     ensures { result ≡ counted count n }
 {
     let total = count as u32 + n as u32;
-    if 255 < total {
-        return Count {
-            count: (total % 256) as u8,
-            passed: 1,
-        };
-    }
     Count {
-        count: total as u8,
-        passed: 0,
+        count: (total % 256) as u8,
+        passed: u8::from(255 < total),
     }
 }

@@ -1,5 +1,5 @@
--- Digits as numbers: with its point off a lit digit is its code, with its point on 128 more, and its nibbles are the two halves. Assumes nothing.
-use Prim.Native.Nat.{ℕ, zero, suc, ◌+◌, ◌/◌, ◌%◌, ◌^◌, ◌<◌}
+-- Digits as numbers: the nibbles of one are its two halves. Assumes nothing.
+use Prim.Native.Nat.{ℕ, zero, suc, ◌/◌, ◌%◌, ◌^◌, ◌<◌}
 use mathlib.Core.Path.{◌≡◌}
 use mathlib.Core.Bool.{Bool, true, false, cond}
 use native.Mathlib.Omega.{arith}
@@ -7,7 +7,8 @@ use lib.Dec.{eqb, ltb, lit<}
 use Rattle.glass.specs.Shapes.{Cell, blank, hyphen, shape}
 use Rattle.glass.specs.Pictures.{Digit, digit, lit}
 use Rattle.glass.specs.Drawing.{point_at}
-use Rattle.glass.specs.Walk.{code_of, byte_of, placed}
+use Rattle.glass.specs.declared.figure.Figure.{Figure}
+use Rattle.glass.specs.Walk.{byte_of, placed}
 
 -- what holds of all ten shapes and of a blank holds of the shape of any number
 pub every : (P : Cell → Type 0) → P (shape 0) → P (shape 1) → P (shape 2) → P (shape 3) → P (shape 4) → P (shape 5) → P (shape 6) → P (shape 7) → P (shape 8) → P (shape 9) → P (shape 10) → (n : ℕ) → P (shape n)
@@ -29,24 +30,14 @@ small = every (λ (c : Cell). c.abcd < 16) (lit< tt) (lit< tt) (lit< tt) (lit< t
 pub no-point : (n : ℕ) → (shape n).efgp < 8
 no-point = every (λ (c : Cell). c.efgp < 8) (lit< tt) (lit< tt) (lit< tt) (lit< tt) (lit< tt) (lit< tt) (lit< tt) (lit< tt) (lit< tt) (lit< tt) (lit< tt)
 
-pub unlit : (n : ℕ) → code_of (shape n) ≡ byte_of (lit (digit n false))
-unlit n = omega (arith, no-point n)
-
-pub pointed : (n : ℕ) → code_of (shape n) + 128 ≡ byte_of (lit (digit n true))
-pointed n = omega (arith, no-point n)
-
-pub code-small : (n : ℕ) → code_of (shape n) < 128
-code-small n = omega (arith, small n)
-
 chosen-small : (a b c : Bool) (d : Digit) → (cond a (lit d) (cond b (cond c hyphen blank) blank)).abcd < 16
 chosen-small true b c d = small d.numeral
 chosen-small false true true d = lit< tt
 chosen-small false true false d = lit< tt
 chosen-small false false c d = lit< tt
 
-pub placed-small : (minus : Bool) (size count n after : ℕ) → (placed minus size count n after).abcd < 16
-placed-small minus size count n after =
-    chosen-small (ltb after n) (eqb after n) minus (digit (size / 10 ^ after % 10) (point_at after count))
+pub placed-small : (x : Figure) (after : ℕ) → (placed x after).abcd < 16
+placed-small x after = chosen-small (ltb after x.digits) (eqb after x.digits) x.minus (digit (x.size / 10 ^ after % 10) (point_at after x.places))
 
 -- the halves of a digit as one number
 pub low : (c : Cell) → c.abcd < 16 → byte_of c % 16 ≡ c.abcd

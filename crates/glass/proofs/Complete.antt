@@ -6,22 +6,22 @@ use mathlib.Core.Bool.{Bool, true, false, cond}
 use mathlib.Core.List.{List, [], ◌∷◌, ◌++◌, map, append-nil}
 use lib.ListN.{length, replicate}
 use lib.Seq.{append_snoc}
+use Rattle.std.specs.Prelude.{Option, Some}
 use Rattle.glass.specs.Shapes.{Cell, blank, hyphen}
 use Rattle.glass.specs.Pictures.{Digit, lit, Numerals, points, Reads}
 use Rattle.glass.specs.Walk.{front, start, numeral_taken, reading_of}
 use Rattle.glass.specs.declared.Reading.{Reading}
 use Rattle.glass.specs.declared.Reading.TheVariants.{Dark, Number}
 use Rattle.glass.specs.declared.read.Front.{Front}
-use Rattle.glass.specs.declared.read.Next.{Next}
-use Rattle.glass.specs.declared.read.Next.TheVariants.{On}
+use Rattle.glass.specs.declared.read.Stage.TheVariants.{Blanks, Signed}
 use Rattle.glass.proofs.Marks.{next, next-digit, next-blank, next-minus}
 use Rattle.glass.proofs.Walks.{Walked, ended, later, empty, onward, walked, after, digit-on, from_start, from-minus, reading-after}
 
 -- one digit that is taken
-takes : (c : Cell) (cs : List Cell) (f g h : Front) → next f c (empty cs) ≡ On g → walked cs g ≡ ended h → walked (c ∷ cs) f ≡ ended h
-takes c cs f g h e k = ap (λ (r : Next). onward r (walked cs)) e ∙ ap later k
+takes : (c : Cell) (cs : List Cell) (f g h : Front) → next f c (empty cs) ≡ Some g → walked cs g ≡ ended h → walked (c ∷ cs) f ≡ ended h
+takes c cs f g h e k = ap (λ (r : Option Front). onward r (walked cs)) e ∙ ap later k
 
-skips : (n : ℕ) (rest : List Cell) (f g : Front) → f.stage ≡ 0 → walked rest f ≡ ended g → walked (replicate n blank ++ rest) f ≡ ended g
+skips : (n : ℕ) (rest : List Cell) (f g : Front) → f.stage ≡ Blanks → walked rest f ≡ ended g → walked (replicate n blank ++ rest) f ≡ ended g
 skips zero rest f g s e = e
 skips (suc n) rest f g s e = takes blank (replicate n blank ++ rest) f f g (next-blank f (empty (replicate n blank ++ rest)) s) (skips n rest f g s e)
 
@@ -44,7 +44,7 @@ digits-taken m (d ∷ ds) es ns one =
 first_taken : (m : Bool) (f : Front) (ds : List Digit) → ((k : ℕ) (p : Bool) → numeral_taken f k p ≡ numeral_taken (after m []) k p) → 0 < length ds → Numerals ds → points ds ≤ 1 → walked (map lit ds) f ≡ ended (after m ds)
 first_taken m f [] h some ns one = absurd (omega (arith, some))
 first_taken m f (d ∷ ds) h some ns one =
-    ap (λ (r : Next). onward r (walked (map lit ds)))
+    ap (λ (r : Option Front). onward r (walked (map lit ds)))
     (next-digit f d.numeral d.pointed (empty (map lit ds)) ns.0 ∙ h d.numeral d.pointed
     ∙ sym (next-digit (after m []) d.numeral d.pointed (empty (map lit ds)) ns.0))
     ∙ digits-taken m (d ∷ ds) [] ns one
@@ -53,8 +53,8 @@ signed-taken : (m : Bool) (ds : List Digit) → 0 < length ds → Numerals ds �
 signed-taken false ds some ns one = first_taken false start ds from_start some ns one
 signed-taken true [] some ns one = absurd (omega (arith, some))
 signed-taken true (d ∷ ds) some ns one =
-    takes hyphen (map lit (d ∷ ds)) start (front 0 1 true 0) (after true (d ∷ ds)) (next-minus start refl)
-    (first_taken true (front 0 1 true 0) (d ∷ ds) from-minus some ns one)
+    takes hyphen (map lit (d ∷ ds)) start (front 0 Signed true 0) (after true (d ∷ ds)) (next-minus start refl)
+    (first_taken true (front 0 Signed true 0) (d ∷ ds) from-minus some ns one)
 
 pub record Read (p : List Cell) (r : Reading) : Type 0 where
   pub final : Front

@@ -10,21 +10,22 @@ use lib.Dec.{eqb, ltb, lit<}
 use lib.ListN.{length, replicate, length-append, length-map, length-replicate}
 use lib.IntN.{ℤ, pos, negsuc, neg_ℤ, nat_abs}
 use borrow.Author.Tests.{ltb-true, ltb-false, eqb-true, eqb-false, eq-eqb, ne_eqb, lt-ltb, le-leb}
+use Rattle.std.specs.Prelude.{Ok, Err}
 use Rattle.glass.specs.Shapes.{Cell, glass, blank, hyphen, shape, cells, nibbles}
 use Rattle.glass.specs.Pictures.{Digit, lit, laid, Numerals, points, whole, after_point, signed, Numbered, Reads}
-use Rattle.glass.specs.Reading.{Leftmost, all_nibbles, SeenAnswers, SeenDetermined}
+use Rattle.glass.specs.Reading.{Seen, Leftmost, all_nibbles, SeenAnswers, SeenDetermined}
 use Rattle.glass.specs.Drawing.{enough, first_enough, fewest, digits_of, is_negative, width, fits, drawn_number, fitting, drawn, drawing, drawn_over}
 use Rattle.glass.specs.Walk.{code_of, shown_as, reading_of}
 use Rattle.glass.specs.Laws.{UsualShapes, ReadsBack, DrawsAgain, OnNoPicture, FewestDigits, MinusZero}
 use Rattle.glass.specs.declared.Reading.{Reading}
 use Rattle.glass.specs.declared.Reading.TheVariants.{Dark, Number}
-use Rattle.glass.specs.declared.Seen.TheVariants.{Shown, BadLength, BadNibble, Unreadable}
+use Rattle.glass.specs.declared.Unseen.TheVariants.{BadLength, BadNibble, Unreadable}
 use Rattle.glass.proofs.Cells.{small, no-point}
-use Rattle.glass.proofs.Marks.{Nibbles, mark-at}
+use Rattle.glass.proofs.Marks.{Nibbles, mark-found}
 use Rattle.glass.proofs.Pairs.{cells-length}
 use Rattle.glass.proofs.Digits.{whole-under, places-under, no-places}
 use Rattle.glass.proofs.Complete.{complete}
-use Rattle.glass.proofs.Walks.{ended-ended, Small}
+use Rattle.glass.proofs.Walks.{Small}
 use Rattle.glass.proofs.Rows.{some-digit, fits_under}
 
 -- ---- one answer
@@ -34,7 +35,7 @@ one-reading : (p : List Cell) (r t : Reading) → Reads p r → Reads p t → r 
 one-reading p r t a b =
     let x = complete p r a in
     let y = complete p t b in
-    sym x.reading ∙ ap reading_of (ended-ended (sym x.ends ∙ y.ends)) ∙ y.reading
+    sym x.reading ∙ ap reading_of (let e = sym x.ends ∙ y.ends in cc) ∙ y.reading
 
 -- a valid picture has no wrong digit
 none-wrong : (p : List Cell) (r : Reading) (k : ℕ) → Reads p r → Leftmost p k → ⊥
@@ -49,26 +50,26 @@ one-leftmost p j k a b = go (ltb j k) (ltb k j) refl refl
     go false false e f = let h = ltb-false j k e in let i = ltb-false k j f in omega (arith, h, i)
 
 pub true-false : (b : Bool) → b ≡ true → b ≡ false → ⊥
-true-false true e f = let y : ◌≡◌ {A = ℕ} 0 1 = cc in omega arith
-true-false false e f = let y : ◌≡◌ {A = ℕ} 0 1 = cc in omega arith
+true-false true e f = cc
+true-false false e f = cc
 
 pub seen-determined : SeenDetermined
-seen-determined s (Shown r) (Shown t) a b = ap Shown (one-reading (cells s) r t a.1 b.1)
-seen-determined s (Shown r) BadLength a b = absurd (b a.0.0)
-seen-determined s (Shown r) BadNibble a b = absurd (true-false (all_nibbles s) a.0.1 b.1)
-seen-determined s (Shown r) (Unreadable k) a b = absurd (none-wrong (cells s) r k a.1 b.1)
-seen-determined s BadLength (Shown t) a b = absurd (a b.0.0)
-seen-determined s BadLength BadLength a b = refl
-seen-determined s BadLength BadNibble a b = absurd (a b.0)
-seen-determined s BadLength (Unreadable k) a b = absurd (a b.0.0)
-seen-determined s BadNibble (Shown t) a b = absurd (true-false (all_nibbles s) b.0.1 a.1)
-seen-determined s BadNibble BadLength a b = absurd (b a.0)
-seen-determined s BadNibble BadNibble a b = refl
-seen-determined s BadNibble (Unreadable k) a b = absurd (true-false (all_nibbles s) b.0.1 a.1)
-seen-determined s (Unreadable j) (Shown t) a b = absurd (none-wrong (cells s) t j b.1 a.1)
-seen-determined s (Unreadable j) BadLength a b = absurd (b a.0.0)
-seen-determined s (Unreadable j) BadNibble a b = absurd (true-false (all_nibbles s) a.0.1 b.1)
-seen-determined s (Unreadable j) (Unreadable k) a b = ap Unreadable (one-leftmost (cells s) j k a.1 b.1)
+seen-determined s (Ok r) (Ok t) a b = ap {B = Seen} Ok (one-reading (cells s) r t a.1 b.1)
+seen-determined s (Ok r) (Err BadLength) a b = absurd (b a.0.0)
+seen-determined s (Ok r) (Err BadNibble) a b = absurd (true-false (all_nibbles s) a.0.1 b.1)
+seen-determined s (Ok r) (Err (Unreadable k)) a b = absurd (none-wrong (cells s) r k a.1 b.1)
+seen-determined s (Err BadLength) (Ok t) a b = absurd (a b.0.0)
+seen-determined s (Err BadLength) (Err BadLength) a b = refl
+seen-determined s (Err BadLength) (Err BadNibble) a b = absurd (a b.0)
+seen-determined s (Err BadLength) (Err (Unreadable k)) a b = absurd (a b.0.0)
+seen-determined s (Err BadNibble) (Ok t) a b = absurd (true-false (all_nibbles s) b.0.1 a.1)
+seen-determined s (Err BadNibble) (Err BadLength) a b = absurd (b a.0)
+seen-determined s (Err BadNibble) (Err BadNibble) a b = refl
+seen-determined s (Err BadNibble) (Err (Unreadable k)) a b = absurd (true-false (all_nibbles s) b.0.1 a.1)
+seen-determined s (Err (Unreadable j)) (Ok t) a b = absurd (none-wrong (cells s) t j b.1 a.1)
+seen-determined s (Err (Unreadable j)) (Err BadLength) a b = absurd (b a.0.0)
+seen-determined s (Err (Unreadable j)) (Err BadNibble) a b = absurd (true-false (all_nibbles s) a.0.1 b.1)
+seen-determined s (Err (Unreadable j)) (Err (Unreadable k)) a b = ap {B = Seen} (λ (k : ℕ). Err (Unreadable k)) (one-leftmost (cells s) j k a.1 b.1)
 
 -- ---- the digits of a number
 
@@ -160,7 +161,7 @@ first-least size count (suc more) n m l h e = go (enough size count n) refl (fir
 
 and_both : (a b : Bool) → a && b ≡ true → (a ≡ true) × (b ≡ true)
 and_both true b e = (refl, e)
-and_both false b e = absurd (let y : ◌≡◌ {A = ℕ} 0 1 = cc in omega arith)
+and_both false b e = absurd cc
 
 enough-means : (size count n : ℕ) → enough size count n ≡ true → (size < 10 ^ n) × (count < n)
 enough-means size count n e =
@@ -274,7 +275,7 @@ length-drawn v c f =
     let l = length-of n (nat_abs v) c in
     length-laid (glass - width (is_negative v) (length (digits_of n (nat_abs v) c))) (is_negative v) (digits_of n (nat_abs v) c) ∙ omega (arith, u, l)
 
-back-again : (r : Reading) → fitting r ≡ true → SeenAnswers (nibbles (drawn r)) (Shown r)
+back-again : (r : Reading) → fitting r ≡ true → SeenAnswers (nibbles (drawn r)) (Ok r)
 unfolding all_nibbles
 back-again Dark f = ((refl, refl), refl)
 back-again (Number v c) f =
@@ -291,7 +292,7 @@ unfolding drawn_over
 reads-back r old e = go (eqb (length old) 8) (fitting r) refl e
   where
     go : (a b : Bool) → fitting r ≡ b → (cond a (cond b (drawing 0 0 (nibbles (drawn r))) (drawing 16 0 old)) (drawing 2 0 old)).refusal ≡ 0
-        → SeenAnswers (cond a (cond b (drawing 0 0 (nibbles (drawn r))) (drawing 16 0 old)) (drawing 2 0 old)).picture (Shown r)
+        → SeenAnswers (cond a (cond b (drawing 0 0 (nibbles (drawn r))) (drawing 16 0 old)) (drawing 2 0 old)).picture (Ok r)
     go true true f e = back-again r f
     go true false f e = absurd (omega (arith, e))
     go false b f e = absurd (omega (arith, e))
@@ -308,7 +309,7 @@ minus-taken v m w e = rw e (go m w)
     go true w = at_most (is_negative (neg_ℤ (pos w)))
     go false w = omega arith
 
-fits-again : (s : List ℕ) (r : Reading) → SeenAnswers s (Shown r) → fitting r ≡ true
+fits-again : (s : List ℕ) (r : Reading) → SeenAnswers s (Ok r) → fitting r ≡ true
 fits-again s Dark a = refl
 fits-again s (Number v c) a =
     let n = a.1 in
@@ -356,11 +357,11 @@ usual-shapes =
       six = refl;
       seven = refl;
       nine = refl;
-      apart = λ i j h k e. sym (mark-at i h) ∙ ap (λ (c : Cell). shown_as (code_of c)) e ∙ mark-at j k;
+      apart = λ i j h k e. sym (mark-found i h) ∙ ap (λ (c : Cell). shown_as (code_of c)) e ∙ mark-found j k;
     }
 
 -- what a picture shows is small
-pub shown-under : (s : List ℕ) (v : ℤ) (c : ℕ) → SeenAnswers s (Shown (Number v c)) → (nat_abs v < 10000) × (c < 4)
+pub shown-under : (s : List ℕ) (v : ℤ) (c : ℕ) → SeenAnswers s (Ok (Number v c)) → (nat_abs v < 10000) × (c < 4)
 shown-under s v c a =
     let n = a.1 in
     let ds = n.digits in
@@ -374,5 +375,5 @@ shown-under s v c a =
     let k = places-under ds n.some in
     (omega (arith, e, w, p), omega (arith, i, k, d))
 
-pub unreadable-under : (s : List ℕ) (k : ℕ) → SeenAnswers s (Unreadable k) → k < 4
+pub unreadable-under : (s : List ℕ) (k : ℕ) → SeenAnswers s (Err (Unreadable k)) → k < 4
 unreadable-under s k a = let h = a.1.inside in let l = cells-length s 4 a.0.0 in omega (arith, h, l)

@@ -1,14 +1,11 @@
 pub mod Cells
 pub mod Complete
 pub mod Digits
-pub mod Integers
 pub mod Laws
 pub mod Logs
 pub mod Marks
-pub mod Naturals
 pub mod Pairs
 pub mod Rows
 pub mod Stops
-pub mod Texts
 pub mod Turns
 pub mod Walks

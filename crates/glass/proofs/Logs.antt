@@ -32,37 +32,27 @@ packed-tells (x ∷ xs) (y ∷ ys) h k e =
     low : (a b : ℕ) → a < 256 → a ≡ (a + 256 * b) % 256
     low a b l = omega (arith, l)
 
-abbrev head_or : List ℕ → ℕ
-head_or [] = 0
-head_or (x ∷ xs) = x
-
-abbrev tail_of : List ℕ → List ℕ
-tail_of [] = []
-tail_of (x ∷ xs) = xs
-
--- a text of digits starts with a digit, or is empty
-no-point-first : (ds : List Digit) → head_or (spelt ds) ≡ 46 → ⊥
-no-point-first [] e = omega (arith, e)
-no-point-first (d ∷ ds) e = omega (arith, e)
-
-no-minus-first : (ds : List Digit) → head_or (spelt ds) ≡ 45 → ⊥
-no-minus-first [] e = omega (arith, e)
-no-minus-first (d ∷ ds) e = omega (arith, e)
+-- a text of digits starts with a digit, or is empty: with no character under 48
+no-sign-first : (ds : List Digit) (x : ℕ) (xs : List ℕ) → x < 48 → spelt ds ≡ x ∷ xs → ⊥
+no-sign-first [] x xs h e = cc
+no-sign-first (d ∷ ds) x xs h e = let k : 48 + d.numeral ≡ x = cc in omega (arith, k, h)
 
 spelt-tells : (ds es : List Digit) → spelt ds ≡ spelt es → ds ≡ es
 spelt-tells [] [] e = refl
-spelt-tells [] (f ∷ es) e = absurd (let h = ap head_or e in omega (arith, h))
-spelt-tells (d ∷ ds) [] e = absurd (let h = ap head_or e in omega (arith, h))
+spelt-tells [] (f ∷ es) e = cc
+spelt-tells (d ∷ ds) [] e = cc
 spelt-tells (d ∷ ds) (f ∷ es) e =
-    let n : d.numeral ≡ f.numeral = (let h = ap head_or e in omega (arith, h)) in
-    go d.pointed f.pointed n (ap tail_of e) (spelt-tells ds es)
+    let k : 48 + d.numeral ≡ 48 + f.numeral = cc in
+    let n : d.numeral ≡ f.numeral = omega (arith, k) in
+    let rest : cond d.pointed (46 ∷ []) [] ++ spelt ds ≡ cond f.pointed (46 ∷ []) [] ++ spelt es = cc in
+    go d.pointed f.pointed n rest (spelt-tells ds es)
   where
     go : (p q : Bool) → d.numeral ≡ f.numeral → cond p (46 ∷ []) [] ++ spelt ds ≡ cond q (46 ∷ []) [] ++ spelt es → (spelt ds ≡ spelt es → ds ≡ es)
         → ◌≡◌ {A = List Digit} (digit d.numeral p ∷ ds) (digit f.numeral q ∷ es)
-    go true true n k r = ap₂ {C = List Digit} (λ (a : ℕ) (s : List Digit). digit a true ∷ s) n (r (ap tail_of k))
-    go true false n k r = absurd (no-point-first es (sym (ap head_or k)))
-    go false true n k r = absurd (no-point-first ds (ap head_or k))
-    go false false n k r = ap₂ {C = List Digit} (λ (a : ℕ) (s : List Digit). digit a false ∷ s) n (r k)
+    go true true n k r = let e = r cc in cc
+    go true false n k r = absurd (no-sign-first es 46 (spelt ds) (omega arith) (sym k))
+    go false true n k r = absurd (no-sign-first ds 46 (spelt es) (omega arith) k)
+    go false false n k r = let e = r k in cc
 
 -- the sign and the digits of a text
 pub record Apart (a b : Bool) (ds es : List Digit) : Type 0 where
@@ -70,16 +60,16 @@ pub record Apart (a b : Bool) (ds es : List Digit) : Type 0 where
   pub digits : ds ≡ es
 
 signed-tells : (a b : Bool) (ds es : List Digit) → cond a (45 ∷ []) [] ++ spelt ds ≡ cond b (45 ∷ []) [] ++ spelt es → Apart a b ds es
-signed-tells true true ds es e = record { sign = refl; digits = spelt-tells ds es (ap tail_of e) }
-signed-tells true false ds es e = absurd (no-minus-first es (sym (ap head_or e)))
-signed-tells false true ds es e = absurd (no-minus-first ds (ap head_or e))
+signed-tells true true ds es e = record { sign = refl; digits = spelt-tells ds es cc }
+signed-tells true false ds es e = absurd (no-sign-first es 45 (spelt ds) (omega arith) (sym e))
+signed-tells false true ds es e = absurd (no-sign-first ds 45 (spelt es) (omega arith) e)
 signed-tells false false ds es e = record { sign = refl; digits = spelt-tells ds es e }
 
 -- a number's text does not start as `dark` does
-not-dark : (b : Bool) (ds : List Digit) → Numerals ds → head_or (cond b (45 ∷ []) [] ++ spelt ds) ≡ 100 → ⊥
-not-dark true ds ns e = omega (arith, e)
-not-dark false [] ns e = omega (arith, e)
-not-dark false (d ∷ ds) ns e = let h = ns.0 in omega (arith, e, h)
+not-dark : (b : Bool) (ds : List Digit) (xs : List ℕ) → Numerals ds → cond b (45 ∷ []) [] ++ spelt ds ≡ 100 ∷ xs → ⊥
+not-dark true ds xs ns e = let k : ◌≡◌ {A = ℕ} 45 100 = cc in omega (arith, k)
+not-dark false [] xs ns e = cc
+not-dark false (d ∷ ds) xs ns e = let k : 48 + d.numeral ≡ 100 = cc in let h = ns.0 in omega (arith, k, h)
 
 -- the characters
 digits-characters : (ds : List Digit) → Numerals ds → Characters (spelt ds)
@@ -101,9 +91,9 @@ written-characters (Number v c) = go (is_negative v) (digits-characters (digits_
 written-tells : (r t : Reading) → fitting r ≡ true → fitting t ≡ true → written r ≡ written t → r ≡ t
 written-tells Dark Dark f g e = refl
 written-tells Dark (Number w d) f g e =
-    absurd (not-dark (is_negative w) (digits_of (fewest (nat_abs w) d) (nat_abs w) d) (numerals-of (fewest (nat_abs w) d) (nat_abs w) d) (sym (ap head_or e)))
+    absurd (not-dark (is_negative w) (digits_of (fewest (nat_abs w) d) (nat_abs w) d) _ (numerals-of (fewest (nat_abs w) d) (nat_abs w) d) (sym e))
 written-tells (Number v c) Dark f g e =
-    absurd (not-dark (is_negative v) (digits_of (fewest (nat_abs v) c) (nat_abs v) c) (numerals-of (fewest (nat_abs v) c) (nat_abs v) c) (ap head_or e))
+    absurd (not-dark (is_negative v) (digits_of (fewest (nat_abs v) c) (nat_abs v) c) _ (numerals-of (fewest (nat_abs v) c) (nat_abs v) c) e)
 written-tells (Number v c) (Number w d) f g e =
     let k = signed-tells (is_negative v) (is_negative w) (digits_of (fewest (nat_abs v) c) (nat_abs v) c) (digits_of (fewest (nat_abs w) d) (nat_abs w) d) e in
     let size : nat_abs v ≡ nat_abs w = sym (drawn-size v c f) ∙ ap whole k.digits ∙ drawn-size w d g in

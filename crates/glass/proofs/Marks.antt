@@ -8,13 +8,15 @@ use mathlib.Core.Bool.{Bool, true, false, cond}
 use mathlib.Core.List.{List, [], ◌∷◌, ◌++◌}
 use lib.Dec.{eqb, ltb, lit<}
 use lib.ListN.{length, get_or, get_or-append, get_or-map}
+use Rattle.std.specs.Prelude.{Option, Some, None}
 use borrow.Author.Tests.{ltb-true, eqb-true, eqb-false, eq-eqb, ne_eqb, lt-ltb}
 use Rattle.glass.specs.Shapes.{Cell, cell, shapes, blank, hyphen, shape}
 use Rattle.glass.specs.Pictures.{digit, lit}
-use Rattle.glass.specs.Walk.{code_of, place_in, codes, shown_as, front, numeral_taken, stepped}
+use Rattle.glass.specs.Walk.{code_of, place_in, codes, shown_as, shown, front, is_blank, numeral_taken, stepped}
 use Rattle.glass.specs.declared.read.Front.{Front}
-use Rattle.glass.specs.declared.read.Next.{Next}
-use Rattle.glass.specs.declared.read.Next.TheVariants.{On, Off}
+use Rattle.glass.specs.declared.read.Stage.{Stage}
+use Rattle.glass.specs.declared.read.Stage.TheVariants.{Blanks, Signed, Digits, Fraction}
+use Rattle.glass.specs.declared.shapes.Mark.TheVariants.{Numeral, Blank, Minus}
 use Rattle.glass.proofs.Cells.{small, no-point}
 
 -- two nibbles
@@ -23,8 +25,8 @@ pub record Nibbles (c : Cell) : Type 0 where
   pub second : c.efgp < 16
 
 -- one digit, as the reader takes it
-abbrev pub next : Front → Cell → Bool → Next
-next f c last = stepped f (shown_as (code_of c)) (eqb (c.efgp / 8) 1) last
+abbrev pub next : Front → Cell → Bool → Option Front
+next f c last = stepped f (shown (code_of c)) (eqb (c.efgp / 8) 1) last
 
 -- what a list has at the place of a number
 found : (l : List ℕ) (x : ℕ) → place_in l x < length l → get_or l (place_in l x) 0 ≡ x
@@ -60,56 +62,66 @@ lit-of c m p n e h k =
     same c (shape m).abcd (shape m).efgp p n (small m) (no-point m) (sym (coded c m e (omega (arith, h))) ∙ code-at m h ∙ q) k
 
 -- what the reader made of a digit
-pub data Stepping (f : Front) (c : Cell) (last : Bool) (r : Next) : Type 0 where
+pub data Stepping (f : Front) (c : Cell) (last : Bool) (r : Option Front) : Type 0 where
   digit-more : (n : ℕ) (p : Bool) → n < 10 → c ≡ lit (digit n p) → r ≡ numeral_taken f n p → Stepping f c last r
-  blank-more : c ≡ blank → f.stage ≡ 0 → r ≡ On f → Stepping f c last r
-  minus-more : c ≡ hyphen → f.stage ≡ 0 → last ≡ false → r ≡ On (front 0 1 true 0) → Stepping f c last r
-  none : r ≡ Off → Stepping f c last r
+  blank-more : c ≡ blank → f.stage ≡ Blanks → r ≡ Some f → Stepping f c last r
+  minus-more : c ≡ hyphen → f.stage ≡ Blanks → last ≡ false → r ≡ Some (front 0 Signed true 0) → Stepping f c last r
+  none : r ≡ None → Stepping f c last r
+
+blanks : (s : Stage) → is_blank s ≡ true → s ≡ Blanks
+blanks Blanks e = refl
+blanks Signed e = cc
+blanks Digits e = cc
+blanks Fraction e = cc
 
 pub view : (f : Front) (c : Cell) (last : Bool) → Nibbles c → Stepping f c last (next f c last)
 unfolding stepped
-view f c last n = by-mark (ltb (shown_as (code_of c)) 10) (eqb (c.efgp / 8) 1) refl refl
+view f c last n = by-mark (ltb m 10) (eqb m 10) (eqb m 11) (eqb (c.efgp / 8) 1) (is_blank f.stage) last refl refl refl refl refl refl
   where
     m : ℕ
     m = shown_as (code_of c)
 
-    by-rest : (z t l u : Bool) → eqb f.stage 0 ≡ z → eqb m 10 ≡ t → last ≡ l → eqb m 11 ≡ u → eqb (c.efgp / 8) 1 ≡ false
-        → Stepping f c last (cond z (cond t (On f) (cond l Off (cond u (On (front 0 1 true 0)) Off))) Off)
-    by-rest false t l u ez et el eu ep = none refl
-    by-rest true true l u ez et el eu ep =
-        blank-more (same c 0 0 false n (lit< tt) (lit< tt) (sym (coded c 10 (eqb-true m 10 et) (lit< tt))) ep) (eqb-true f.stage 0 ez) refl
-    by-rest true false true u ez et el eu ep = none refl
-    by-rest true false false true ez et el eu ep =
-        minus-more (same c 0 4 false n (lit< tt) (lit< tt) (sym (coded c 11 (eqb-true m 11 eu) (lit< tt))) ep) (eqb-true f.stage 0 ez) el refl
-    by-rest true false false false ez et el eu ep = none refl
-
-    by-mark : (b p : Bool) → ltb m 10 ≡ b → eqb (c.efgp / 8) 1 ≡ p
-        → Stepping f c last (cond b (numeral_taken f m p) (cond p Off (cond (eqb f.stage 0) (cond (eqb m 10) (On f) (cond last Off (cond (eqb m 11) (On (front 0 1 true 0)) Off))) Off)))
-    by-mark true p eb ep = digit-more m p (ltb-true m 10 eb) (lit-of c m p n refl (ltb-true m 10 eb) ep) refl
-    by-mark false true eb ep = none refl
-    by-mark false false eb ep = by-rest (eqb f.stage 0) (eqb m 10) last (eqb m 11) refl refl refl refl ep
+    by-mark : (b t u p z l : Bool) → ltb m 10 ≡ b → eqb m 10 ≡ t → eqb m 11 ≡ u → eqb (c.efgp / 8) 1 ≡ p → is_blank f.stage ≡ z → last ≡ l
+        → Stepping f c last (stepped f (cond b (Some (Numeral m)) (cond t (Some Blank) (cond u (Some Minus) None))) p l)
+    by-mark true t u p z l eb et eu ep ez el = digit-more m p (ltb-true m 10 eb) (lit-of c m p n refl (ltb-true m 10 eb) ep) refl
+    by-mark false true u true z l eb et eu ep ez el = none refl
+    by-mark false true u false z l eb et eu ep ez el = go z ez
+      where
+        go : (z : Bool) → is_blank f.stage ≡ z → Stepping f c last (cond (is_blank f.stage) (Some f) None)
+        go true ez =
+            blank-more (same c 0 0 false n (lit< tt) (lit< tt) (sym (coded c 10 (eqb-true m 10 et) (lit< tt))) ep) (blanks f.stage ez) (rw ez refl)
+        go false ez = none (rw ez refl)
+    by-mark false false true true z l eb et eu ep ez el = none refl
+    by-mark false false true false z l eb et eu ep ez el = go z l ez el
+      where
+        go : (z l : Bool) → is_blank f.stage ≡ z → last ≡ l → Stepping f c last (cond (is_blank f.stage) (cond l None (Some (front 0 Signed true 0))) None)
+        go false l ez el = none (rw ez refl)
+        go true true ez el = none (rw ez refl)
+        go true false ez el =
+            minus-more (same c 0 4 false n (lit< tt) (lit< tt) (sym (coded c 11 (eqb-true m 11 eu) (lit< tt))) ep) (blanks f.stage ez) el (rw ez refl)
+    by-mark false false false p z l eb et eu ep ez el = none refl
 
 -- and back: what the reader makes of each cell that a picture may have
-pub mark-at : (n : ℕ) → n < 12 → shown_as (code_of (get_or (shapes ++ (blank ∷ hyphen ∷ [])) n blank)) ≡ n
+pub mark-found : (n : ℕ) → n < 12 → shown_as (code_of (get_or (shapes ++ (blank ∷ hyphen ∷ [])) n blank)) ≡ n
 unfolding shown_as
-mark-at zero h = refl
-mark-at (suc zero) h = refl
-mark-at (suc (suc zero)) h = refl
-mark-at (suc (suc (suc zero))) h = refl
-mark-at (suc (suc (suc (suc zero)))) h = refl
-mark-at (suc (suc (suc (suc (suc zero))))) h = refl
-mark-at (suc (suc (suc (suc (suc (suc zero)))))) h = refl
-mark-at (suc (suc (suc (suc (suc (suc (suc zero))))))) h = refl
-mark-at (suc (suc (suc (suc (suc (suc (suc (suc zero)))))))) h = refl
-mark-at (suc (suc (suc (suc (suc (suc (suc (suc (suc zero))))))))) h = refl
-mark-at (suc (suc (suc (suc (suc (suc (suc (suc (suc (suc zero)))))))))) h = refl
-mark-at (suc (suc (suc (suc (suc (suc (suc (suc (suc (suc (suc zero))))))))))) h = refl
-mark-at (suc (suc (suc (suc (suc (suc (suc (suc (suc (suc (suc (suc n)))))))))))) h = absurd (omega (arith, h))
+mark-found zero h = refl
+mark-found (suc zero) h = refl
+mark-found (suc (suc zero)) h = refl
+mark-found (suc (suc (suc zero))) h = refl
+mark-found (suc (suc (suc (suc zero)))) h = refl
+mark-found (suc (suc (suc (suc (suc zero))))) h = refl
+mark-found (suc (suc (suc (suc (suc (suc zero)))))) h = refl
+mark-found (suc (suc (suc (suc (suc (suc (suc zero))))))) h = refl
+mark-found (suc (suc (suc (suc (suc (suc (suc (suc zero)))))))) h = refl
+mark-found (suc (suc (suc (suc (suc (suc (suc (suc (suc zero))))))))) h = refl
+mark-found (suc (suc (suc (suc (suc (suc (suc (suc (suc (suc zero)))))))))) h = refl
+mark-found (suc (suc (suc (suc (suc (suc (suc (suc (suc (suc (suc zero))))))))))) h = refl
+mark-found (suc (suc (suc (suc (suc (suc (suc (suc (suc (suc (suc (suc n)))))))))))) h = absurd (omega (arith, h))
 
 shape-mark : (n : ℕ) → n < 10 → shown_as (code_of (shape n)) ≡ n
 shape-mark n h =
     let l : n < 12 = omega (arith, h) in
-    ap (λ (c : Cell). shown_as (code_of c)) (sym (get_or-append shapes (blank ∷ hyphen ∷ []) blank n h)) ∙ mark-at n l
+    ap (λ (c : Cell). shown_as (code_of c)) (sym (get_or-append shapes (blank ∷ hyphen ∷ []) blank n h)) ∙ mark-found n l
 
 lit-code : (n : ℕ) (p : Bool) → code_of (lit (digit n p)) ≡ code_of (shape n)
 lit-code n true = omega (arith, no-point n)
@@ -123,10 +135,10 @@ pub next-digit : (f : Front) (n : ℕ) (p last : Bool) → n < 10 → next f (li
 unfolding stepped
 next-digit f n p last h = rw (lit-code n p, shape-mark n h, lit-point n p, lt-ltb n 10 h) refl
 
-pub next-blank : (f : Front) (last : Bool) → f.stage ≡ 0 → next f blank last ≡ On f
+pub next-blank : (f : Front) (last : Bool) → f.stage ≡ Blanks → next f blank last ≡ Some f
 unfolding stepped shown_as
-next-blank f last e = rw (eq-eqb f.stage 0 e) refl
+next-blank f last e = rw e refl
 
-pub next-minus : (f : Front) → f.stage ≡ 0 → next f hyphen false ≡ On (front 0 1 true 0)
+pub next-minus : (f : Front) → f.stage ≡ Blanks → next f hyphen false ≡ Some (front 0 Signed true 0)
 unfolding stepped shown_as
-next-minus f e = rw (eq-eqb f.stage 0 e) refl
+next-minus f e = rw e refl

@@ -48,7 +48,7 @@ and_left false b e = e
 
 and_right : (a b : Bool) → a && b ≡ true → b ≡ true
 and_right true b e = e
-and_right false b e = absurd (let y : ◌≡◌ {A = ℕ} 0 1 = cc in omega arith)
+and_right false b e = absurd cc
 
 -- each nibble is one
 pub in-range-at : (s : List ℕ) (i : ℕ) → all_nibbles s ≡ true → get_or s i 0 < 16

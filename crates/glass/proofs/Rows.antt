@@ -1,14 +1,21 @@
--- What `draw` writes place by place is the picture of the definition: at the right, with blanks before it. Assumes nothing.
+-- What is drawn place by place is the picture of the definition: at the right, with blanks before it.
 use Prim.Native.Nat.{ℕ, zero, suc, ◌+◌, ◌≤◌, ◌<◌}
-use mathlib.Core.Path.{◌≡◌, refl, sym, ap, ◌∙◌}
+use mathlib.Core.Path.{◌≡◌, refl, ap, ◌∙◌}
 use mathlib.Core.Bool.{Bool, true, false, cond}
 use native.Mathlib.Omega.{arith}
 use lib.IntN.{ℤ, nat_abs}
 use borrow.Author.Tests.{leb-true}
-use Rattle.glass.specs.Drawing.{enough, first_enough, fewest, digits_of, is_negative, fits, at_right}
-use Rattle.glass.specs.Walk.{row}
+use Rattle.std.specs.Prelude.{List, [], ◌∷◌, ◌++◌, Option, Some, None, Result, Ok, Err}
+use Rattle.refusals.specs.declared.Refusal.{Refusal}
+use Rattle.refusals.specs.declared.Refusal.TheVariants.{Glass}
+use Rattle.glass.specs.Shapes.{Cell, nibbles}
+use Rattle.glass.specs.Drawing.{enough, first_enough, fewest, digits_of, is_negative, fits, at_right, fitting, drawn}
+use Rattle.glass.specs.Text.{spelt, written, text_of}
+use Rattle.glass.specs.Walk.{figure_of, row}
+use Rattle.glass.specs.declared.Reading.TheVariants.{Number}
+use Rattle.glass.specs.declared.figure.Figure.{Figure}
 
-pub rows : (minus : Bool) (size count n : ℕ) → 0 < n → fits minus n ≡ true → row minus size count n ≡ at_right minus (digits_of n size count)
+rows : (minus : Bool) (size count n : ℕ) → 0 < n → fits minus n ≡ true → row (record { minus = minus; size = size; places = count; digits = n }) ≡ at_right minus (digits_of n size count)
 rows minus size count zero p f = absurd (omega arith)
 rows true size count (suc zero) p f = refl
 rows true size count (suc (suc zero)) p f = refl
@@ -32,12 +39,35 @@ from size count (suc more) n = go (enough size count n) (from size count more (s
 pub some-digit : (size count : ℕ) → 0 < fewest size count
 some-digit size count = let h = from size count 4 1 in omega (arith, h)
 
--- the code's numbers are the definition's
-pub same-fewest : (v : ℤ) (p size n : ℕ) → size ≡ nat_abs v → n ≡ fewest size p → n ≡ fewest (nat_abs v) p
-same-fewest v p size n s k = k ∙ ap (λ (x : ℕ). fewest x p) s
+-- what is drawn and written of a number, by whether it fits
+abbrev pub drawn_from : Option Figure → Result (List ℕ) Refusal
+drawn_from None = Err Glass
+drawn_from (Some x) = Ok (nibbles (row x))
 
-pub same-fits : (v : ℤ) (p : ℕ) (minus : Bool) (size n : ℕ) (b : Bool) → minus ≡ is_negative v → size ≡ nat_abs v → n ≡ fewest size p → fits minus n ≡ b → fits (is_negative v) (fewest (nat_abs v) p) ≡ b
-same-fits v p minus size n b m s k f = ap (fits (is_negative v)) (sym (same-fewest v p size n s k)) ∙ ap (λ (x : Bool). fits x n) (sym m) ∙ f
+pub drawn_as : (v : ℤ) (c : ℕ) (o : Option Figure) → o ≡ figure_of v c → drawn_from o ≡ cond (fitting (Number v c)) (Ok (nibbles (drawn (Number v c)))) (Err Glass)
+drawn_as v c o e = ap drawn_from e ∙ go (fitting (Number v c)) refl
+  where
+    n : ℕ
+    n = fewest (nat_abs v) c
+
+    x : Figure
+    x = record { minus = is_negative v; size = nat_abs v; places = c; digits = n }
+
+    go : (b : Bool) → fitting (Number v c) ≡ b → drawn_from (cond b (Some x) None) ≡ cond b (Ok (nibbles (drawn (Number v c)))) (Err Glass)
+    go true f = ap (λ (s : List Cell). Ok (nibbles s)) (rows (is_negative v) (nat_abs v) c n (some-digit (nat_abs v) c) f)
+    go false f = refl
+
+abbrev pub text_from : Option Figure → List ℕ
+text_from None = []
+text_from (Some x) = cond x.minus (45 ∷ []) [] ++ spelt (digits_of x.digits x.size x.places)
+
+pub written_as : (v : ℤ) (c : ℕ) (o : Option Figure) → o ≡ figure_of v c → text_from o ≡ text_of (Number v c)
+unfolding text_of
+written_as v c o e = ap text_from e ∙ go (fitting (Number v c))
+  where
+    go : (b : Bool) → text_from (cond b (Some (record { minus = is_negative v; size = nat_abs v; places = c; digits = fewest (nat_abs v) c })) None) ≡ cond b (written (Number v c)) []
+    go true = refl
+    go false = refl
 
 -- how many digits fit
 pub fits_under : (minus : Bool) (n : ℕ) → fits minus n ≡ true → n + cond minus 1 0 ≤ 4

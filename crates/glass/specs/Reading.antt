@@ -1,12 +1,15 @@
 -- What reading a picture answers. Document 02, wish 7: "Answers: 3 for a picture nibble over 15; then 16 for any picture not allowed here, with the
 -- leftmost digit that no valid picture with the same digits before it has". Assumes nothing.
-use Rattle.std.specs.Prelude.{ℕ, suc, ◌*◌, ◌<◌, ◌≡◌, Bool, true, false, cond, ◌&&◌, List, [], ◌∷◌, eqb, ltb, length, take}
+use Rattle.std.specs.Prelude.{ℕ, suc, ◌*◌, ◌<◌, ◌≡◌, Bool, true, false, cond, ◌&&◌, List, [], ◌∷◌, eqb, ltb, length, take, Result, Ok, Err}
+use Rattle.refusals.specs.Numbers.{number_of}
+use Rattle.refusals.specs.declared.Refusal.{Refusal}
+use Rattle.refusals.specs.declared.Refusal.TheVariants.{Buffer, Value, Glass}
 use Rattle.glass.specs.Shapes.{Cell, glass, cells}
 use Rattle.glass.specs.Pictures.{Reads, Valid}
 use Rattle.glass.specs.declared.Reading.{Reading}
 use Rattle.glass.specs.declared.Reading.TheVariants.{Dark}
-use Rattle.glass.specs.declared.Seen.{Seen}
-use Rattle.glass.specs.declared.Seen.TheVariants.{Shown, BadLength, BadNibble, Unreadable}
+use Rattle.glass.specs.declared.Unseen.{Unseen}
+use Rattle.glass.specs.declared.Unseen.TheVariants.{BadLength, BadNibble, Unreadable}
 
 -- a picture has as many digits as this one, the first k of them the same, and is valid
 pub record Shares (k : ℕ) (picture : List Cell) : Type 0 where
@@ -34,25 +37,35 @@ all_nibbles (x ∷ xs) = ltb x 16 && all_nibbles xs
 abbrev pub EightNibbles : List ℕ → Type 0
 EightNibbles s = (length s ≡ 2 * glass) × (all_nibbles s ≡ true)
 
--- the paper's number of each answer, 0 for an answer that is not refused. 2 is a picture of another length
+-- what a picture is read as, or why it has no reading
+abbrev pub Seen : Type 0
+Seen = Result Reading Unseen
+
+-- why a picture is refused. `Buffer` is a picture of another length
+abbrev pub refusal_for : Unseen → Refusal
+refusal_for BadLength = Buffer
+refusal_for BadNibble = Value
+refusal_for (Unreadable k) = Glass
+
+-- what `Refusal::from` answers
+abbrev pub Refused : Unseen → Refusal → Type 0
+Refused x r = r ≡ refusal_for x
+
+-- the paper's number of each answer, 0 for an answer that is not refused: 2 is a picture of another length
 abbrev pub seen_refusal : Seen → ℕ
-seen_refusal (Shown r) = 0
-seen_refusal BadLength = 2
-seen_refusal BadNibble = 3
-seen_refusal (Unreadable k) = 16
+seen_refusal (Ok r) = 0
+seen_refusal (Err x) = number_of (refusal_for x)
 
 -- and its values: the reading of 0, the digit of 16. Dark and 0 stand beside any other number
 abbrev pub seen_reading : Seen → Reading
-seen_reading (Shown r) = r
-seen_reading BadLength = Dark
-seen_reading BadNibble = Dark
-seen_reading (Unreadable k) = Dark
+seen_reading (Ok r) = r
+seen_reading (Err x) = Dark
 
 abbrev pub seen_digit : Seen → ℕ
-seen_digit (Shown r) = 0
-seen_digit BadLength = 0
-seen_digit BadNibble = 0
-seen_digit (Unreadable k) = k
+seen_digit (Ok r) = 0
+seen_digit (Err BadLength) = 0
+seen_digit (Err BadNibble) = 0
+seen_digit (Err (Unreadable k)) = k
 
 -- what each number says of a picture, with an answer's values: 0, that it reads so; document 01's 2, a buffer of another length; "3 for a picture
 -- nibble over 15; then 16 .."

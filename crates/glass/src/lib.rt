@@ -1,27 +1,43 @@
 // What an operator reads on the glass: document 02, wish 7. Four digits, two nibbles each; numbers alone, no machine.
 #![tactic(auto)]
 
+ghost use Rattle.glass.specs.Reading.{Refused};
+
 pub mod draw;
+mod figure;
 pub mod read;
 mod shapes;
-pub mod signed;
-pub mod text;
+mod signed;
+mod text;
+
+use refusals::Refusal;
 
 // What a glass shows: nothing, or a signed whole number and the count of digits after the point.
-#[derive(Clone, Copy)]
+#[derive(Clone, Copy, Debug, PartialEq, Eq)]
 pub enum Reading {
     Dark,
     Number(i32, u8),
 }
 
-// What a picture is read as: its reading, or a refusal.
-#[derive(Clone, Copy)]
-pub enum Seen {
-    Shown(Reading),
-    // 2: not eight nibbles.
+// Why a picture has no reading.
+#[derive(Clone, Copy, Debug, PartialEq, Eq)]
+pub enum Unseen {
+    // It has not eight nibbles.
     BadLength,
-    // 3: a nibble over 15.
+    // A nibble is over 15.
     BadNibble,
-    // 16, with the leftmost digit that no valid picture with the same digits before it has.
+    // The leftmost digit that no valid picture with the same digits before it has.
     Unreadable(u8),
+}
+
+impl From<Unseen> for Refusal {
+    ghost from_gives = { Refused };
+
+    fn from(unseen: Unseen) -> Refusal {
+        match unseen {
+            Unseen::BadLength => Refusal::Buffer,
+            Unseen::BadNibble => Refusal::Value,
+            Unseen::Unreadable(_) => Refusal::Glass,
+        }
+    }
 }

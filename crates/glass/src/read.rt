@@ -2,148 +2,117 @@
 ghost use Rattle.std.specs.Prelude.{◌≡◌, true, ◌/◌, ◌<◌, ◌≤◌, eqb, length};
 ghost use Rattle.glass.specs.Shapes.{cell};
 ghost use Rattle.glass.specs.Reading.{SeenAnswers, all_nibbles};
-ghost use Rattle.glass.specs.Walk.{code_of, numeral_taken, reading_of, shown_as, stepped};
+ghost use Rattle.glass.specs.Walk.{code_of, numeral_taken, reading_of, shown, stepped};
 
-use crate::shapes::shown;
+use crate::shapes::{Mark, shown};
 use crate::signed::signed;
-use crate::{Reading, Seen};
+use crate::{Reading, Unseen};
 
-// What the digits so far show. `stage` is 0 after blanks alone, 1 after a minus, 2 among digits, 3 among digits from the one with the point on.
+// What the digits so far are.
+#[derive(Clone, Copy, Debug, PartialEq, Eq)]
+enum Stage {
+    Blanks,
+    // Blanks and a minus.
+    Signed,
+    Digits,
+    // Digits from the one with the point on.
+    Fraction,
+}
+
+// What the digits so far show.
 #[derive(Clone, Copy)]
 struct Front {
     value: u16,
-    stage: u8,
+    stage: Stage,
     minus: bool,
     places: u8,
 }
 
-// One digit more: what is shown then, or a digit that cannot stand there.
-#[derive(Clone, Copy)]
-enum Next {
-    On(Front),
-    Off,
-}
-
-// A numeral more.
-fn take_numeral(front: Front, numeral: u8, point: bool) -> Next
+// A numeral more; none with a second point.
+#[tactic(auto, unfolding(crate::specs::Walk::numeral_taken))]
+fn take_numeral(front: Front, numeral: u8, point: bool) -> Option<Front>
     requires { (front.value < 1000) × (front.places ≤ 3) × (numeral < 10) }
     ensures { result ≡ numeral_taken front numeral point }
 {
-    let value = front.value * 10 + numeral as u16;
-    if front.stage == 3 {
-        if point { // a second one
-            return Next::Off;
-        }
-        return Next::On(Front {
-            value,
-            stage: 3,
-            minus: front.minus,
-            places: front.places + 1,
-        });
-    }
-    if point {
-        return Next::On(Front {
-            value,
-            stage: 3, // from here on no other point
-            minus: front.minus,
-            places: 0,
-        });
-    }
-    Next::On(Front {
-        value,
-        stage: 2,
+    let (stage, places) = match (front.stage, point) {
+        (Stage::Fraction, true) => return None,
+        (Stage::Fraction, false) => (Stage::Fraction, front.places + 1),
+        (_, true) => (Stage::Fraction, 0),
+        (_, false) => (Stage::Digits, 0),
+    };
+    Some(Front {
+        value: front.value * 10 + u16::from(numeral),
+        stage,
         minus: front.minus,
-        places: 0,
+        places,
     })
 }
 
-// A minus on the last digit has no digit after it.
-fn step(front: Front, abcd: u8, efgp: u8, last: bool) -> Next
+// One digit more, or none that can stand there. A minus on the last digit has no digit after it.
+#[tactic(auto, unfolding(crate::specs::Walk::stepped))]
+fn step(front: Front, abcd: u8, efgp: u8, last: bool) -> Option<Front>
     requires { (front.value < 1000) × (front.places ≤ 3) × (abcd < 16) }
-    ensures { result ≡ stepped front (shown_as (code_of (cell abcd efgp))) (eqb (efgp / 8) 1) last }
+    ensures { result ≡ stepped front (shown (code_of (cell abcd efgp))) (eqb (efgp / 8) 1) last }
 {
     let point = efgp / 8 == 1;
-    let mark = shown(abcd + efgp % 8 * 16);
-    if mark < 10 {
-        return take_numeral(front, mark, point);
-    }
-    if point { // on a blank or a minus
-        return Next::Off;
-    }
-    if front.stage != 0 {
-        return Next::Off;
-    }
-    if mark == 10 {
-        return Next::On(front);
-    }
-    if last {
-        return Next::Off;
-    }
-    if mark == 11 {
-        return Next::On(Front {
+    match (shown(abcd + efgp % 8 * 16)?, front.stage) {
+        (Mark::Numeral(numeral), _) => take_numeral(front, numeral, point),
+        (Mark::Blank, Stage::Blanks) if !point => Some(front),
+        (Mark::Minus, Stage::Blanks) if !point && !last => Some(Front {
             value: 0,
-            stage: 1,
+            stage: Stage::Signed,
             minus: true,
-            places: 0, // none yet
-        });
+            places: 0,
+        }),
+        _ => None,
     }
-    Next::Off
 }
 
 // What all digits show.
-fn told(front: Front) -> Seen
-    ensures { result ≡ Seen.Shown (reading_of front) }
+fn told(front: Front) -> Reading
+    ensures { result ≡ reading_of front }
 {
-    if front.stage == 0 {
-        return Seen::Shown(Reading::Dark);
+    match front.stage {
+        Stage::Blanks => Reading::Dark,
+        _ => Reading::Number(signed(front.minus, front.value), front.places),
     }
-    Seen::Shown(Reading::Number(signed(front.minus, front.value), front.places))
 }
 
-fn walk(picture: &[u8]) -> Seen
+fn walk(picture: &[u8]) -> Result<Reading, Unseen>
     requires { (length picture.now ≡ 8) × (all_nibbles picture.now ≡ true) }
     ensures { SeenAnswers picture.now result }
 {
     let mut front = Front {
         value: 0,
-        stage: 0,
+        stage: Stage::Blanks,
         minus: false,
         places: 0,
     };
-    let mut k = 0u8;
-    while k < 4 {
+    for k in 0..4u8 {
         let at = k as usize * 2;
-        let Next::On(next) = step(front, picture[at], picture[at + 1], k == 3) else {
-            return Seen::Unreadable(k);
+        let Some(next) = step(front, picture[at], picture[at + 1], k == 3) else {
+            return Err(Unseen::Unreadable(k));
         };
         front = next;
-        k += 1;
     }
-    told(front)
+    Ok(told(front))
 }
 
 fn in_range(picture: &[u8]) -> bool
     ensures { result ≡ all_nibbles picture.now }
 {
-    let mut i = 0;
-    while i < picture.len() {
-        if picture[i] > 15 {
-            return false;
-        }
-        i += 1;
-    }
-    true
+    picture.iter().all(|nibble| *nibble < 16)
 }
 
-// What a picture shows, or its refusal.
-pub fn read(picture: &[u8]) -> Seen
+// What a picture shows, or why it shows nothing.
+pub fn read(picture: &[u8]) -> Result<Reading, Unseen>
     ensures { SeenAnswers picture.now result }
 {
     if picture.len() != 8 {
-        return Seen::BadLength;
+        return Err(Unseen::BadLength);
     }
-    if in_range(picture) {
-        return walk(picture);
+    if !in_range(picture) {
+        return Err(Unseen::BadNibble);
     }
-    Seen::BadNibble
+    walk(picture)
 }

@@ -1,7 +1,15 @@
 // The shapes of a digit. A code is the first nibble (a, b, c, d) and 16 times e, f, g: the point is not in it.
 ghost use Rattle.std.specs.Prelude.{◌≡◌};
 ghost use Rattle.glass.specs.Shapes.{shape};
-ghost use Rattle.glass.specs.Walk.{code_of, shown_as};
+ghost use Rattle.glass.specs.Walk.{code_of, shown};
+
+// What a digit shows.
+#[derive(Clone, Copy, Debug, PartialEq, Eq)]
+pub(crate) enum Mark {
+    Numeral(u8),
+    Blank,
+    Minus,
+}
 
 // The code of 0 to 9; blank for any other number.
 pub(crate) fn shape(numeral: u8) -> u8
@@ -22,23 +30,25 @@ pub(crate) fn shape(numeral: u8) -> u8
     }
 }
 
-// What a code shows: 0 to 9, 10 for a blank, 11 for a minus, 12 for anything else.
-pub(crate) fn shown(code: u8) -> u8
-    ensures { result ≡ shown_as code }
+// What a code shows, if it is a shape's.
+#[tactic(auto, unfolding(crate::specs::Walk::shown_as))]
+pub(crate) fn shown(code: u8) -> Option<Mark>
+    ensures { result ≡ shown code }
 {
-    match code {
-        0x3f => 0,
-        0x06 => 1,
-        0x5b => 2,
-        0x4f => 3,
-        0x66 => 4,
-        0x6d => 5,
-        0x7d => 6,
-        0x07 => 7,
-        0x7f => 8,
-        0x6f => 9,
-        0x00 => 10,
-        0x40 => 11,
-        _ => 12,
-    }
+    let mark = match code {
+        0x3f => Mark::Numeral(0),
+        0x06 => Mark::Numeral(1),
+        0x5b => Mark::Numeral(2),
+        0x4f => Mark::Numeral(3),
+        0x66 => Mark::Numeral(4),
+        0x6d => Mark::Numeral(5),
+        0x7d => Mark::Numeral(6),
+        0x07 => Mark::Numeral(7),
+        0x7f => Mark::Numeral(8),
+        0x6f => Mark::Numeral(9),
+        0x00 => Mark::Blank,
+        0x40 => Mark::Minus,
+        _ => return None,
+    };
+    Some(mark)
 }

@@ -1,60 +1,63 @@
-// A reading as a person writes it: `dark`, 12.34, -0.50. A text is a number whose bytes are its characters, the first lowest.
-ghost use Rattle.std.specs.Prelude.{◌≡◌, cond, ◌+◌, ◌*◌, ◌^◌, ◌<◌, ◌≤◌};
-ghost use Rattle.glass.specs.Drawing.{digits_of, point_at};
-ghost use Rattle.glass.specs.Text.{packed, spelt, text_of};
+// A reading as a person writes it: `dark`, 12.34, -0.50.
+ghost use Rattle.std.specs.Prelude.{◌+◌, ◌<◌, ◌≤◌, [], ◌∷◌, ◌++◌, cond, Some};
+ghost use Rattle.std.specs.Fmt.{WritesOnOk};
+ghost use Rattle.glass.specs.Drawing.{digits_of};
+ghost use Rattle.glass.specs.Text.{spelt, text_of};
 
 use crate::Reading;
-use crate::draw::{fewest, fits, point_at, power};
-use crate::signed::{negative, size};
+use crate::figure::Figure;
+use std::fmt;
 
-// A point before a text, where so many digits follow it.
-fn pointed(text: u64, places: u8, after: u8) -> u64
-    requires { text < 65536 ^ 3 }
-    ensures { result ≡ cond (point_at after places) (46 + 256 * text) text }
-{
-    if point_at(after, places) {
-        return text * 256 + 46;
-    }
-    text
-}
+// No characters where the reading does not fit the glass.
+impl fmt::Display for Reading {
+    ghost output = { λ r. Some (text_of r) };
 
-// The characters of the last `n` digits, the point among them.
-fn digits(size: u32, places: u8, n: u8) -> u64
-    requires { n ≤ 4 }
-    ensures { (result ≡ packed (spelt (digits_of n size places))) × (result < 65536 ^ n) }
-{
-    let mut text = 0u64;
-    let mut after = 0u8;
-    while after < n {
-        let numeral = size / power(after) % 10;
-        text = pointed(text, places, after) * 256 + 48 + numeral as u64;
-        after += 1;
-    }
-    text
-}
-
-fn text_of(value: i32, places: u8) -> u64
-    ensures { result ≡ packed (text_of (Reading.Number value places)) }
-{
-    let minus = negative(value);
-    let size = size(value);
-    let n = fewest(size, places);
-    if fits(minus, n) {
-        let text = digits(size, places, n);
-        if minus {
-            return text * 256 + 45;
+    #[tactic(auto, unfolding(crate::specs::Text::text_of))]
+    fn fmt<W: fmt::Write>(&self, f: &mut fmt::Formatter<W>) -> fmt::Result {
+        match *self {
+            Reading::Dark => f.write_str("dark"),
+            Reading::Number(value, places) => write_number(f, value, places),
         }
-        return text;
     }
-    0
 }
 
-// The text of a reading; 0, no characters, where it does not fit the glass.
-pub fn text(reading: Reading) -> u64
-    ensures { result ≡ packed (text_of reading) }
+fn write_number<W: fmt::Write>(f: &mut fmt::Formatter<W>, value: i32, places: u8) -> fmt::Result
+    ensures { WritesOnOk W.write_str_gives f.old result (text_of (Reading.Number value places)) f.new }
 {
-    match reading {
-        Reading::Dark => 0x6b726164,
-        Reading::Number(value, places) => text_of(value, places),
+    match Figure::of(value, places) {
+        Some(figure) => write_figure(f, figure),
+        None => Ok(()),
     }
+}
+
+fn write_figure<W: fmt::Write>(f: &mut fmt::Formatter<W>, figure: Figure) -> fmt::Result
+    requires { figure.digits ≤ 4 }
+    ensures { WritesOnOk W.write_str_gives f.old result (cond figure.minus (45 ∷ []) [] ++ spelt (digits_of figure.digits figure.size figure.places)) f.new }
+{
+    if figure.minus {
+        f.write_str("-")?;
+    }
+    write_digits(f, figure)
+}
+
+// The point among them.
+fn write_digits<W: fmt::Write>(f: &mut fmt::Formatter<W>, figure: Figure) -> fmt::Result
+    requires { figure.digits ≤ 4 }
+    ensures { WritesOnOk W.write_str_gives f.old result (spelt (digits_of figure.digits figure.size figure.places)) f.new }
+{
+    for after in (0..figure.digits).rev() {
+        write_digit(f, figure.numeral(after), figure.pointed(after))?;
+    }
+    Ok(())
+}
+
+fn write_digit<W: fmt::Write>(f: &mut fmt::Formatter<W>, numeral: u8, pointed: bool) -> fmt::Result
+    requires { numeral < 10 }
+    ensures { WritesOnOk W.write_str_gives f.old result ((48 + numeral) ∷ cond pointed (46 ∷ []) []) f.new }
+{
+    f.write_char(char::from(b'0' + numeral))?;
+    if pointed {
+        f.write_str(".")?;
+    }
+    Ok(())
 }

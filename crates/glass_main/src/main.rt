@@ -17,7 +17,7 @@ use glass::read::read;
 use std::fs::File;
 use std::io;
 use std::io::{BufReader, BufWriter, Read, Write};
-use text::{put, put_bytes, put_number, put_reading, put_seen};
+use text::{put_bytes, put_reading, put_seen};
 
 // What a picture holds before a reading is drawn on it: no nibble.
 const KEPT: u8 = 255;
@@ -29,19 +29,15 @@ fn byte<R: Read>(file: &mut R) -> u8 {
 }
 
 fn word<R: Read>(file: &mut R) -> u16 {
-    let low = byte(file);
-    let high = byte(file);
-    low as u16 + high as u16 * 256
-}
-
-fn negated(size: u16) -> i32 {
-    0 - size as i32
+    let mut two = [0u8; 2];
+    read_full(file, &mut two);
+    u16::from_le_bytes(two)
 }
 
 fn value(sort: u8, size: u16) -> i32 {
     match sort {
-        1 => size as i32,
-        2 => negated(size),
+        1 => i32::from(size),
+        2 => -i32::from(size),
         3 => 65541,
         4 => -65541,
         5 => 2147483647,
@@ -60,18 +56,21 @@ fn reading<R: Read>(file: &mut R) -> Reading {
 }
 
 fn put_read<W: Write>(out: &mut W, picture: &[u8]) -> io::Result<()> {
-    put(out, b"read ")?;
+    write!(out, "read ")?;
     put_bytes(out, picture)?;
-    put(out, b": ")?;
+    write!(out, ": ")?;
     put_seen(out, read(picture))
 }
 
 fn put_draw<W: Write>(out: &mut W, reading: Reading, picture: &mut [u8]) -> io::Result<()> {
-    put(out, b"draw ")?;
+    write!(out, "draw ")?;
     put_reading(out, reading)?;
-    put_number(out, b" on ", picture.len() as u64)?;
-    put_number(out, b": ", draw(reading, picture) as u64)?;
-    put(out, b" ")?;
+    let length = picture.len();
+    let number = match draw(reading, picture) {
+        Ok(()) => 0,
+        Err(refusal) => u8::from(refusal),
+    };
+    write!(out, " on {length}: {number} ")?;
     put_bytes(out, picture)
 }
 
@@ -96,14 +95,12 @@ fn case<R: Read, W: Write>(file: &mut R, out: &mut W) -> io::Result<()> {
         0 => picture_case(file, out, length)?,
         _ => reading_case(file, out, length)?,
     }
-    put(out, b"\n")
+    writeln!(out)
 }
 
 fn cases<R: Read, W: Write>(file: &mut R, out: &mut W) -> io::Result<()> {
-    let mut left = word(file);
-    while 0 < left {
+    for _ in 0..word(file) {
         case(file, out)?;
-        left -= 1;
     }
     Ok(())
 }
@@ -112,7 +109,7 @@ fn main(rt: HostRuntime) -> io::Result<()> {
     let mut out = BufWriter::new(rt.alloc(), io::writer(&rt))?;
     match File::open(&rt, "cases.bin") {
         Ok(file) => cases(&mut BufReader::new(rt.alloc(), file)?, &mut out)?,
-        Err(_) => put(&mut out, b"no cases.bin\n")?,
+        Err(_) => writeln!(out, "no cases.bin")?,
     }
     out.flush()
 }

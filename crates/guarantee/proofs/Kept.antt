@@ -10,11 +10,10 @@ use mathlib.Core.Logic.{inl, inr}
 use native.Mathlib.Omega.{arith}
 use lib.Dec.{eqb}
 use borrow.Author.Tests.{eq-eqb, eqb-true, eqb-false}
+use Rattle.std.specs.Prelude.{Option, Some, None}
 use Rattle.isa.specs.Choice.{pick}
 use Rattle.isa.specs.Views.{View, on, jmp, branch, call, ret, reti, ei, view}
 use Rattle.isa.specs.declared.Instruction.{Instruction}
-use Rattle.isa.specs.declared.decoder.Decoded.{Decoded}
-use Rattle.isa.specs.declared.decoder.Decoded.TheVariants.{Read, Unreadable}
 use Rattle.rom.specs.Fetching.{Bytes, read_at, length_at, cycles_at, moved_from, branch_to}
 use Rattle.cpu.specs.declared.Cpu.{Cpu}
 use Rattle.cpu.specs.State.{State, on_cpu, address, with_pc, with_tf, with_held, with_level, with_stack}
@@ -123,11 +122,11 @@ module _ (mask : List ℕ) (R : ℕ → ℕ → Type 0) (confines : Confines mas
   settled-kept : (n : ℕ) (s t : State) → Keeps R t.cpu → Keeps R (settled n s t).cpu
   settled-kept n s t k = rw (eq-eqb t.cpu.status.fault 0 k.no-fault) (ticked-kept n t.cpu k)
 
-  instructed-kept : (s : State) (d : Decoded) → Keeps R s.cpu → read_at mask s.cpu.control.pc.0 ≡ d
+  instructed-kept : (s : State) (d : Option Instruction) → Keeps R s.cpu → read_at mask s.cpu.control.pc.0 ≡ d
       → Keeps R (instructed mask d (length_at mask s.cpu.control.pc.0) (cycles_at mask s.cpu.control.pc.0) s).cpu
   unfolding flow_of flow_at
-  instructed-kept s Unreadable k e = absurd (omega (arith, allowed s.cpu.control.pc.0 s.cpu.interrupts.level Unread k.here (ap flow_read e)))
-  instructed-kept s (Read i) k e =
+  instructed-kept s None k e = absurd (omega (arith, allowed s.cpu.control.pc.0 s.cpu.interrupts.level Unread k.here (ap flow_read e)))
+  instructed-kept s (Some i) k e =
       let pc = s.cpu.control.pc.0 in
       let l = s.cpu.interrupts.level in
       let m = on_cpu (moved (length_at mask pc)) s in

@@ -9,12 +9,12 @@ use native.Mathlib.Decide.{dec_le}
 use borrow.Author.Tests.{eqb-true}
 use lib.Dec.{eqb}
 use lib.ListN.{length, get_or, replicate, length-replicate, get_or-replicate}
+use Rattle.std.specs.Prelude.{Some, None}
 use Rattle.isa.specs.Code.{addresses}
 use Rattle.isa.specs.Reading.{decoded, opcodes}
 use Rattle.isa.specs.Timing.{columns_of, columns_at}
 use Rattle.isa.specs.Views.{view}
 use Rattle.isa.specs.declared.Instruction.TheVariants as I
-use Rattle.isa.specs.declared.decoder.Decoded.TheVariants.{Read, Unreadable}
 use Rattle.rom.specs.Fetching.{sized, byte_at, read_at, length_at}
 use Rattle.rom.proofs.Fetching.{full, read-bytes, length-bytes}
 use Rattle.machine.specs.Table.{nops}
@@ -25,6 +25,8 @@ use Rattle.checker.specs.Marks.{Pair, pair, flow_of, flow_at, fault, successors,
 use Rattle.checker.specs.Verdicts.{marks_size, Answers, Marked, rank, Safe, Lowest}
 use Rattle.checker.specs.declared.check.Verdict.{Verdict}
 use Rattle.checker.specs.declared.check.Verdict.TheVariants.{Passed, Failed}
+use Rattle.std.specs.Prelude.{Result, Ok}
+use Rattle.refusals.specs.declared.Refusal.{Refusal}
 use Rattle.checker.proofs.Answer.{its-bit, same-marks, answer-passed, answer-failed}
 use Rattle.guarantee.specs.Table.{ProvedTable}
 
@@ -38,7 +40,7 @@ nop-at a = get_or-replicate addresses (a % addresses) 0x3e 0 (below a)
 
 -- a NOP hands on to the next address in its level, and gives no fault
 module _ (mask : List ℕ) (a l : ℕ) (e : byte_at mask a ≡ 0x3e) where
-  nop-read : read_at mask a ≡ Read I.Nop
+  nop-read : read_at mask a ≡ Some I.Nop
   unfolding decoded opcodes
   nop-read = read-bytes mask a ∙ rw e refl
 
@@ -99,16 +101,16 @@ ones =
 nops-safe : Safe nops
 nops-safe p r = nop-fault nops p.address p.level (nop-at p.address)
 
-passes-3e : (old : List ℕ) → length old ≡ marks_size → Answers nops old (replicate marks_size 1) Passed
+passes-3e : (old : List ℕ) → length old ≡ marks_size → Answers nops old (replicate marks_size 1) (Ok Passed)
 passes-3e old l = (record { mask_size = nops-full; marks-size = l; marked = ones }, nops-safe)
 
-pub every-3e : (old new : List ℕ) (v : Verdict) → length old ≡ marks_size → Answers nops old new v → (v ≡ Passed) × (new ≡ replicate marks_size 1)
+pub every-3e : (old new : List ℕ) (v : Result Verdict Refusal) → length old ≡ marks_size → Answers nops old new v → (v ≡ Ok Passed) × (new ≡ replicate marks_size 1)
 every-3e old new v l w =
     let e = answer-passed nops old new nops-full l v nops-safe w in
     (e, same-marks nops new (replicate marks_size 1) (subst (Answers nops old new) e w).0.marked ones)
 
 -- ---- a mask that fails is answered with its lowest forbidden pair
-first-unread : (mask : List ℕ) → byte_at mask 0 ≡ 0x40 → byte_at mask 1 ≡ 0x15 → read_at mask 0 ≡ Unreadable
+first-unread : (mask : List ℕ) → byte_at mask 0 ≡ 0x40 → byte_at mask 1 ≡ 0x15 → read_at mask 0 ≡ None
 unfolding decoded opcodes
 first-unread mask e f = read-bytes mask 0 ∙ rw (e, f) refl
 
@@ -119,13 +121,13 @@ first-fault mask e f = rw (first-unread mask e f) refl
 lowest-40-15 : (mask : List ℕ) → byte_at mask 0 ≡ 0x40 → byte_at mask 1 ≡ 0x15 → Lowest mask 1 0 0
 lowest-40-15 mask e f = record { reached = reached-start; forbidden = first-fault mask e f; not-zero = λ z. omega arith; lowest = λ p r n. omega arith }
 
-pub mask-40-15 : (mask old new : List ℕ) (v : Verdict) → sized mask ≡ true → length old ≡ marks_size → byte_at mask 0 ≡ 0x40 → byte_at mask 1 ≡ 0x15 → Answers mask old new v → v ≡ Failed 1 0 0
+pub mask-40-15 : (mask old new : List ℕ) (v : Result Verdict Refusal) → sized mask ≡ true → length old ≡ marks_size → byte_at mask 0 ≡ 0x40 → byte_at mask 1 ≡ 0x15 → Answers mask old new v → v ≡ Ok (Failed 1 0 0)
 mask-40-15 mask old new v m l e f =
     answer-failed mask old new m l 1 0 0 v (lowest-40-15 mask e f)
 
 -- "F0 10 then 3E: fault 2 at 0, level 1": the subroutine at 010h runs on past FFFh to the CALL at 0
 module _ (mask : List ℕ) (call : byte_at mask 0 ≡ 0xf0) (to : byte_at mask 1 ≡ 0x10) (rest : (a : ℕ) → 2 ≤ a → a < addresses → byte_at mask a ≡ 0x3e) where
-  call-read : read_at mask 0 ≡ Read (I.Call (record { 0 = 0x010 }))
+  call-read : read_at mask 0 ≡ Some (I.Call (record { 0 = 0x010 }))
   unfolding decoded opcodes
   call-read = read-bytes mask 0 ∙ rw (call, to) refl
 
@@ -174,7 +176,7 @@ module _ (mask : List ℕ) (call : byte_at mask 0 ≡ 0xf0) (to : byte_at mask 1
   lowest-f0-10 : Lowest mask 2 0 1
   lowest-f0-10 = record { reached = at_zero; forbidden = call-inside; not-zero = λ z. omega arith; lowest = λ p r n. lowest-one p n }
 
-  pub mask-f0-10 : (old new : List ℕ) (v : Verdict) → sized mask ≡ true → length old ≡ marks_size → Answers mask old new v → v ≡ Failed 2 0 1
+  pub mask-f0-10 : (old new : List ℕ) (v : Result Verdict Refusal) → sized mask ≡ true → length old ≡ marks_size → Answers mask old new v → v ≡ Ok (Failed 2 0 1)
   mask-f0-10 old new v m l = answer-failed mask old new m l 2 0 1 v lowest-f0-10
 
 pub proved-table : ProvedTable

@@ -6,6 +6,7 @@ use mathlib.Core.Path.{◌≡◌, refl, sym, ap, subst, ◌∙◌}
 use mathlib.Core.Bool.{Bool, true, false, ◌&&◌}
 use mathlib.Core.List.{List, [], ◌∷◌}
 use lib.Dec.{eqb}
+use Rattle.std.specs.Prelude.{Some, None}
 use Rattle.isa.specs.Choice.{pick}
 use Rattle.cpu.specs.Range.{valid}
 use Rattle.cpu.specs.declared.Options.{Options}
@@ -16,7 +17,6 @@ use Rattle.machine.specs.Events.{woken, wakes, pinned, interrupted, clocked, cou
 use Rattle.machine.specs.declared.Machine.{Machine}
 use Rattle.machine.specs.declared.events.Event.{Event}
 use Rattle.machine.specs.declared.events.Event.TheVariants.{Run, Pins, Int, Tmclk, Res}
-use Rattle.machine.specs.declared.events.Named.TheVariants.{Known, Unknown}
 use Rattle.machine.proofs.Lists.{session-after, powered-on}
 use Rattle.reach.proofs.Chains.{reached-start}
 use Rattle.cpu.proofs.Leaves.{Standing, standing, same-pick, counting-same}
@@ -52,13 +52,13 @@ module _ (R : ℕ → ℕ → Type 0) (begins : R 0 0) where
       go true = p
       go false = q
 
-  pub input-kept : (given : List ℕ) (i : Input) → ((n : ℕ) → i ≡ named (Known (Run n)) → Confines given R) → (m : Machine) → Keeps R m.cpu
+  pub input-kept : (given : List ℕ) (i : Input) → ((n : ℕ) → i ≡ named (Some (Run n)) → Confines given R) → (m : Machine) → Keeps R m.cpu
       → Keeps R (answer_to given i m).machine.cpu
   unfolding power_on applied
   input-kept given (power options image) u m k = answered-kept (power_refusal options image) (powered options image) m (powered-kept options image) k
-  input-kept given (named (Known e)) u m k =
-      answered-kept (refusal_of given e m) (happened given e m) m (happened-kept given e (λ n p. u n (ap (λ (x : Event). named (Known x)) p)) m k) k
-  input-kept given (named Unknown) u m k = answered-kept (pick (valid (state_of m)) 7 5) m m k k
+  input-kept given (named (Some e)) u m k =
+      answered-kept (refusal_of given e m) (happened given e m) m (happened-kept given e (λ n p. u n (ap (λ (x : Event). named (Some x)) p)) m k) k
+  input-kept given (named None) u m k = answered-kept (pick (valid (state_of m)) 7 5) m m k k
 
   after_kept : (mask : List ℕ) → Confines mask R → (ks : List Call) → Every (UnderMask mask) ks → (m : Machine) → Keeps R m.cpu → Keeps R (after ks m).cpu
   unfolding after

@@ -1,7 +1,7 @@
 -- Property 3 of document 01, one claim about the whole list. It speaks of what the exported functions promise: `checker::check` promises
 -- `Answers`, `Machine::power_on` promises `power_on` and `Machine::apply_named` `named_answer`, and a `Session` is a list of such calls, each on
 -- the machine that the one before answered. Assumes nothing.
-use Rattle.std.specs.Prelude.{ℕ, ◌≡◌, true, List}
+use Rattle.std.specs.Prelude.{ℕ, ◌≡◌, true, List, Ok}
 use Rattle.rom.specs.Fetching.{Bytes}
 use Rattle.cpu.specs.declared.Options.{Options}
 use Rattle.machine.specs.Power.{powered, power_on}
@@ -15,7 +15,7 @@ use Rattle.checker.specs.declared.check.Verdict.TheVariants.{Passed}
 -- before
 pub record Given (mask old marks : List ℕ) (options : Options) (image : List ℕ) (before : Machine) (start : Answer) : Type 0 where
   pub bytes : Bytes mask
-  pub passed : Answers mask old marks Passed
+  pub passed : Answers mask old marks (Ok Passed)
   pub powering : start ≡ power_on options image before
   pub accepted : start.refusal ≡ 0
 

@@ -5,6 +5,7 @@ use Prim.Native.Nat.{ℕ}
 use mathlib.Core.Bool.{Bool, true, false, not}
 use mathlib.Core.List.{List}
 use lib.Dec.{T, eqb, eqb→eq}
+use Rattle.std.specs.Prelude.{Option, Some, None}
 use Rattle.isa.specs.Choice.{pick}
 use Rattle.cpu.specs.declared.Options.{Options}
 use Rattle.machine.specs.Power.{powered, power_refusal, answered, power_on}
@@ -13,8 +14,7 @@ use Rattle.machine.specs.contracts.Machine as M
 use Rattle.machine.specs.contracts.Answer as A
 use Rattle.machine.specs.declared.Machine.{Machine}
 use Rattle.machine.specs.declared.Answer.{Answer}
-use Rattle.machine.specs.declared.events.Named.{Named}
-use Rattle.machine.specs.declared.events.Named.TheVariants.{Known, Unknown}
+use Rattle.machine.specs.declared.events.Event.{Event}
 use Rattle.ht1130.specs.Lent.{left}
 use Rattle.ht1130.proofs.Wrapper.{Answers, Keeps}
 
@@ -33,10 +33,10 @@ pub power-keeps : (options : Options) (image : List ℕ) (m : Machine) → Keeps
 unfolding power_on
 power-keeps options image m = answered-keeps (power_refusal options image) (powered options image) m
 
-pub event-keeps : (mask : List ℕ) (e : Named) (m : Machine) → Keeps answers m (named_answer mask e m)
+pub event-keeps : (mask : List ℕ) (e : Option Event) (m : Machine) → Keeps answers m (named_answer mask e m)
 unfolding applied
-event-keeps mask (Known e) m = answered-keeps (refusal_of mask e m) (happened mask e m) m
-event-keeps mask Unknown m = answered-keeps (named_answer mask Unknown m).refusal m m
+event-keeps mask (Some e) m = answered-keeps (refusal_of mask e m) (happened mask e m) m
+event-keeps mask None m = answered-keeps (named_answer mask None m).refusal m m
 
 -- a number that is not 0, as `Keeps` tests it
 not-zero : (n : ℕ) → (n ≡ 0 → ⊥) → T (not (eqb n 0))
@@ -55,6 +55,6 @@ pub power_refused : (options : Options) (image : List ℕ) (m : Machine) (r : An
     → left r.refusal m ≡ power_on options image m
 power_refused options image m r = left-as-it-was m (power_on options image m) r (power-keeps options image m)
 
-pub event_refused : (mask : List ℕ) (e : Named) (m : Machine) (r : Answer) → r ≡ named_answer mask e m → (r.refusal ≡ 0 → ⊥)
+pub event_refused : (mask : List ℕ) (e : Option Event) (m : Machine) (r : Answer) → r ≡ named_answer mask e m → (r.refusal ≡ 0 → ⊥)
     → left r.refusal m ≡ named_answer mask e m
 event_refused mask e m r = left-as-it-was m (named_answer mask e m) r (event-keeps mask e m)

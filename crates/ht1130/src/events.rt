@@ -48,13 +48,18 @@ pub(crate) fn event(
 pub(crate) fn shown(machine: Machine, out: &mut [u8]) -> u8
     ensures { reporting result out.new ≡ report machine out.old }
 {
-    machine.report(out)
+    match machine.report(out) {
+        Ok(()) => 0,
+        Err(refusal) => u8::from(refusal),
+    }
 }
 
 // The count in bytes 4 and 5, the refusal in byte 0.
 pub(crate) fn gap_number(machine: Machine) -> u64
     ensures { result ≡ gap_number (gap_count machine) }
 {
-    let answer = machine.gap_count();
-    answer.refusal as u64 + answer.count as u64 * 0x100000000
+    match machine.gap_count() {
+        Ok(count) => count as u64 * 0x100000000,
+        Err(refusal) => u64::from(u8::from(refusal)),
+    }
 }

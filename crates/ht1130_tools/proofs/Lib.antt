@@ -1,4 +1,3 @@
-pub mod Complements
 pub mod Numbers
 pub mod Readings
 pub mod Small

@@ -3,15 +3,21 @@
 use Prim.Native.Nat.{ℕ, ◌+◌, ◌*◌, ◌%◌, ◌<◌}
 use native.Mathlib.Omega.{arith}
 use mathlib.Core.Path.{◌≡◌, refl, sym, ap, ap₂, ◌∙◌}
+use mathlib.Core.Bool.{Bool}
 use mathlib.Core.List.{List}
+use lib.ListN.{replicate}
 use lib.IntN.{ℤ, pos, negsuc, nat_abs}
-use Rattle.glass.specs.Reading.{SeenAnswers}
+use Rattle.std.specs.Prelude.{Ok, Err}
+use Rattle.refusals.specs.Numbers.{number_of}
+use Rattle.refusals.proofs.Numbers.{same_number}
+use Rattle.machine_glass.specs.Glass.{Sight, Sees, on_glass, pictured, picture_of}
+use Rattle.glass.specs.Reading.{Seen, SeenAnswers}
 use Rattle.glass.specs.declared.Reading.TheVariants.{Dark, Number}
-use Rattle.glass.specs.declared.Seen.{Seen}
-use Rattle.glass.specs.declared.Seen.TheVariants.{Shown, BadLength, BadNibble, Unreadable}
+use Rattle.glass.specs.declared.Unseen.TheVariants.{BadLength, BadNibble, Unreadable}
 use Rattle.glass.proofs.Laws.{seen-determined, shown-under, unreadable-under}
-use Rattle.machine_glass.specs.Glass.{on_glass}
-use Rattle.machine_glass.specs.declared.Sight.TheVariants.{OnGlass, BadMachine}
+use Rattle.isa.specs.Choice.{pick}
+use Rattle.refusals.specs.declared.Refusal.{Refusal}
+use Rattle.machine.specs.declared.Machine.{Machine}
 use Rattle.machine_glass.proofs.Laws.{sight-determined}
 use Rattle.ht1130_tools.specs.Readings.{complement, seen_number, sight_number, GlassReadDetermined, SightToldDetermined, NumberTells, SightTells}
 
@@ -29,8 +35,8 @@ complement-tells (pos m) (negsuc n) h k e = absurd (omega (arith, h, k, e))
 complement-tells (negsuc m) (pos n) h k e = absurd (omega (arith, h, k, e))
 complement-tells (negsuc m) (negsuc n) h k e = ap negsuc (omega (arith, h, k, e))
 
-number_same : (p q : List ℕ) (v w : ℤ) (c d : ℕ) → SeenAnswers p (Shown (Number v c)) → SeenAnswers q (Shown (Number w d))
-    → seen_number (Shown (Number v c)) ≡ seen_number (Shown (Number w d)) → Shown (Number v c) ≡ Shown (Number w d)
+number_same : (p q : List ℕ) (v w : ℤ) (c d : ℕ) → SeenAnswers p (Ok (Number v c)) → SeenAnswers q (Ok (Number w d))
+    → seen_number (Ok (Number v c)) ≡ seen_number (Ok (Number w d)) → ◌≡◌ {A = Seen} (Ok (Number v c)) (Ok (Number w d))
 number_same p q v w c d a b e =
     let x = shown-under p v c a in
     let y = shown-under q w d b in
@@ -38,48 +44,53 @@ number_same p q v w c d a b e =
     let j = y.1 in
     let u : c + complement v * 256 ≡ d + complement w * 256 = omega (arith, e) in
     let same : c ≡ d = low c (complement v) i ∙ ap (λ (k : ℕ). k % 256) u ∙ sym (low d (complement w) j) in
-    ap₂ {C = Seen} (λ (z : ℤ) (n : ℕ). Shown (Number z n)) (complement-tells v w x.0 y.0 (omega (arith, u, same))) same
+    ap₂ {C = Seen} (λ (z : ℤ) (n : ℕ). Ok (Number z n)) (complement-tells v w x.0 y.0 (omega (arith, u, same))) same
   where
     low : (k x : ℕ) → k < 4 → k ≡ (k + x * 256) % 256
     low k x h = omega (arith, h)
 
 pub number-tells : NumberTells
-number-tells p q (Shown Dark) (Shown Dark) a b e = refl
-number-tells p q (Shown Dark) (Shown (Number w d)) a b e = absurd (omega (arith, e))
-number-tells p q (Shown Dark) BadLength a b e = absurd (omega (arith, e))
-number-tells p q (Shown Dark) BadNibble a b e = absurd (omega (arith, e))
-number-tells p q (Shown Dark) (Unreadable k) a b e = absurd (let h = unreadable-under q k b in omega (arith, e, h))
-number-tells p q (Shown (Number v c)) (Shown Dark) a b e = absurd (omega (arith, e))
-number-tells p q (Shown (Number v c)) (Shown (Number w d)) a b e = number_same p q v w c d a b e
-number-tells p q (Shown (Number v c)) BadLength a b e = absurd (omega (arith, e))
-number-tells p q (Shown (Number v c)) BadNibble a b e = absurd (omega (arith, e))
-number-tells p q (Shown (Number v c)) (Unreadable k) a b e = absurd (let h = unreadable-under q k b in omega (arith, e, h))
-number-tells p q BadLength (Shown Dark) a b e = absurd (omega (arith, e))
-number-tells p q BadLength (Shown (Number w d)) a b e = absurd (omega (arith, e))
-number-tells p q BadLength BadLength a b e = refl
-number-tells p q BadLength BadNibble a b e = absurd (omega (arith, e))
-number-tells p q BadLength (Unreadable k) a b e = absurd (omega (arith, e))
-number-tells p q BadNibble (Shown Dark) a b e = absurd (omega (arith, e))
-number-tells p q BadNibble (Shown (Number w d)) a b e = absurd (omega (arith, e))
-number-tells p q BadNibble BadLength a b e = absurd (omega (arith, e))
-number-tells p q BadNibble BadNibble a b e = refl
-number-tells p q BadNibble (Unreadable k) a b e = absurd (omega (arith, e))
-number-tells p q (Unreadable j) (Shown Dark) a b e = absurd (let h = unreadable-under p j a in omega (arith, e, h))
-number-tells p q (Unreadable j) (Shown (Number w d)) a b e = absurd (let h = unreadable-under p j a in omega (arith, e, h))
-number-tells p q (Unreadable j) BadLength a b e = absurd (omega (arith, e))
-number-tells p q (Unreadable j) BadNibble a b e = absurd (omega (arith, e))
-number-tells p q (Unreadable j) (Unreadable k) a b e = ap Unreadable (omega (arith, e))
+number-tells p q (Ok Dark) (Ok Dark) a b e = refl
+number-tells p q (Ok Dark) (Ok (Number w d)) a b e = absurd (omega (arith, e))
+number-tells p q (Ok Dark) (Err BadLength) a b e = absurd (omega (arith, e))
+number-tells p q (Ok Dark) (Err BadNibble) a b e = absurd (omega (arith, e))
+number-tells p q (Ok Dark) (Err (Unreadable k)) a b e = absurd (let h = unreadable-under q k b in omega (arith, e, h))
+number-tells p q (Ok (Number v c)) (Ok Dark) a b e = absurd (omega (arith, e))
+number-tells p q (Ok (Number v c)) (Ok (Number w d)) a b e = number_same p q v w c d a b e
+number-tells p q (Ok (Number v c)) (Err BadLength) a b e = absurd (omega (arith, e))
+number-tells p q (Ok (Number v c)) (Err BadNibble) a b e = absurd (omega (arith, e))
+number-tells p q (Ok (Number v c)) (Err (Unreadable k)) a b e = absurd (let h = unreadable-under q k b in omega (arith, e, h))
+number-tells p q (Err BadLength) (Ok Dark) a b e = absurd (omega (arith, e))
+number-tells p q (Err BadLength) (Ok (Number w d)) a b e = absurd (omega (arith, e))
+number-tells p q (Err BadLength) (Err BadLength) a b e = refl
+number-tells p q (Err BadLength) (Err BadNibble) a b e = absurd (omega (arith, e))
+number-tells p q (Err BadLength) (Err (Unreadable k)) a b e = absurd (omega (arith, e))
+number-tells p q (Err BadNibble) (Ok Dark) a b e = absurd (omega (arith, e))
+number-tells p q (Err BadNibble) (Ok (Number w d)) a b e = absurd (omega (arith, e))
+number-tells p q (Err BadNibble) (Err BadLength) a b e = absurd (omega (arith, e))
+number-tells p q (Err BadNibble) (Err BadNibble) a b e = refl
+number-tells p q (Err BadNibble) (Err (Unreadable k)) a b e = absurd (omega (arith, e))
+number-tells p q (Err (Unreadable j)) (Ok Dark) a b e = absurd (let h = unreadable-under p j a in omega (arith, e, h))
+number-tells p q (Err (Unreadable j)) (Ok (Number w d)) a b e = absurd (let h = unreadable-under p j a in omega (arith, e, h))
+number-tells p q (Err (Unreadable j)) (Err BadLength) a b e = absurd (omega (arith, e))
+number-tells p q (Err (Unreadable j)) (Err BadNibble) a b e = absurd (omega (arith, e))
+number-tells p q (Err (Unreadable j)) (Err (Unreadable k)) a b e = ap {B = Seen} (λ (k : ℕ). Err (Unreadable k)) (omega (arith, e))
 
 -- 5 is no picture's number
 not-5 : (x : Seen) → seen_number x ≡ 5 → ⊥
-not-5 (Shown Dark) e = omega (arith, e)
-not-5 (Shown (Number v c)) e = omega (arith, e)
-not-5 BadLength e = omega (arith, e)
-not-5 BadNibble e = omega (arith, e)
-not-5 (Unreadable k) e = omega (arith, e)
+not-5 (Ok Dark) e = omega (arith, e)
+not-5 (Ok (Number v c)) e = omega (arith, e)
+not-5 (Err BadLength) e = omega (arith, e)
+not-5 (Err BadNibble) e = omega (arith, e)
+not-5 (Err (Unreadable k)) e = omega (arith, e)
+
+-- a refused machine's number is 5
+refused-5 : (m : Machine) (r : Refusal) → Sees m (Err r) → 5 ≡ number_of r
+unfolding picture_of
+refused-5 m r a = sym (ap (λ (b : Bool). (pick b (pictured (on_glass m) 0) (pictured (replicate 8 0) 5)).refusal) a.0) ∙ a.1
 
 pub sight-tells : SightTells
-sight-tells m n (OnGlass x) (OnGlass y) a b e = ap OnGlass (number-tells (on_glass m) (on_glass n) x y a.1 b.1 e)
-sight-tells m n (OnGlass x) BadMachine a b e = absurd (not-5 x e)
-sight-tells m n BadMachine (OnGlass y) a b e = absurd (not-5 y (sym e))
-sight-tells m n BadMachine BadMachine a b e = refl
+sight-tells m n (Ok x) (Ok y) a b e = ap {B = Sight} Ok (number-tells (on_glass m) (on_glass n) x y a.1 b.1 e)
+sight-tells m n (Ok x) (Err q) a b e = absurd (not-5 x (e ∙ sym (refused-5 n q b)))
+sight-tells m n (Err r) (Ok y) a b e = absurd (not-5 y (sym (refused-5 m r a ∙ e)))
+sight-tells m n (Err r) (Err q) a b e = ap {B = Sight} Err (same_number r q e)

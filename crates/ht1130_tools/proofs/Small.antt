@@ -12,11 +12,8 @@ use Rattle.isa.specs.Choice.{pick}
 use Rattle.rom.specs.Fetching.{sized}
 use Rattle.records.specs.Records.{size_at, kind_at, offsets_from, offsets}
 use Rattle.records.proofs.Offsets.{each}
-use Rattle.script.specs.Check.{refused, fine, unless, first_refused, first, ruled, checked}
+use Rattle.script.specs.Check.{refused, fine, unless, first_refused, first, format_at, value_at, choice_at, Checked, checked}
 use Rattle.script.specs.Reports.{Applied, applied, leaving}
-use Rattle.script.specs.declared.Checked.{Checked}
-use Rattle.script.specs.declared.check.Rule.{Rule}
-use Rattle.script.specs.declared.check.Rule.TheVariants.{Format, Values, Choices}
 
 record Within (n : ℕ) (k : Checked) : Type 0 where
   bound : k.offset ≤ n
@@ -48,16 +45,16 @@ bounded s k h = go (leb (length s) 65535) refl
 
 rest : (s : List ℕ) (room n : ℕ) → length s ≤ n
     → Within n
-    (first_refused (first (ruled Format s) (offsets s))
+    (first_refused (first (format_at s) (offsets s))
     (first_refused (unless (eqb (kind_at s 0) 1) 8)
-    (first_refused (first (ruled Values s) (offsets s))
-    (first_refused (first (ruled Choices s) (offsets s))
+    (first_refused (first (value_at s) (offsets s))
+    (first_refused (first (choice_at s) (offsets s))
     (unless (leb (48 * length (offsets s)) room) 9)))))
 rest s room n h =
-    either n _ _ (in-script Format) (either n _ _ (tested n (eqb (kind_at s 0) 1) 8) (either n _ _ (in-script Values) (either n _ _ (in-script Choices) (tested n (leb (48 * length (offsets s)) room) 9))))
+    either n _ _ (in-script (format_at s)) (either n _ _ (tested n (eqb (kind_at s 0) 1) 8) (either n _ _ (in-script (value_at s)) (either n _ _ (in-script (choice_at s)) (tested n (leb (48 * length (offsets s)) room) 9))))
   where
-    in-script : (r : Rule) → Within n (first (ruled r s) (offsets s))
-    in-script r = let p = (first-inside (ruled r s) s).bound in record { bound = omega (arith, p, h) }
+    in-script : (rule : ℕ → ℕ) → Within n (first rule (offsets s))
+    in-script rule = let p = (first-inside rule s).bound in record { bound = omega (arith, p, h) }
 
 pub small : (mask s : List ℕ) (room : ℕ) → (checked mask s room).offset ≤ 65535
 unfolding checked

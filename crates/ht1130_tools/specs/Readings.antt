@@ -1,17 +1,14 @@
 -- Readings as numbers of eight bytes, which are this interface's own: the refusal in byte 0, the digit of a refusal in byte 1, 1 for dark in byte 2,
 -- the count of digits after the point in byte 3, the value in bytes 4 to 7. Assumes nothing.
-use Rattle.std.specs.Prelude.{ℕ, suc, ◌+◌, ◌*◌, ◌-◌, ◌^◌, ◌≡◌, List, eqb, ℤ, pos, negsuc}
+use Rattle.std.specs.Prelude.{ℕ, suc, ◌+◌, ◌*◌, ◌-◌, ◌^◌, ◌≡◌, List, eqb, ℤ, pos, negsuc, Ok, Err}
 use Rattle.isa.specs.Choice.{pick}
 use Rattle.machine.specs.declared.Machine.{Machine}
-use Rattle.glass.specs.Reading.{SeenAnswers, seen_refusal}
+use Rattle.glass.specs.Reading.{Seen, SeenAnswers, seen_refusal}
 use Rattle.glass.specs.Drawing.{Drawing}
 use Rattle.glass.specs.declared.Reading.{Reading}
 use Rattle.glass.specs.declared.Reading.TheVariants.{Dark, Number}
-use Rattle.glass.specs.declared.Seen.{Seen}
-use Rattle.glass.specs.declared.Seen.TheVariants.{Shown, BadLength, BadNibble, Unreadable}
-use Rattle.machine_glass.specs.Glass.{Sees, sight_refusal}
-use Rattle.machine_glass.specs.declared.Sight.{Sight}
-use Rattle.machine_glass.specs.declared.Sight.TheVariants.{OnGlass, BadMachine}
+use Rattle.glass.specs.declared.Unseen.TheVariants.{BadLength, BadNibble, Unreadable}
+use Rattle.machine_glass.specs.Glass.{Sight, Sees, sight_refusal}
 
 -- a signed number in 32 bits, two's complement
 abbrev pub complement : ℤ → ℕ
@@ -24,10 +21,10 @@ reading_number (Number value count) = count * 2 ^ 24 + complement value * 2 ^ 32
 
 -- what stands above the refusal: the reading, or the digit of a 16
 abbrev pub seen_values : Seen → ℕ
-seen_values (Shown r) = reading_number r
-seen_values BadLength = 0
-seen_values BadNibble = 0
-seen_values (Unreadable k) = k * 2 ^ 8
+seen_values (Ok r) = reading_number r
+seen_values (Err BadLength) = 0
+seen_values (Err BadNibble) = 0
+seen_values (Err (Unreadable k)) = k * 2 ^ 8
 
 -- document 02, wish 7: "3 for a picture nibble over 15; then 16 .., with the leftmost digit ..". 2 is a picture of another length
 abbrev pub seen_number : Seen → ℕ
@@ -49,8 +46,8 @@ pub record GlassDrawn (d : Drawing) (new : List ℕ) (r : ℕ) : Type 0 where
   pub bytes : new ≡ d.picture
 
 abbrev pub sight_number : Sight → ℕ
-sight_number (OnGlass s) = sight_refusal (OnGlass s) + seen_values s
-sight_number BadMachine = sight_refusal BadMachine
+sight_number (Ok s) = sight_refusal (Ok s) + seen_values s
+sight_number (Err r) = sight_refusal (Err r)
 
 -- what `ht1130_reading` answers: what is seen of the lent machine, and its number
 pub record SightTold (m : Machine) (r : ℕ) : Type 0 where

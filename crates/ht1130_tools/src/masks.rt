@@ -1,11 +1,13 @@
 // The checker's verdict, the way to what it names, and the bound of a pair, as numbers.
 ghost use Rattle.std.specs.Prelude.{◌≡◌, ◌+◌, ◌*◌, ◌^◌};
 ghost use Rattle.checker.specs.Marks.{pair};
+ghost use Rattle.refusals.specs.Numbers.{number_of};
 ghost use Rattle.ht1130_tools.specs.Numbers.{BoundTold, Checks, Ways, bound_number, verdict_number, way_number};
 
 use bound::bound::{Bound, bound_of};
 use checker::check::{Verdict, check};
-use checker::way::{Listing, way};
+use checker::way::way;
+use refusals::Refusal;
 
 // Bytes 1, 2, and 4 with 5.
 fn failed(fault: u8, address: u16, level: u8) -> u64
@@ -14,14 +16,26 @@ fn failed(fault: u8, address: u16, level: u8) -> u64
     fault as u64 * 0x100 + level as u64 * 0x10000 + address as u64 * 0x100000000
 }
 
-fn packed(verdict: Verdict) -> u64
-    ensures { result ≡ verdict_number verdict }
+// Byte 0.
+pub(crate) fn refused(refusal: Refusal) -> u64
+    ensures { result ≡ number_of refusal }
 {
-    match verdict {
-        Verdict::Passed => 0,
-        Verdict::Failed(fault, address, level) => failed(fault, address, level),
-        Verdict::BadMask => 1,
-        Verdict::BadMarks => 2,
+    u64::from(u8::from(refusal))
+}
+
+fn packed(answer: Result<Verdict, Refusal>) -> u64
+    ensures { result ≡ verdict_number answer }
+{
+    match answer {
+        Ok(Verdict::Passed) => 0,
+        Ok(
+            Verdict::Failed {
+                fault,
+                address,
+                level,
+            },
+        ) => failed(fault, address, level),
+        Err(refusal) => refused(refusal),
     }
 }
 
@@ -31,14 +45,12 @@ pub fn ht1130_check(mask: &[u8], marks: &mut [u8]) -> u64
     packed(check(mask, marks))
 }
 
-fn counted(listing: Listing) -> u64
-    ensures { result ≡ way_number listing }
+fn counted(answer: Result<u16, Refusal>) -> u64
+    ensures { result ≡ way_number answer }
 {
-    match listing {
-        Listing::Listed(count) => count as u64 * 0x100000000,
-        Listing::BadMask => 1,
-        Listing::MaskPasses => 10,
-        Listing::BadList => 11,
+    match answer {
+        Ok(count) => count as u64 * 0x100000000,
+        Err(refusal) => refused(refusal),
     }
 }
 
@@ -55,16 +67,14 @@ fn bounded(cycles: u16) -> u64
     0x200 + cycles as u64 * 0x100000000
 }
 
-fn told(answer: Bound) -> u64
+fn told(answer: Result<Bound, Refusal>) -> u64
     ensures { result ≡ bound_number answer }
 {
     match answer {
-        Bound::NotReached => 0,
-        Bound::NoBound => 0x100,
-        Bound::Cycles(cycles) => bounded(cycles),
-        Bound::BadMask => 1,
-        Bound::BadPair => 5,
-        Bound::MaskFails => 15,
+        Ok(Bound::NotReached) => 0,
+        Ok(Bound::NoBound) => 0x100,
+        Ok(Bound::Cycles(cycles)) => bounded(cycles),
+        Err(refusal) => refused(refusal),
     }
 }
 

@@ -3,28 +3,30 @@ ghost use Rattle.std.specs.Prelude.{◌≡◌, ◌+◌, ◌*◌, ◌^◌};
 ghost use Rattle.glass.specs.Drawing.{drawn_over};
 ghost use Rattle.ht1130_tools.specs.Readings.{GlassDrawn, GlassRead, SightTold, complement, given, reading_number, seen_number, sight_number};
 
+use crate::masks::refused;
 use glass::draw::draw;
 use glass::read::read;
-use glass::signed::{negative, size};
-use glass::{Reading, Seen};
+use glass::{Reading, Unseen};
 use machine::Machine;
-use machine_glass::{Sight, sight_of};
+use machine_glass::sight_of;
+use refusals::Refusal;
 
 fn complement(value: i32) -> u64
     ensures { result ≡ complement value }
 {
-    let size = size(value) as u64;
-    if negative(value) {
-        return 0x100000000 - size;
+    let size = u64::from(value.unsigned_abs());
+    if value.is_negative() {
+        0x100000000 - size
+    } else {
+        size
     }
-    size
 }
 
 // Byte 3, and 4 to 7.
 fn number(value: i32, places: u8) -> u64
     ensures { result ≡ places * 2 ^ 24 + complement value * 2 ^ 32 }
 {
-    places as u64 * 0x1000000 + complement(value) * 0x100000000
+    u64::from(places) * 0x1000000 + complement(value) * 0x100000000
 }
 
 fn reading_number(reading: Reading) -> u64
@@ -36,14 +38,13 @@ fn reading_number(reading: Reading) -> u64
     }
 }
 
-fn seen_number(seen: Seen) -> u64
+fn seen_number(seen: Result<Reading, Unseen>) -> u64
     ensures { result ≡ seen_number seen }
 {
     match seen {
-        Seen::Shown(reading) => reading_number(reading),
-        Seen::BadLength => 2,
-        Seen::BadNibble => 3,
-        Seen::Unreadable(digit) => 16 + digit as u64 * 0x100,
+        Ok(reading) => reading_number(reading),
+        Err(Unseen::Unreadable(digit)) => 16 + u64::from(digit) * 0x100,
+        Err(unseen) => refused(Refusal::from(unseen)),
     }
 }
 
@@ -57,23 +58,27 @@ fn given(dark: u8, value: i32, places: u8) -> Reading
     ensures { result ≡ given dark value places }
 {
     if dark == 0 {
-        return Reading::Number(value, places);
+        Reading::Number(value, places)
+    } else {
+        Reading::Dark
     }
-    Reading::Dark
 }
 
 pub fn ht1130_glass_draw(dark: u8, value: i32, places: u8, picture: &mut [u8]) -> u64
     ensures { GlassDrawn (drawn_over (given dark value places) picture.old) picture.new result }
 {
-    draw(given(dark, value, places), picture) as u64
+    match draw(given(dark, value, places), picture) {
+        Ok(()) => 0,
+        Err(refusal) => refused(refusal),
+    }
 }
 
-fn sight_number(sight: Sight) -> u64
+fn sight_number(sight: Result<Result<Reading, Unseen>, Refusal>) -> u64
     ensures { result ≡ sight_number sight }
 {
     match sight {
-        Sight::OnGlass(seen) => seen_number(seen),
-        Sight::BadMachine => 5,
+        Ok(seen) => seen_number(seen),
+        Err(refusal) => refused(refusal),
     }
 }
 

@@ -1,18 +1,21 @@
 // A script's answer as a number.
 ghost use Rattle.std.specs.Prelude.{◌≡◌, ◌≤◌};
-ghost use Rattle.script.specs.Check.{checked};
+ghost use Rattle.script.specs.Check.{checked, told};
 ghost use Rattle.script.specs.Reports.{applied};
 ghost use Rattle.ht1130_tools.specs.Numbers.{Ran, script_number};
 
-use script::Checked;
+use script::Refused;
 use script::apply::apply_script;
 use script::check::check_script;
 
-fn packed(answer: Checked) -> u64
-    requires { answer.offset ≤ 65535 }
-    ensures { result ≡ script_number answer }
+fn packed(answer: Result<(), Refused>) -> u64
+    requires { (told answer).offset ≤ 65535 }
+    ensures { result ≡ script_number (told answer) }
 {
-    answer.number as u64 + answer.offset as u64 * 0x100000000
+    match answer {
+        Ok(()) => 0,
+        Err(refused) => u8::from(refused.refusal) as u64 + refused.offset as u64 * 0x100000000,
+    }
 }
 
 #[tactic(auto, using(crate::proofs::Small::small_checked))]

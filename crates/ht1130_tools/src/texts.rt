@@ -1,14 +1,18 @@
 // A text assembled: the answer as a number.
 ghost use Rattle.std.specs.Prelude.{◌≡◌, ◌+◌, ◌*◌, ◌^◌};
-ghost use Rattle.assembler.specs.Program.{answered};
+ghost use Rattle.assembler.specs.Program.{answered, line_of, number_given};
 ghost use Rattle.ht1130_tools.specs.Numbers.{Assembled};
 
-use assembler::assemble::{Answer, assemble};
+use assembler::assemble::assemble;
+use assembler::refused::Refused;
 
-fn packed(answer: Answer) -> u64
-    ensures { result ≡ answer.refusal + answer.line * 2 ^ 32 }
+fn packed(answer: Result<(), Refused>) -> u64
+    ensures { result ≡ number_given answer + line_of answer * 2 ^ 32 }
 {
-    answer.refusal as u64 + answer.line as u64 * 0x100000000
+    match answer {
+        Ok(()) => 0,
+        Err(refused) => u8::from(refused.refusal) as u64 + refused.line as u64 * 0x100000000,
+    }
 }
 
 pub fn ht1130_assemble(text: &[u8], out: &mut [u8]) -> u64

@@ -1,7 +1,7 @@
 -- The laws of reading: the map by first byte (`decoded`) and the codes (`Reads`) say the same, so each pair of bytes reads as at
 -- most one instruction, and what is written reads back. One direction is a test that antt computes over the map's 256 entries, and
 -- the other goes by the cases of an instruction. Assumes nothing.
-use Prim.Native.Nat.{ℕ, zero, suc, ◌+◌, ◌-◌, ◌*◌, ◌/◌, ◌%◌, ◌<◌, ◌≤◌}
+use Prim.Native.Nat.{ℕ, zero, suc, ◌+◌, ◌*◌, ◌/◌, ◌%◌, ◌<◌}
 use native.Mathlib.Nat.{le_of_suc-le-suc, not-suc-le-zero, add-zero, zero-add, add-suc, suc-add, div-add-mod'}
 use native.Mathlib.Omega.{arith}
 use mathlib.Core.Path.{◌≡◌, refl, sym, ap, subst, ◌∙◌}
@@ -9,13 +9,12 @@ use mathlib.Core.Bool.{Bool, true, false, ◌&&◌}
 use mathlib.Core.List.{List, [], ◌∷◌}
 use lib.Dec.{ltb, eqb, lit<}
 use lib.ListN.{length, take, get_or}
-use borrow.Author.Tests.{ltb-true, eqb-true, lt-ltb, le-ltb, ne_eqb}
+use borrow.Author.Tests.{ltb-true, eqb-true}
+use Rattle.std.specs.Prelude.{Option, Some, None}
 use Rattle.isa.specs.Choice.{pick}
 use Rattle.isa.specs.Code.{addresses, bytes_of, in_range, leading, bit_in_range}
 use Rattle.isa.specs.Reading.{Reads, Reading, Entry, undefined, whole, fixed, nibble, byte, opcodes, complete, decoded, ReadingDetermines}
 use Rattle.isa.specs.Timing.{Columns, columns, columns_of, columns_at, entry_columns, Timed}
-use Rattle.isa.specs.declared.decoder.Decoded.{Decoded}
-use Rattle.isa.specs.declared.decoder.Decoded.TheVariants.{Read, Unreadable}
 use Rattle.isa.specs.declared.Pointer.{Pointer}
 use Rattle.isa.specs.declared.Pointer.TheVariants.{R1R0, R3R2}
 use Rattle.isa.specs.declared.Port.TheVariants.{Pm, Ps, Pp}
@@ -27,11 +26,11 @@ use Rattle.isa.specs.declared.Instruction.{Instruction}
 use Rattle.isa.specs.declared.Instruction.TheVariants as I
 
 -- ---- two functions agree below n where the lists of their first n values are one list, which antt computes
-abbrev pub values : ℕ → (ℕ → Decoded) → List Decoded
+abbrev pub values : ℕ → (ℕ → Option Instruction) → List (Option Instruction)
 values zero f = []
 values (suc n) f = f 0 ∷ values n (λ (k : ℕ). f (suc k))
 
-pub agree : (n : ℕ) (f g : ℕ → Decoded) → values n f ≡ values n g → (k : ℕ) → k < n → f k ≡ g k
+pub agree : (n : ℕ) (f g : ℕ → Option Instruction) → values n f ≡ values n g → (k : ℕ) → k < n → f k ≡ g k
 agree zero f g e k h = absurd (not-suc-le-zero h)
 agree (suc n) f g e zero h = cc
 agree (suc n) f g e (suc k) h = agree n (λ (k : ℕ). f (suc k)) (λ (k : ℕ). g (suc k)) (cc) k (le_of_suc-le-suc h)
@@ -51,43 +50,43 @@ pub and_right : (x y : Bool) → x && y ≡ true → y ≡ true
 and_right true y e = e
 and_right false y e = absurd (let z : ◌≡◌ {A = ℕ} 0 1 = cc in omega arith)
 
-passed : {t : Bool} (d : Decoded) → t ≡ true → pick t d Unreadable ≡ d
+passed : {t : Bool} (d : Option Instruction) → t ≡ true → pick t d None ≡ d
 passed d e = rw e
 
 -- the map at a first byte whose field is below n, with b after it
-module _ (n : ℕ) (x : ℕ → ℕ) (b : ℕ) (f : ℕ → Decoded) (e : values n (λ (k : ℕ). decoded (x k) b) ≡ values n f) where
+module _ (n : ℕ) (x : ℕ → ℕ) (b : ℕ) (f : ℕ → Option Instruction) (e : values n (λ (k : ℕ). decoded (x k) b) ≡ values n f) where
   field : (k : ℕ) → ltb k n ≡ true → decoded (x k) b ≡ f k
   field k h = agree n (λ (k : ℕ). decoded (x k) b) f e k (ltb-true k n h)
 
-abbrev pair : Pointer → ℕ → ℕ → Decoded
-pair p high low = pick (ltb high 16) (Read (I.MovPairXX p low high)) Unreadable
+abbrev pair : Pointer → ℕ → ℕ → Option Instruction
+pair p high low = pick (ltb high 16) (Some (I.MovPairXX p low high)) None
 
-abbrev to : (ProgramAddress → Instruction) → ℕ → ℕ → Decoded
-to f low high = Read (f (record { 0 = high * 256 + low }))
+abbrev to : (ProgramAddress → Instruction) → ℕ → ℕ → Option Instruction
+to f low high = Some (f (record { 0 = high * 256 + low }))
 
 -- an address whose high part, below n, is in the first byte
 address : (n : ℕ) (f : ProgramAddress → Instruction) (x : ℕ) (t : ProgramAddress) → values n (λ (k : ℕ). decoded (x + k) (t.0 % 256)) ≡ values n (to f (t.0 % 256))
-    → t.0 / 256 < n → decoded (x + t.0 / 256) (t.0 % 256) ≡ Read (f t)
+    → t.0 / 256 < n → decoded (x + t.0 / 256) (t.0 % 256) ≡ Some (f t)
 address n f x t e h =
     agree n (λ (k : ℕ). decoded (x + k) (t.0 % 256)) (to f (t.0 % 256)) e (t.0 / 256) h
-    ∙ ap (λ (m : ℕ). Read (f (record { 0 = m }))) (div-add-mod' t.0 256)
+    ∙ ap (λ (m : ℕ). Some (f (record { 0 = m }))) (div-add-mod' t.0 256)
 
 module _ (a b : ℕ) where
-  one : {x : ℕ} {d : Decoded} → a ∷ [] ≡ x ∷ [] → decoded x b ≡ d → decoded a b ≡ d
+  one : {x : ℕ} {d : Option Instruction} → a ∷ [] ≡ x ∷ [] → decoded x b ≡ d → decoded a b ≡ d
   one {x} {d} e p = subst (λ (n : ℕ). decoded n b ≡ d) (sym (head e)) p
 
-  two : {x y : ℕ} {d : Decoded} → a ∷ b ∷ [] ≡ x ∷ y ∷ [] → decoded x y ≡ d → decoded a b ≡ d
+  two : {x y : ℕ} {d : Option Instruction} → a ∷ b ∷ [] ≡ x ∷ y ∷ [] → decoded x y ≡ d → decoded a b ≡ d
   two {x} {y} {d} e p = ap (λ (n : ℕ). decoded n b) (head e) ∙ ap (decoded x) (head (tail e)) ∙ p
 
-  paired : (p : Pointer) (x low high : ℕ) → values 16 (λ (k : ℕ). decoded (x + k) high) ≡ values 16 (pair p high) → ltb low 16 && ltb high 16 ≡ true → decoded (x + low) high ≡ Read (I.MovPairXX p low high)
+  paired : (p : Pointer) (x low high : ℕ) → values 16 (λ (k : ℕ). decoded (x + k) high) ≡ values 16 (pair p high) → ltb low 16 && ltb high 16 ≡ true → decoded (x + low) high ≡ Some (I.MovPairXX p low high)
   paired p x low high e h =
       field 16 (λ (k : ℕ). x + k) high (pair p high) e low (and_left (ltb low 16) (ltb high 16) h)
-      ∙ passed {t = ltb high 16} (Read (I.MovPairXX p low high)) (and_right (ltb low 16) (ltb high 16) h)
+      ∙ passed {t = ltb high 16} (Some (I.MovPairXX p low high)) (and_right (ltb low 16) (ltb high 16) h)
 
-  jump : (f : ProgramAddress → Instruction) (x : ℕ) (t : ProgramAddress) → values 16 (λ (k : ℕ). decoded (x + k) (t.0 % 256)) ≡ values 16 (to f (t.0 % 256)) → ltb t.0 addresses ≡ true → decoded (x + t.0 / 256) (t.0 % 256) ≡ Read (f t)
+  jump : (f : ProgramAddress → Instruction) (x : ℕ) (t : ProgramAddress) → values 16 (λ (k : ℕ). decoded (x + k) (t.0 % 256)) ≡ values 16 (to f (t.0 % 256)) → ltb t.0 addresses ≡ true → decoded (x + t.0 / 256) (t.0 % 256) ≡ Some (f t)
   jump f x t e h = address 16 f x t e (omega (arith, ltb-true t.0 addresses h))
 
-  target : (k : Condition) (x : ℕ) (t : ProgramAddress) → values 8 (λ (k : ℕ). decoded (x + k) (t.0 % 256)) ≡ values 8 (to (λ (t : ProgramAddress). I.Branch t k) (t.0 % 256)) → ltb t.0 2048 ≡ true → decoded (x + t.0 / 256) (t.0 % 256) ≡ Read (I.Branch t k)
+  target : (k : Condition) (x : ℕ) (t : ProgramAddress) → values 8 (λ (k : ℕ). decoded (x + k) (t.0 % 256)) ≡ values 8 (to (λ (t : ProgramAddress). I.Branch t k) (t.0 % 256)) → ltb t.0 2048 ≡ true → decoded (x + t.0 / 256) (t.0 % 256) ≡ Some (I.Branch t k)
   target k x t e h = address 8 (λ (t : ProgramAddress). I.Branch t k) x t e (omega (arith, ltb-true t.0 2048 h))
 
   -- JAn: the four bits, then the eight high parts
@@ -102,10 +101,10 @@ module _ (a b : ℕ) where
   bits b (suc (suc (suc zero))) h = refl
   bits b (suc (suc (suc (suc n)))) h = absurd (omega arith)
 
-  bit : (n : ℕ) (t : ProgramAddress) → ltb n 4 && ltb t.0 2048 ≡ true → decoded (0b1000_0000 + 8 * n + t.0 / 256) (t.0 % 256) ≡ Read (I.Branch t (Ja n))
+  bit : (n : ℕ) (t : ProgramAddress) → ltb n 4 && ltb t.0 2048 ≡ true → decoded (0b1000_0000 + 8 * n + t.0 / 256) (t.0 % 256) ≡ Some (I.Branch t (Ja n))
   bit n t h = target (Ja n) (0b1000_0000 + 8 * n) t (bits (t.0 % 256) n (ltb-true n 4 (and_left (ltb n 4) (ltb t.0 2048) h))) (and_right (ltb n 4) (ltb t.0 2048) h)
 
-  pub back : (i : Instruction) → Reads a b i → decoded a b ≡ Read i
+  pub back : (i : Instruction) → Reads a b i → decoded a b ≡ Some i
   unfolding bytes_of in_range leading bit_in_range decoded opcodes
   back I.AddAM r = one r.bytes refl
   back I.AdcAM r = one r.bytes refl
@@ -124,20 +123,20 @@ module _ (a b : ℕ) where
   back (I.OrAX d) r = two r.bytes (passed _ r.fields)
   back (I.XorAX d) r = two r.bytes (passed _ r.fields)
   back I.IncA r = one r.bytes refl
-  back (I.IncR n) r = one r.bytes (field 5 (λ (n : ℕ). 0b0001_0000 + 2 * n) b (λ (n : ℕ). Read (I.IncR n)) refl n r.fields)
+  back (I.IncR n) r = one r.bytes (field 5 (λ (n : ℕ). 0b0001_0000 + 2 * n) b (λ (n : ℕ). Some (I.IncR n)) refl n r.fields)
   back (I.IncM R1R0) r = one r.bytes refl
   back (I.IncM R3R2) r = one r.bytes refl
   back I.DecA r = one r.bytes refl
-  back (I.DecR n) r = one r.bytes (field 5 (λ (n : ℕ). 0b0001_0001 + 2 * n) b (λ (n : ℕ). Read (I.DecR n)) refl n r.fields)
+  back (I.DecR n) r = one r.bytes (field 5 (λ (n : ℕ). 0b0001_0001 + 2 * n) b (λ (n : ℕ). Some (I.DecR n)) refl n r.fields)
   back (I.DecM R1R0) r = one r.bytes refl
   back (I.DecM R3R2) r = one r.bytes refl
-  back (I.MovAR n) r = one r.bytes (field 5 (λ (n : ℕ). 0b0010_0001 + 2 * n) b (λ (n : ℕ). Read (I.MovAR n)) refl n r.fields)
-  back (I.MovRA n) r = one r.bytes (field 5 (λ (n : ℕ). 0b0010_0000 + 2 * n) b (λ (n : ℕ). Read (I.MovRA n)) refl n r.fields)
+  back (I.MovAR n) r = one r.bytes (field 5 (λ (n : ℕ). 0b0010_0001 + 2 * n) b (λ (n : ℕ). Some (I.MovAR n)) refl n r.fields)
+  back (I.MovRA n) r = one r.bytes (field 5 (λ (n : ℕ). 0b0010_0000 + 2 * n) b (λ (n : ℕ). Some (I.MovRA n)) refl n r.fields)
   back (I.MovAM R1R0) r = one r.bytes refl
   back (I.MovAM R3R2) r = one r.bytes refl
   back (I.MovMA R1R0) r = one r.bytes refl
   back (I.MovMA R3R2) r = one r.bytes refl
-  back (I.MovAX d) r = one r.bytes (field 16 (λ (d : ℕ). 0b0111_0000 + d) b (λ (d : ℕ). Read (I.MovAX d)) refl d r.fields)
+  back (I.MovAX d) r = one r.bytes (field 16 (λ (d : ℕ). 0b0111_0000 + d) b (λ (d : ℕ). Some (I.MovAX d)) refl d r.fields)
   back (I.MovPairXX R1R0 low high) r = two r.bytes (paired R1R0 0b0101_0000 low high refl r.fields)
   back (I.MovPairXX R3R2 low high) r = two r.bytes (paired R3R2 0b0110_0000 low high refl r.fields)
   back (I.MovR4X d) r = two r.bytes (passed _ r.fields)
@@ -251,14 +250,14 @@ made c a b i s g e =
     let n : c.cycles ≡ (columns_of i).cycles = eqb-true _ _ (and_right (eqb c.bytes (columns_of i).bytes) (eqb c.cycles (columns_of i).cycles) timed) in
     record { reads = record { fields = and_left (in_range i) (same (bytes_of i) s) coded; bytes = rw p e }; timed = λ k. record { bytes = l k; cycles = n k } }
 
-same_read : {i j : Instruction} → Read i ≡ Read j → i ≡ j
+same_read : {i j : Instruction} → Some i ≡ Some j → i ≡ j
 same_read e = cc
 
-picked : (t : Bool) (i j : Instruction) → pick t (Read j) Unreadable ≡ Read i → t ≡ true × j ≡ i
+picked : (t : Bool) (i j : Instruction) → pick t (Some j) None ≡ Some i → t ≡ true × j ≡ i
 picked true i j e = (refl, same_read e)
 picked false i j e = absurd (let z : ◌≡◌ {A = ℕ} 0 1 = cc in omega arith)
 
-entry : (e : Entry) (a b : ℕ) (i : Instruction) → right a e ≡ true → b < 256 → complete e b ≡ Read i → Made (entry_columns e) a b i
+entry : (e : Entry) (a b : ℕ) (i : Instruction) → right a e ≡ true → b < 256 → complete e b ≡ Some i → Made (entry_columns e) a b i
 entry undefined a b i t h e = absurd (let z : ◌≡◌ {A = ℕ} 0 1 = cc in omega arith)
 entry (whole j) a b i t h e = subst (Made (columns_of j) a b) (same_read e) (made (columns_of j) a b j (a ∷ []) t refl)
 entry (fixed y j) a b i t h e =
@@ -276,36 +275,36 @@ entry (byte f) a b i t h e =
 row : (a : ℕ) → right a (get_or opcodes a undefined) ≡ true
 row a = subst (λ (m : ℕ). right m (get_or opcodes a undefined) ≡ true) (zero-add a) (every-at opcodes 0 a tested)
 
-from-map : (a b : ℕ) (i : Instruction) → b < 256 → decoded a b ≡ Read i → Made (columns_at a) a b i
+from-map : (a b : ℕ) (i : Instruction) → b < 256 → decoded a b ≡ Some i → Made (columns_at a) a b i
 unfolding decoded columns_at
 from-map a b i h e = entry (get_or opcodes a undefined) a b i (row a) h e
 
 -- what the map gives is what the codes say, for every pair of bytes
-pub sound : (a b : ℕ) (i : Instruction) → b < 256 → decoded a b ≡ Read i → Reads a b i
+pub sound : (a b : ℕ) (i : Instruction) → b < 256 → decoded a b ≡ Some i → Reads a b i
 sound a b i h e = (from-map a b i h e).reads
 
 -- no two instructions in range share a code
 pub unique : (a b : ℕ) (i j : Instruction) → Reads a b i → Reads a b j → i ≡ j
 unique a b i j r s = same_read (sym (back a b i r) ∙ back a b j s)
 
-unread : (a b : ℕ) → decoded a b ≡ Unreadable → (i : Instruction) → Reads a b i → ⊥
-unread a b e i r = let p : Read i ≡ Unreadable = sym (back a b i r) ∙ e in let z : ◌≡◌ {A = ℕ} 0 1 = cc in omega arith
+unread : (a b : ℕ) → decoded a b ≡ None → (i : Instruction) → Reads a b i → ⊥
+unread a b e i r = let p : Some i ≡ None = sym (back a b i r) ∙ e in let z : ◌≡◌ {A = ℕ} 0 1 = cc in omega arith
 
 -- `decoded` is the reading of every pair of bytes, and the only one
 pub exact : (a b : ℕ) → b < 256 → Reading a b (decoded a b)
 exact a b h = go (decoded a b) refl
   where
-    go : (d : Decoded) → decoded a b ≡ d → Reading a b d
-    go (Read i) e = sound a b i h e
-    go Unreadable e = unread a b e
+    go : (d : Option Instruction) → decoded a b ≡ d → Reading a b d
+    go (Some i) e = sound a b i h e
+    go None e = unread a b e
 
-pub reading : (a b : ℕ) (d : Decoded) → b < 256 → Reading a b d → d ≡ decoded a b
-reading a b (Read i) h r = sym (back a b i r)
-reading a b Unreadable h r = go (decoded a b) (exact a b h)
+pub reading : (a b : ℕ) (d : Option Instruction) → b < 256 → Reading a b d → d ≡ decoded a b
+reading a b (Some i) h r = sym (back a b i r)
+reading a b None h r = go (decoded a b) (exact a b h)
   where
-    go : (d : Decoded) → Reading a b d → Unreadable ≡ d
-    go (Read i) s = absurd (r i s)
-    go Unreadable s = refl
+    go : (d : Option Instruction) → Reading a b d → None ≡ d
+    go (Some i) s = absurd (r i s)
+    go None s = refl
 
 pub reading-determines : ReadingDetermines
 reading-determines a b d e h r s = reading a b d h r ∙ sym (reading a b e h s)
@@ -326,7 +325,7 @@ pub timed : (a : ℕ) → Timed a (columns_at a)
 unfolding columns_at
 timed a = record { read = λ b i h r. timed-read a b i h r; unread = timed-unread a (get_or opcodes a undefined) (row a) }
 
--- ---- what the decoder's arms show
+-- ---- an instruction from its bytes
 pub one_byte : {a b x : ℕ} {i : Instruction} → in_range i ≡ true → bytes_of i ≡ x ∷ [] → a ≡ x → Reads a b i
 one_byte {a} {b} {x} {i} f e p = record { fields = f; bytes = rw e (ap (λ (n : ℕ). n ∷ []) p) }
 
@@ -336,42 +335,3 @@ two-byte {a} {b} {x} {y} {i} f e p q = record { fields = f; bytes = rw e (rw (p,
 pub and_both : (x y : Bool) → x ≡ true → y ≡ true → x && y ≡ true
 and_both true y e f = f
 and_both false y e f = e
-
-pub to-target : (k : Condition) (a b : ℕ) → b < 256 → bit_in_range k ≡ true → a / 8 * 8 ≡ leading k → Reads a b (I.Branch (record { 0 = a % 8 * 256 + b }) k)
-unfolding in_range bytes_of
-to-target k a b h f e =
-    two-byte (and_both (bit_in_range k) (ltb (a % 8 * 256 + b) 2048) f (lt-ltb (a % 8 * 256 + b) 2048 (omega arith))) refl (omega arith) (omega arith)
-
-pub no-pattern : (a b : ℕ) → a ≡ 0x35 → (i : Instruction) → Reads a b i → ⊥
-unfolding decoded opcodes
-no-pattern a b e = unread a b (rw e refl)
-
-pub other-halt : (a b : ℕ) → a ≡ 0x37 → (b ≡ 0x3e → ⊥) → (i : Instruction) → Reads a b i → ⊥
-unfolding decoded opcodes
-other-halt a b e n = unread a b (rw (e, ne_eqb b 0x3e n) refl)
-
-failed : {t : Bool} (d : Decoded) → t ≡ false → pick t d Unreadable ≡ Unreadable
-failed d e = rw e
-
--- a second byte over 15, after a first byte whose second is 0 and a nibble
-pub over : (a b : ℕ) (f : ℕ → Instruction) → 16 ≤ b → decoded a b ≡ pick (ltb b 16) (Read (f b)) Unreadable → (i : Instruction) → Reads a b i → ⊥
-over a b f h e = unread a b (e ∙ failed {t = ltb b 16} (Read (f b)) (le-ltb b 16 h))
-
-pub over-pair : (p : Pointer) (x a b : ℕ) → values 16 (λ (k : ℕ). decoded (x + k) b) ≡ values 16 (pair p b) → x ≤ a → a < x + 16 → 16 ≤ b → (i : Instruction) → Reads a b i → ⊥
-over-pair p x a b e l u h =
-    over a b (I.MovPairXX p (a - x)) h
-    (ap (λ (n : ℕ). decoded n b) (omega arith) ∙ agree 16 (λ (k : ℕ). decoded (x + k) b) (pair p b) e (a - x) (omega arith))
-
-pub to-pair : (p : Pointer) (x a b : ℕ) → bytes_of (I.MovPairXX p (a % 16) b) ≡ (x + a % 16) ∷ b ∷ [] → x % 16 ≡ 0 → x ≤ a → a < x + 16 → b < 16 → Reads a b (I.MovPairXX p (a % 16) b)
-unfolding in_range
-to-pair p x a b e m l u h =
-    two-byte (and_both (ltb (a % 16) 16) (ltb b 16) (lt-ltb (a % 16) 16 (omega arith)) (lt-ltb b 16 h)) e (omega arith) refl
-
-pub to-address : (f : ProgramAddress → Instruction) (x a b : ℕ) → in_range (f (record { 0 = a % 16 * 256 + b })) ≡ ltb (a % 16 * 256 + b) addresses
-    → bytes_of (f (record { 0 = a % 16 * 256 + b })) ≡ (x + (a % 16 * 256 + b) / 256) ∷ ((a % 16 * 256 + b) % 256) ∷ []
-    → b < 256 → a / 16 * 16 ≡ x → Reads a b (f (record { 0 = a % 16 * 256 + b }))
-to-address f x a b r e h m = two-byte (r ∙ lt-ltb (a % 16 * 256 + b) addresses (omega arith)) e (omega arith) (omega arith)
-
-pub to-register : (f : ℕ → Instruction) (x a b : ℕ) → in_range (f (a % 16 / 2)) ≡ ltb (a % 16 / 2) 5 → bytes_of (f (a % 16 / 2)) ≡ (x + 2 * (a % 16 / 2)) ∷ []
-    → (a % 16 / 2 < 5) × (a ≡ x + 2 * (a % 16 / 2)) → Reads a b (f (a % 16 / 2))
-to-register f x a b r e h = one_byte (r ∙ lt-ltb (a % 16 / 2) 5 h.0) e h.1

@@ -11,16 +11,16 @@ module _ (f : ℕ → ℕ) (g : Entry → ℕ) (same : List.map f entries ≡ Li
   part : (a : ℕ) → get_or (List.map f entries) a (f 0) ≡ get_or (List.map g opcodes) a (f 0)
   part a = ap (λ (l : List.List ℕ). get_or l a (f 0)) same
 
-pub length-at : (a : ℕ) → get_or entries a 0 / 16 ≡ length_of a
+pub length_at_entry : (a : ℕ) → get_or entries a 0 / 16 ≡ length_of a
 unfolding entries columns_of columns_at opcodes
-length-at a =
+length_at_entry a =
     sym (get_or-map (λ (x : ℕ). x / 16) entries a 0)
     ∙ part (λ (x : ℕ). x / 16) (λ (e : Entry). (entry_columns e).bytes) refl a
     ∙ get_or-map (λ (e : Entry). (entry_columns e).bytes) opcodes a undefined
 
-pub cycles-at : (a : ℕ) → get_or entries a 0 % 16 ≡ cycles_of a
+pub cycles_at_entry : (a : ℕ) → get_or entries a 0 % 16 ≡ cycles_of a
 unfolding entries columns_of columns_at opcodes
-cycles-at a =
+cycles_at_entry a =
     sym (get_or-map (λ (x : ℕ). x % 16) entries a 0)
     ∙ part (λ (x : ℕ). x % 16) (λ (e : Entry). (entry_columns e).cycles) refl a
     ∙ get_or-map (λ (e : Entry). (entry_columns e).cycles) opcodes a undefined

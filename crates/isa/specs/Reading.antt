@@ -1,10 +1,8 @@
 -- What two bytes read as. The meaning is `Reads`, stated from `Code` alone. `decoded` computes it from a map by first byte, `opcodes`:
 -- the laws of proofs/Exact.antt show that the two agree, so a reader believes `Reads` and not the map. Assumes nothing.
-use Rattle.std.specs.Prelude.{ℕ, zero, suc, ◌+◌, ◌*◌, ◌<◌, ◌≡◌, true, List, [], ◌∷◌, ltb, eqb, length, take, get_or}
+use Rattle.std.specs.Prelude.{ℕ, zero, suc, ◌+◌, ◌*◌, ◌<◌, ◌≡◌, true, List, [], ◌∷◌, ltb, eqb, length, take, get_or, Option, Some, None}
 use Rattle.isa.specs.Choice.{pick}
 use Rattle.isa.specs.Code.{bytes_of, in_range}
-use Rattle.isa.specs.declared.decoder.Decoded.{Decoded}
-use Rattle.isa.specs.declared.decoder.Decoded.TheVariants.{Read, Unreadable}
 use Rattle.isa.specs.declared.Pointer.{Pointer}
 use Rattle.isa.specs.declared.Pointer.TheVariants.{R1R0, R3R2}
 use Rattle.isa.specs.declared.Port.TheVariants.{Pm, Ps, Pp}
@@ -20,27 +18,27 @@ pub record Reads (a b : ℕ) (i : Instruction) : Type 0 where
   pub bytes : take (length (bytes_of i)) (a ∷ b ∷ []) ≡ bytes_of i
 
 -- document 01's fault for each answer of the decoder, 0 for none: "An instruction that cannot be read gives fault 1"
-abbrev pub fault_number : Decoded → ℕ
-fault_number (Read i) = 0
-fault_number Unreadable = 1
+abbrev pub fault_number : Option Instruction → ℕ
+fault_number (Some i) = 0
+fault_number None = 1
 
 -- the answer is an instruction, and the bytes read as it
-abbrev pub ReadAs : ℕ → ℕ → Decoded → Type 0
-ReadAs a b (Read i) = Reads a b i
-ReadAs a b Unreadable = ⊥
+abbrev pub ReadAs : ℕ → ℕ → Option Instruction → Type 0
+ReadAs a b (Some i) = Reads a b i
+ReadAs a b None = ⊥
 
 -- what an answer says of the bytes, by its fault: 0, they read as its instruction; 1, they read as none. Bytes alone give no other fault
-abbrev pub Faulting : ℕ → ℕ → Decoded → ℕ → Type 0
+abbrev pub Faulting : ℕ → ℕ → Option Instruction → ℕ → Type 0
 Faulting a b d zero = ReadAs a b d
 Faulting a b d (suc zero) = (i : Instruction) → Reads a b i → ⊥
 Faulting a b d (suc (suc n)) = ⊥
 
-abbrev pub Reading : ℕ → ℕ → Decoded → Type 0
+abbrev pub Reading : ℕ → ℕ → Option Instruction → Type 0
 Reading a b d = Faulting a b d (fault_number d)
 
 -- two answers to the same bytes are one
 abbrev pub ReadingDetermines : Type 0
-ReadingDetermines = (a b : ℕ) (d e : Decoded) → b < 256 → Reading a b d → Reading a b e → d ≡ e
+ReadingDetermines = (a b : ℕ) (d e : Option Instruction) → b < 256 → Reading a b d → Reading a b e → d ≡ e
 
 -- what a first byte leaves to its second
 pub data Entry : Type 0 where
@@ -103,13 +101,13 @@ opcodes =
     []))))))))))))))))
 
 -- an entry with its second byte
-abbrev pub complete : Entry → ℕ → Decoded
-complete undefined b = Unreadable
-complete (whole i) b = Read i
-complete (fixed k i) b = pick (eqb b k) (Read i) Unreadable
-complete (nibble f) b = pick (ltb b 16) (Read (f b)) Unreadable
-complete (byte f) b = Read (f b)
+abbrev pub complete : Entry → ℕ → Option Instruction
+complete undefined b = None
+complete (whole i) b = Some i
+complete (fixed k i) b = pick (eqb b k) (Some i) None
+complete (nibble f) b = pick (ltb b 16) (Some (f b)) None
+complete (byte f) b = Some (f b)
 
-unfoldable pub decoded : ℕ → ℕ → Decoded
+unfoldable pub decoded : ℕ → ℕ → Option Instruction
 unfolding opcodes
 decoded a b = complete (get_or opcodes a undefined) b

@@ -11,22 +11,22 @@ pub const PLACES: usize = ADDRESSES as usize;
 
 // An address of the program ROM, 0 to 4,095 (document 01: "A program address counts to 4,095").
 #[repr(C)]
-#[derive(Clone, Copy)]
+#[derive(Clone, Copy, Debug, PartialEq, Eq)]
 pub struct ProgramAddress(pub u16);
 
 // An address of the data memory, 0 to 255 (document 01: "and a data address to 255").
-#[derive(Clone, Copy)]
+#[derive(Clone, Copy, Debug, PartialEq, Eq)]
 pub struct DataAddress(pub u8);
 
 // A register pair that points into the data memory.
-#[derive(Clone, Copy)]
+#[derive(Clone, Copy, Debug, PartialEq, Eq)]
 pub enum Pointer {
     R1R0,
     R3R2,
 }
 
 // An input port.
-#[derive(Clone, Copy)]
+#[derive(Clone, Copy, Debug, PartialEq, Eq)]
 pub enum Port {
     Pm,
     Ps,
@@ -34,14 +34,14 @@ pub enum Port {
 }
 
 // The page that a table read takes its byte from: the program counter's own, or page 15.
-#[derive(Clone, Copy)]
+#[derive(Clone, Copy, Debug, PartialEq, Eq)]
 pub enum Page {
     Current,
     F,
 }
 
 // What a conditional branch tests.
-#[derive(Clone, Copy)]
+#[derive(Clone, Copy, Debug, PartialEq, Eq)]
 pub enum Condition {
     // JAn: bit n of ACC is 1. n is 0 to 3.
     Ja(u8),
@@ -64,7 +64,7 @@ pub enum Condition {
 }
 
 // One line of document 001's instruction summary, in its order. M is the data memory at a register pair, X a nibble, XX a byte.
-#[derive(Clone, Copy)]
+#[derive(Clone, Copy, Debug, PartialEq, Eq)]
 pub enum Instruction {
     // Arithmetic. ADD, ADC, SUB and SBC A,[R1R0]; ADD and SUB A,XH; DAA
     AddAM,

@@ -8,6 +8,9 @@ use native.Mathlib.Nat.{add-zero, zero-add}
 use native.Mathlib.Omega.{arith}
 use lib.Dec.{ltb, eqb}
 use borrow.Author.Tests.{ltb-true, ltb-false}
+use Rattle.std.specs.Prelude.{Some, None, Result, Ok, Err}
+use Rattle.refusals.specs.declared.Refusal.{Refusal}
+use Rattle.refusals.specs.declared.Refusal.TheVariants.{Range}
 use Rattle.isa.specs.Choice.{pick}
 use Rattle.datapath.specs.Memory.{tallied}
 use Rattle.datapath.proofs.Tally.{tallied-add}
@@ -23,7 +26,6 @@ use Rattle.machine.specs.declared.Machine.{Machine}
 use Rattle.machine.specs.declared.Trace.{Trace}
 use Rattle.machine.specs.declared.events.Event.{Event}
 use Rattle.machine.specs.declared.events.Event.TheVariants.{Run, Pins, Int, Tmclk, Res}
-use Rattle.machine.specs.declared.events.Named.TheVariants.{Known, Unknown}
 use Rattle.machine.proofs.Lists.{session-after, powered-on, property2}
 
 -- ---- the lesser of 65,535 and a number
@@ -77,7 +79,7 @@ module _ (n : ℕ) where
     none : m.trace.gap ≡ tallied 0 (n + 0)
     none = e ∙ ap (tallied 0) (sym (add-zero n))
 
-    happened-counts : (k : Event) → (happened mask k m).trace.gap ≡ tallied 0 (n + strays_in mask (steps_of (named (Known k))) (state_of m))
+    happened-counts : (k : Event) → (happened mask k m).trace.gap ≡ tallied 0 (n + strays_in mask (steps_of (named (Some k))) (state_of m))
     unfolding happened steps_of yielded
     happened-counts (Run r) = ap (λ (x : ℕ). tallied x (strays_in mask r (state_of m))) e ∙ tallied-add 0 n (strays_in mask r (state_of m))
     happened-counts (Pins pm ps pp) = none
@@ -88,8 +90,8 @@ module _ (n : ℕ) where
     input-counts : (i : Input) → (answer_to mask i m).machine.trace.gap ≡ tallied 0 (pick (eqb (answer_to mask i m).refusal 0) (since i n + strays_in mask (steps_of i) (state_of m)) n)
     unfolding power_on applied steps_of yielded powered tallied
     input-counts (power o image) = answered-counts (power_refusal o image) 0 (powered o image) m refl e
-    input-counts (named (Known k)) = answered-counts (refusal_of mask k m) _ (happened mask k m) m (happened-counts k) e
-    input-counts (named Unknown) = answered-counts (pick (valid (state_of m)) 7 5) (n + 0) m m none e
+    input-counts (named (Some k)) = answered-counts (refusal_of mask k m) _ (happened mask k m) m (happened-counts k) e
+    input-counts (named None) = answered-counts (pick (valid (state_of m)) 7 5) (n + 0) m m none e
 
 -- ---- every list
 list_counts : (ks : List Call) (n : ℕ) (m : Machine) → m.trace.gap ≡ tallied 0 n → (after ks m).trace.gap ≡ tallied 0 (gap_accesses_after n ks m)
@@ -110,7 +112,7 @@ gap-counted options image before start e z calls last bytes s =
     let counts : last.trace.gap ≡ lesser 65535 (gap_accesses calls first) = ap (λ (m : Machine). m.trace.gap) q ∙ count-goes-on calls first (omega arith) in
     record {
       counts = counts;
-      answers = ap (λ (t : Bool). record { count = pick t last.trace.gap 0; refusal = pick t 0 5 }) v ∙ ap (λ (x : ℕ). record { count = x; refusal = 0 }) counts;
+      answers = ap (λ (t : Bool). pick {A = Result ℕ Refusal} t (Ok last.trace.gap) (Err Range)) v ∙ ap (λ (x : ℕ). Ok x) counts;
     }
 
 -- ---- what the trace does not decide
@@ -130,14 +132,14 @@ module _ (t : Trace) (mask : List ℕ) (m : Machine) where
   refusal-same : (i : Input) → (answer_to mask i (with_trace t m)).refusal ≡ (answer_to mask i m).refusal
   unfolding power_on applied refusal_of
   refusal-same (power o image) = refl
-  refusal-same (named (Known e)) = refl
-  refusal-same (named Unknown) = refl
+  refusal-same (named (Some e)) = refl
+  refusal-same (named None) = refl
 
   state-same : (i : Input) → state_of (answer_to mask i (with_trace t m)).machine ≡ state_of (answer_to mask i m).machine
   unfolding power_on applied refusal_of
   state-same (power o image) = same (eqb (power_refusal o image) 0) (powered o image) (powered o image) m (with_trace t m) refl refl
-  state-same (named (Known e)) = same (eqb (refusal_of mask e m) 0) (happened mask e m) (happened mask e (with_trace t m)) m (with_trace t m) (happened-same e) refl
-  state-same (named Unknown) = same (eqb (pick (valid (state_of m)) 7 5) 0) m (with_trace t m) m (with_trace t m) refl refl
+  state-same (named (Some e)) = same (eqb (refusal_of mask e m) 0) (happened mask e m) (happened mask e (with_trace t m)) m (with_trace t m) (happened-same e) refl
+  state-same (named None) = same (eqb (pick (valid (state_of m)) 7 5) 0) m (with_trace t m) m (with_trace t m) refl refl
 
 pub trace-aside : TraceAside
 unfolding report

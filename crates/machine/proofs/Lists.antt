@@ -8,6 +8,7 @@ use mathlib.Core.List.{List, [], ◌∷◌}
 use lib.Dec.{eqb, lit<}
 use lib.ListN.{length, get_or, drop, length-drop}
 use borrow.Author.Tests.{ltb-true, eqb-true, eq-eqb}
+use Rattle.std.specs.Prelude.{Some, None}
 use Rattle.datapath.specs.Memory.{memory_size}
 use Rattle.isa.specs.Choice.{pick}
 use Rattle.isa.proofs.Exact.{and_left, and_right, and_both}
@@ -32,7 +33,6 @@ use Rattle.machine.specs.declared.Machine.{Machine}
 use Rattle.machine.specs.declared.Answer.{Answer}
 use Rattle.machine.specs.declared.events.Event.{Event}
 use Rattle.machine.specs.declared.events.Event.TheVariants.{Run, Pins as PinsEvent, Int, Tmclk, Res}
-use Rattle.machine.specs.declared.events.Named.TheVariants.{Known, Unknown}
 
 -- ---- nibbles of an image
 nibbles-at : (s : List ℕ) → nibbles s ≡ true → (k : ℕ) → get_or s k 0 < 16
@@ -198,8 +198,8 @@ unrefused mask e m r = go (mask_ok mask e) (values_ok e) (valid (state_of m)) re
 pub input-valid : (mask : List ℕ) → Bytes mask → (i : Input) (m : Machine) → valid (state_of m) ≡ true → valid (state_of (answer_to mask i m).machine) ≡ true
 unfolding power_on applied
 input-valid mask b (power o image) m v = answered-valid (power_refusal o image) (powered o image) m (λ e. powered-valid o image e) v
-input-valid mask b (named (Known e)) m v = answered-valid (refusal_of mask e m) (happened mask e m) m (λ r. happened-valid mask b e m (unrefused mask e m r) v) v
-input-valid mask b (named Unknown) m v = answered-valid (pick (valid (state_of m)) 7 5) m m (λ e. v) v
+input-valid mask b (named (Some e)) m v = answered-valid (refusal_of mask e m) (happened mask e m) m (λ r. happened-valid mask b e m (unrefused mask e m r) v) v
+input-valid mask b (named None) m v = answered-valid (pick (valid (state_of m)) 7 5) m m (λ e. v) v
 
 -- no list of inputs takes the machine out of its ranges
 pub after-valid : (ks : List Call) → Every (λ (k : Call). Bytes k.mask) ks → (m : Machine) → valid (state_of m) ≡ true → valid (state_of (after ks m)) ≡ true

@@ -1,5 +1,5 @@
 -- The events, document 01, "One step, and events" and "Refused inputs", and document 02, wishes 1 and 6. Assumes nothing.
-use Rattle.std.specs.Prelude.{ℕ, ◌≡◌, Bool, true, not, ◌&&◌, List, [], ◌∷◌, eqb}
+use Rattle.std.specs.Prelude.{ℕ, ◌≡◌, Bool, true, not, ◌&&◌, List, [], ◌∷◌, eqb, Option, Some, None}
 use Rattle.std.specs.Int.Bits.{bit_and, bit_xor}
 use Rattle.isa.specs.Choice.{pick}
 use Rattle.rom.specs.Fetching.{sized}
@@ -16,8 +16,6 @@ use Rattle.machine.specs.declared.Machine.{Machine}
 use Rattle.machine.specs.declared.Answer.{Answer}
 use Rattle.machine.specs.declared.events.Event.{Event}
 use Rattle.machine.specs.declared.events.Event.TheVariants.{Run, Pins, Int, Tmclk, Res}
-use Rattle.machine.specs.declared.events.Named.{Named}
-use Rattle.machine.specs.declared.events.Named.TheVariants.{Known, Unknown}
 
 abbrev pub on_cpu_of : (Cpu → Cpu) → Machine → Machine
 on_cpu_of f m = record { cpu = f m.cpu; memory = m.memory; trace = m.trace }
@@ -107,34 +105,34 @@ stepping mask m = applied mask (Run 1) m
 -- ---- an event as a kind and numbers
 -- "2 Run: two-byte step count", "3 pins: PM, PS, PP. 4 INT: 0 or 1. 6 RES: empty", "5 TMCLK: two-byte count of rising edges". What a kind does
 -- not name is not looked at; another kind names no event
-unfoldable pub event_of : ℕ → ℕ → ℕ → ℕ → ℕ → Named
+unfoldable pub event_of : ℕ → ℕ → ℕ → ℕ → ℕ → Option Event
 event_of kind count a b c =
-    pick (eqb kind 2) (Known (Run count))
-    (pick (eqb kind 3) (Known (Pins a b c))
-    (pick (eqb kind 4) (Known (Int a))
-    (pick (eqb kind 5) (Known (Tmclk count))
-    (pick (eqb kind 6) (Known Res)
-    Unknown))))
+    pick (eqb kind 2) (Some (Run count))
+    (pick (eqb kind 3) (Some (Pins a b c))
+    (pick (eqb kind 4) (Some (Int a))
+    (pick (eqb kind 5) (Some (Tmclk count))
+    (pick (eqb kind 6) (Some Res)
+    None))))
 
 -- the number of each case: "7: unknown kind"
-abbrev pub kind_refusal : Named → ℕ
-kind_refusal (Known e) = 0
-kind_refusal Unknown = 7
+abbrev pub kind_refusal : Option Event → ℕ
+kind_refusal (Some e) = 0
+kind_refusal None = 7
 
 -- ---- whole lists
 -- what a host does: a power-on with options and an image of its own, another event, or a kind that names none
 pub data Input : Type 0 where
   power : Options → List ℕ → Input
-  named : Named → Input
+  named : Option Event → Input
 
 -- a kind with this number: 0, what it names is answered; else the number, but a machine out of range comes first: "the lowest number wins"
 abbrev pub by_kind : ℕ → Answer → Machine → Answer
 by_kind n known m = pick (eqb n 0) known (answered (pick (valid (state_of m)) n 5) m m)
 
 -- an unknown kind names nothing that could be done
-abbrev pub named_answer : List ℕ → Named → Machine → Answer
-named_answer mask (Known e) m = by_kind (kind_refusal (Known e)) (applied mask e m) m
-named_answer mask Unknown m = by_kind (kind_refusal Unknown) (answered 0 m m) m
+abbrev pub named_answer : List ℕ → Option Event → Machine → Answer
+named_answer mask (Some e) m = by_kind (kind_refusal (Some e)) (applied mask e m) m
+named_answer mask None m = by_kind (kind_refusal None) (answered 0 m m) m
 
 abbrev pub answer_to : List ℕ → Input → Machine → Answer
 answer_to mask (power options image) m = power_on options image m
@@ -143,12 +141,12 @@ answer_to mask (named e) m = named_answer mask e m
 -- the steps of an input: "Run: two-byte step count". No other takes any
 unfoldable pub steps_of : Input → ℕ
 steps_of (power options image) = 0
-steps_of (named (Known (Run n))) = n
-steps_of (named (Known (Pins pm ps pp))) = 0
-steps_of (named (Known (Int level))) = 0
-steps_of (named (Known (Tmclk n))) = 0
-steps_of (named (Known Res)) = 0
-steps_of (named Unknown) = 0
+steps_of (named (Some (Run n))) = n
+steps_of (named (Some (Pins pm ps pp))) = 0
+steps_of (named (Some (Int level))) = 0
+steps_of (named (Some (Tmclk n))) = 0
+steps_of (named (Some Res)) = 0
+steps_of (named None) = 0
 
 -- an input with the mask that it came with: a Run may have a mask of its own
 pub record Call : Type 0 where
@@ -162,7 +160,7 @@ after (k ∷ ks) m = after ks (answer_to k.mask k.input m).machine
 
 -- "Every Run in the list has the one passed mask"; another input may come with any
 abbrev pub UnderMask : List ℕ → Call → Type 0
-UnderMask mask k = (n : ℕ) → k.input ≡ named (Known (Run n)) → k.mask ≡ mask
+UnderMask mask k = (n : ℕ) → k.input ≡ named (Some (Run n)) → k.mask ≡ mask
 
 -- every one of a list of calls
 abbrev pub Every : (Call → Type 0) → List Call → Type 0

@@ -1,5 +1,5 @@
 -- Document 02, wish 6: the query of the count, and what it counts. Assumes nothing.
-use Rattle.std.specs.Prelude.{ℕ, ◌+◌, ◌≤◌, ◌≡◌, List, [], ◌∷◌, ltb, eqb}
+use Rattle.std.specs.Prelude.{ℕ, ◌+◌, ◌≤◌, ◌≡◌, List, [], ◌∷◌, ltb, eqb, Result, Ok, Err}
 use Rattle.isa.specs.Choice.{pick}
 use Rattle.rom.specs.Fetching.{Bytes}
 use Rattle.cpu.specs.Gap.{strays_in}
@@ -7,16 +7,17 @@ use Rattle.cpu.specs.Range.{valid}
 use Rattle.cpu.specs.declared.Options.{Options}
 use Rattle.machine.specs.Machine.{state_of, machine_of}
 use Rattle.machine.specs.Power.{powered, power_on}
-use Rattle.machine.specs.Events.{range_refusal, Input, power, named, answer_to, Call, steps_of, after, Every, Session}
+use Rattle.machine.specs.Events.{Input, power, named, answer_to, Call, steps_of, after, Every, Session}
 use Rattle.machine.specs.Report.{report}
 use Rattle.machine.specs.declared.Machine.{Machine}
 use Rattle.machine.specs.declared.Trace.{Trace}
 use Rattle.machine.specs.declared.Answer.{Answer}
-use Rattle.machine.specs.declared.gap.GapCount.{GapCount}
+use Rattle.refusals.specs.declared.Refusal.{Refusal}
+use Rattle.refusals.specs.declared.Refusal.TheVariants.{Range}
 
--- "the count has its own query": the refusal of a machine out of range, and the count, 0 where it is refused
-abbrev pub gap_count : Machine → GapCount
-gap_count m = record { count = pick (valid (state_of m)) m.trace.gap 0; refusal = range_refusal m }
+-- "the count has its own query": the count, or the refusal of a machine out of range
+abbrev pub gap_count : Machine → Result ℕ Refusal
+gap_count m = pick (valid (state_of m)) (Ok m.trace.gap) (Err Range)
 
 -- ---- "the number of gap accesses since the last power-on", by counting steps, with no limit
 -- what is left of n accesses where an accepted input comes: a power-on starts anew
@@ -43,7 +44,7 @@ lesser a b = pick (ltb a b) a b
 -- the field, and the query's answer, which is then not refused
 pub record Strayed (calls : List Call) (first last : Machine) : Type 0 where
   pub counts : last.trace.gap ≡ lesser 65535 (gap_accesses calls first)
-  pub answers : gap_count last ≡ record { count = lesser 65535 (gap_accesses calls first); refusal = 0 }
+  pub answers : gap_count last ≡ Ok (lesser 65535 (gap_accesses calls first))
 
 -- each Run may have a mask of its own, which is bytes, as every lent slice is
 abbrev pub GapCounted : Type 0

@@ -1,17 +1,19 @@
 // The events other than power-on: methods that take the machine and hand it back with their answer.
-ghost use Rattle.std.specs.Prelude.{◌≡◌, ℕ, length, true, [], List};
+ghost use Rattle.std.specs.Prelude.{◌≡◌, ℕ, length, true, [], List, None};
 ghost use Rattle.datapath.specs.Memory.{memory_size};
 ghost use Rattle.cpu.specs.State.{state};
+ghost use Rattle.refusals.specs.Numbers.{refusal_of as number_given};
 ghost use Rattle.machine.specs.Machine.{machine_of, trace_of};
 ghost use Rattle.machine.specs.declared.Trace.{Trace};
 ghost use Rattle.machine.specs.Events.{applied, clocked, counting, event_of, fallen, happened, interrupted, mask_ok, named_answer, pinned, refusal_of, stepping, values_ok, wakes, with_int, with_ports, woken};
 
 use crate::power::reset_cpu;
-use crate::ranges::{both, sound};
+use crate::ranges::sound;
 use crate::{Answer, Machine};
 use cpu::Cpu;
 use datapath::memory::MEMORY;
 use datapath::timer::advance;
+use refusals::Refusal;
 use rom::reader::mask_ok;
 
 // Kinds 2 to 6 of document 01's records.
@@ -29,24 +31,17 @@ pub enum Event {
     Res,
 }
 
-// What a kind and its numbers name: an event, or refusal 7.
-#[derive(Clone, Copy)]
-pub enum Named {
-    Known(Event),
-    Unknown,
-}
-
-// The event of a kind. What the kind does not name is not looked at.
-pub fn event_of(kind: u16, count: u16, a: u8, b: u8, c: u8) -> Named
+// The event of a kind, if it names one. What the kind does not name is not looked at.
+pub fn event_of(kind: u16, count: u16, a: u8, b: u8, c: u8) -> Option<Event>
     ensures { result ≡ event_of kind count a b c }
 {
     match kind {
-        2 => Named::Known(Event::Run(count)),
-        3 => Named::Known(Event::Pins(a, b, c)),
-        4 => Named::Known(Event::Int(a)),
-        5 => Named::Known(Event::Tmclk(count)),
-        6 => Named::Known(Event::Res),
-        _ => Named::Unknown,
+        2 => Some(Event::Run(count)),
+        3 => Some(Event::Pins(a, b, c)),
+        4 => Some(Event::Int(a)),
+        5 => Some(Event::Tmclk(count)),
+        6 => Some(Event::Res),
+        _ => None,
     }
 }
 
@@ -61,16 +56,10 @@ fn fallen(old: u8, new: u8, wake: u8) -> u8
 fn wakes(pm: u8, ps: u8, pp: u8, c: Cpu) -> bool
     ensures { result ≡ wakes pm ps pp c }
 {
-    if c.status.halted != 1 {
-        return false;
-    }
-    if fallen(c.pins.pm, pm, c.options.pm) != 0 {
-        return true;
-    }
-    if fallen(c.pins.ps, ps, c.options.ps) != 0 {
-        return true;
-    }
-    fallen(c.pins.pp, pp, c.options.pp) != 0
+    c.status.halted == 1
+        && (fallen(c.pins.pm, pm, c.options.pm) != 0
+            || fallen(c.pins.ps, ps, c.options.ps) != 0
+            || fallen(c.pins.pp, pp, c.options.pp) != 0)
 }
 
 // An edge is held, and the processor wakes.
@@ -86,7 +75,7 @@ fn woken(mut c: Cpu) -> Cpu
 fn clocked(c: Cpu) -> bool
     ensures { result ≡ clocked c }
 {
-    both(c.options.rate == 255, c.timer.running == 1)
+    c.options.rate == 255 && c.timer.running == 1
 }
 
 fn set_ports(mut c: Cpu, pm: u8, ps: u8, pp: u8) -> Cpu
@@ -116,16 +105,14 @@ fn pinned(c: Cpu, pm: u8, ps: u8, pp: u8) -> Cpu
 }
 
 // A new level of INT: a falling edge is always held and wakes.
+#[tactic(auto, unfolding(crate::specs::Events::interrupted))]
 fn interrupted(c: Cpu, level: u8) -> Cpu
     ensures { result ≡ interrupted level c }
 {
-    if c.pins.int != 1 {
-        return set_int(c, level);
+    if c.pins.int == 1 && level == 0 {
+        return set_int(woken(c), level);
     }
-    if level != 0 {
-        return set_int(c, level);
-    }
-    set_int(woken(c), level)
+    set_int(c, level)
 }
 
 // Rising edges of TMCLK.
@@ -140,44 +127,43 @@ fn counting(c: Cpu, n: u16) -> Cpu
 }
 
 // Refusal 3 is the answer to an event where this is false.
+#[tactic(auto, unfolding(crate::specs::Events::values_ok))]
 pub fn values_ok(event: Event) -> bool
     ensures { result ≡ values_ok event }
 {
     match event {
-        Event::Run(_) => true,
-        Event::Pins(pm, ps, pp) => both(pm < 16, both(ps < 16, pp < 16)),
+        Event::Pins(pm, ps, pp) => pm < 16 && ps < 16 && pp < 16,
         Event::Int(level) => level < 2,
-        Event::Tmclk(_) => true,
-        Event::Res => true,
+        Event::Run(_) | Event::Tmclk(_) | Event::Res => true,
     }
 }
 
-// The refusal of a Run, 0 for none: the lowest number wins. It does not look at the trace.
-fn run_refusal(cpu: Cpu, memory: &[u8; MEMORY], mask: &[u8]) -> u8
+// The refusal of a Run: the lowest number wins. It does not look at the trace.
+fn check_run(cpu: Cpu, memory: &[u8; MEMORY], mask: &[u8]) -> Result<(), Refusal>
     requires { length memory.now ≡ memory_size }
-    ensures { (n : ℕ) (trace : Trace) → result ≡ refusal_of mask.now (Event.Run n) (machine_of (state cpu memory.now) trace) }
+    ensures { (n : ℕ) (trace : Trace) → number_given result ≡ refusal_of mask.now (Event.Run n) (machine_of (state cpu memory.now) trace) }
 {
-    if mask_ok(mask) {
-        if sound(cpu, memory) {
-            return 0;
-        }
-        return 5;
+    if !mask_ok(mask) {
+        return Err(Refusal::Mask);
     }
-    1
+    if !sound(cpu, memory) {
+        return Err(Refusal::Range);
+    }
+    Ok(())
 }
 
 // The refusal of an event whose mask is as it should be: Run alone has one.
-fn refusal(cpu: Cpu, memory: &[u8; MEMORY], event: Event) -> u8
+fn check_event(cpu: Cpu, memory: &[u8; MEMORY], event: Event) -> Result<(), Refusal>
     requires { length memory.now ≡ memory_size }
-    ensures { (mask : List ℕ) (trace : Trace) → mask_ok mask event ≡ true → result ≡ refusal_of mask event (machine_of (state cpu memory.now) trace) }
+    ensures { (mask : List ℕ) (trace : Trace) → mask_ok mask event ≡ true → number_given result ≡ refusal_of mask event (machine_of (state cpu memory.now) trace) }
 {
-    if values_ok(event) {
-        if sound(cpu, memory) {
-            return 0;
-        }
-        return 5;
+    if !values_ok(event) {
+        return Err(Refusal::Value);
     }
-    3
+    if !sound(cpu, memory) {
+        return Err(Refusal::Range);
+    }
+    Ok(())
 }
 
 // What pins, INT and TMCLK make of the processor, all that they change. An arm for RES here would cost each step of a Run two instructions
@@ -216,10 +202,9 @@ impl Machine {
     fn run(mut self, n: u16, mask: &[u8]) -> Answer
         ensures { result ≡ applied mask.now (Event.Run n) self }
     {
-        let judged = run_refusal(self.cpu, &self.memory, mask);
-        if judged != 0 {
+        if let Err(judged) = check_run(self.cpu, &self.memory, mask) {
             return Answer {
-                refusal: judged,
+                refusal: u8::from(judged),
                 machine: self,
             };
         }
@@ -236,10 +221,9 @@ impl Machine {
     fn change(mut self, event: Event) -> Answer
         ensures { (mask : List ℕ) → ((n : ℕ) → event ≡ Event.Run n → ⊥) → (event ≡ Event.Res → ⊥) → result ≡ applied mask event self }
     {
-        let refusal = refusal(self.cpu, &self.memory, event);
-        if refusal != 0 {
+        if let Err(refusal) = check_event(self.cpu, &self.memory, event) {
             return Answer {
-                refusal,
+                refusal: u8::from(refusal),
                 machine: self,
             };
         }
@@ -264,7 +248,7 @@ impl Machine {
 
     // A kind that names no event is refused with 7, but a machine out of range comes first.
     fn unknown(self) -> Answer
-        ensures { result ≡ named_answer [] Named.Unknown self }
+        ensures { result ≡ named_answer [] None self }
     {
         if sound(self.cpu, &self.memory) {
             return Answer {
@@ -279,12 +263,12 @@ impl Machine {
     }
 
     // What a kind names: its event, or the refusal of an unknown kind.
-    pub fn apply_named(mut self, named: Named, mask: &[u8]) -> Answer
+    pub fn apply_named(mut self, named: Option<Event>, mask: &[u8]) -> Answer
         ensures { result ≡ named_answer mask.now named self }
     {
         match named {
-            Named::Known(event) => self.apply(event, mask),
-            Named::Unknown => self.unknown(),
+            Some(event) => self.apply(event, mask),
+            None => self.unknown(),
         }
     }
 
@@ -292,10 +276,9 @@ impl Machine {
     pub fn step(mut self, mask: &[u8]) -> Answer
         ensures { result ≡ stepping mask.now self }
     {
-        let refusal = run_refusal(self.cpu, &self.memory, mask);
-        if refusal != 0 {
+        if let Err(refusal) = check_run(self.cpu, &self.memory, mask) {
             return Answer {
-                refusal,
+                refusal: u8::from(refusal),
                 machine: self,
             };
         }

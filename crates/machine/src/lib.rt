@@ -26,7 +26,8 @@ pub struct Machine {
     pub trace: Trace,
 }
 
-// What an event gives back: document 01's refusal number, 0 for none, and the machine. A refused machine is as it was. The machine stands
+// What an event gives back: document 01's refusal number, 0 for none, and the machine. A refused machine is as it was. It is no Result: an Err
+// would not hand the machine back (document 01's form), and `Session` and the hosts have the number (machine/specs/Events). The machine stands
 // first, on no padding: so the compiler makes an answer where it is to stand, and not in a second place that is then copied.
 #[derive(Clone, Copy)]
 pub struct Answer {

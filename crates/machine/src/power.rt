@@ -1,6 +1,7 @@
 // Power-on and RES.
-ghost use Rattle.std.specs.Prelude.{◌≡◌, drop, length, replicate, ◌≤◌};
+ghost use Rattle.std.specs.Prelude.{◌≡◌, length, replicate};
 ghost use Rattle.cpu.specs.State.{state};
+ghost use Rattle.refusals.specs.Numbers.{refusal_of as number_given};
 ghost use Rattle.machine.specs.Machine.{machine_of, no_trace, trace_of};
 ghost use Rattle.machine.specs.Power.{after_res, blank, power_on, power_refusal, powered, started};
 ghost use Rattle.machine.specs.Events.{resetting};
@@ -10,35 +11,22 @@ use crate::{Answer, Machine, Trace};
 use cpu::{Control, Cpu, Interrupts, Options, Outputs, Pins, Registers, Stack, Status, Timer};
 use datapath::memory::MEMORY;
 use isa::ProgramAddress;
+use refusals::Refusal;
 
-// The refusal of a power-on, 0 for none.
-fn power_refusal(options: Options, image: &[u8]) -> u8
-    ensures { result ≡ power_refusal options image.now }
+// The refusal of a power-on.
+fn check_power(options: Options, image: &[u8]) -> Result<(), Refusal>
+    ensures { number_given result ≡ power_refusal options image.now }
 {
     if image.len() != 166 {
-        return 2;
+        return Err(Refusal::Buffer);
     }
-    if all_nibbles(image) {
-        if options_ok(options) {
-            return 0;
-        }
-        return 4;
+    if !all_nibbles(image) {
+        return Err(Refusal::Value);
     }
-    3
-}
-
-// The data memory of an image: all after ACC and R0-R4.
-fn image_memory(image: &[u8]) -> [u8; MEMORY]
-    requires { length image.now ≡ 166 }
-    ensures { result ≡ drop 6 image.now }
-{
-    let mut memory = [0u8; MEMORY];
-    let mut i = 0;
-    while i < MEMORY {
-        memory[i] = image[i + 6];
-        i += 1;
+    if !options_ok(options) {
+        return Err(Refusal::Choice);
     }
-    memory
+    Ok(())
 }
 
 // The processor after RES, with what RES keeps.
@@ -108,12 +96,12 @@ fn no_trace() -> Trace
 }
 
 // The processor that a power-on makes of options and an image, which fills the data memory that is lent.
+#[tactic(auto, unfolding(crate::specs::Power::powered))]
 fn powered(options: Options, image: &[u8], memory: &mut [u8; MEMORY]) -> Cpu
     requires { length image.now ≡ 166 }
     ensures { machine_of (state result memory.new) no_trace ≡ powered options image.now }
 {
-    let all = image_memory(image);
-    *memory = all;
+    memory.copy_from_slice(&image[6..]); // all after ACC and R0-R4
     let registers = Registers {
         acc: image[0],
         r0: image[1],
@@ -126,13 +114,12 @@ fn powered(options: Options, image: &[u8], memory: &mut [u8; MEMORY]) -> Cpu
 }
 
 // The machine that a power-on makes of options and one nibble that fills the image, where data memory and the trace's fields are lent.
+#[tactic(auto, unfolding(crate::specs::Power::powered))]
 pub fn filled(options: Options, x: u8, memory: &mut [u8; MEMORY], gap: &mut u16) -> Cpu
     ensures { machine_of (state result memory.new) (trace_of gap.new) ≡ powered options (replicate 166 x) }
 {
-    let all = [x; MEMORY];
-    *memory = all;
-    let none = no_trace();
-    *gap = none.gap;
+    *memory = [x; MEMORY];
+    *gap = no_trace().gap;
     let registers = Registers {
         acc: x,
         r0: x,
@@ -182,10 +169,9 @@ impl Machine {
     pub fn power_on(mut self, options: Options, image: &[u8]) -> Answer
         ensures { result ≡ power_on options image.now self }
     {
-        let refusal = power_refusal(options, image);
-        if refusal != 0 {
+        if let Err(refusal) = check_power(options, image) {
             return Answer {
-                refusal,
+                refusal: u8::from(refusal),
                 machine: self,
             };
         }

@@ -13,10 +13,7 @@ use isa::ADDRESSES;
 fn larger(a: u8, b: u8) -> u8
     ensures { ltb result 16 ≡ ltb a 16 && ltb b 16 }
 {
-    if a < b {
-        return b;
-    }
-    a
+    a.max(b)
 }
 
 // Whether every element is a nibble. One test at the end: a loop with no way out takes many elements at once.
@@ -24,30 +21,10 @@ pub fn all_nibbles(s: &[u8]) -> bool
     ensures { result ≡ nibbles s.now }
 {
     let mut top = 0;
-    let mut i = 0;
-    while i < s.len() {
-        top = larger(top, s[i]);
-        i += 1;
+    for x in s {
+        top = larger(top, *x);
     }
     top < 16
-}
-
-pub(crate) fn both(a: bool, b: bool) -> bool
-    ensures { result ≡ a && b }
-{
-    if a {
-        return b;
-    }
-    false
-}
-
-fn either(a: bool, b: bool) -> bool
-    ensures { result ≡ a || b }
-{
-    if a {
-        return true;
-    }
-    b
 }
 
 // The bits of two numbers together: in a range of whole bits where both are.
@@ -60,23 +37,19 @@ fn joined(a: u8, b: u8) -> u8
 fn rate_ok(rate: u8) -> bool
     ensures { result ≡ ltb rate 14 && not (eqb rate 6) || eqb rate 255 }
 {
-    either(both(rate < 14, rate != 6), rate == 255)
+    (rate < 14 && rate != 6) || rate == 255
 }
 
 // Refusal 4 is the answer to a power-on where this is false.
+#[tactic(auto, unfolding(cpu::specs::Range::options_ok))]
 pub fn options_ok(o: Options) -> bool
     ensures { result ≡ options_ok o }
 {
-    both(
-        rate_ok(o.rate),
-        both(
-            either(o.commons == 3, o.commons == 4),
-            both(o.pm < 16, both(o.ps < 16, o.pp < 16)),
-        ),
-    )
+    listed(o.rate, o.commons) && o.pm < 16 && o.ps < 16 && o.pp < 16
 }
 
 // Registers, PA, port levels and wake nibbles: one test for all.
+#[tactic(auto, unfolding(cpu::specs::Range::registers_ok))]
 fn nibbles_ok(c: Cpu) -> bool
     ensures { result ≡ registers_ok c.registers
         && ((nibble c.outputs.pa && (nibble c.pins.pm && (nibble c.pins.ps && nibble c.pins.pp)))
@@ -131,7 +104,7 @@ fn addresses_ok(pc: u16, address: u16) -> bool
 fn listed(rate: u8, commons: u8) -> bool
     ensures { result ≡ (ltb rate 14 && not (eqb rate 6) || eqb rate 255) && (eqb commons 3 || eqb commons 4) }
 {
-    both(rate_ok(rate), either(commons == 3, commons == 4))
+    rate_ok(rate) && (commons == 3 || commons == 4)
 }
 
 // What is tested alone. A halted machine has no fault; the counts of timer and cycles have any value of their types.
@@ -143,19 +116,11 @@ fn others_ok(c: Cpu) -> bool
         && ((ltb c.options.rate 14 && not (eqb c.options.rate 6) || eqb c.options.rate 255)
         && (eqb c.options.commons 3 || eqb c.options.commons 4))))) }
 {
-    both(
-        c.interrupts.level < 3,
-        both(
-            c.status.fault < 4,
-            both(
-                either(c.status.halted == 0, c.status.fault == 0),
-                both(
-                    c.outputs.channel < 17,
-                    listed(c.options.rate, c.options.commons),
-                ),
-            ),
-        ),
-    )
+    c.interrupts.level < 3
+        && c.status.fault < 4
+        && (c.status.halted == 0 || c.status.fault == 0)
+        && c.outputs.channel < 17
+        && listed(c.options.rate, c.options.commons)
 }
 
 // Tests of many fields at once are few: so the compiler puts them in place of each call, and no processor is copied for one.
@@ -165,22 +130,14 @@ fn cpu_ok(c: Cpu) -> bool
     // read, so that they are known to be in the range of their types
     let _count = c.timer.count;
     let _cycles = c.cycles;
-    both(
-        nibbles_ok(c),
-        both(
-            flags_ok(c),
-            both(
-                addresses_ok(c.control.pc.0, c.stack.address.0),
-                others_ok(c),
-            ),
-        ),
-    )
+    nibbles_ok(c) && flags_ok(c) && addresses_ok(c.control.pc.0, c.stack.address.0) && others_ok(c)
 }
 
 // Whether a machine is in range, from its two parts: the memory is lent, not copied. Refusal 5 is the answer where this is false.
+#[tactic(auto, unfolding(cpu::specs::Range::valid, cpu::specs::Range::memory_ok))]
 pub(crate) fn sound(cpu: Cpu, memory: &[u8; MEMORY]) -> bool
     requires { length memory.now ≡ memory_size }
     ensures { result ≡ valid (state cpu memory.now) }
 {
-    both(cpu_ok(cpu), all_nibbles(memory))
+    cpu_ok(cpu) && all_nibbles(memory)
 }

@@ -3,6 +3,7 @@ ghost use Rattle.std.specs.Prelude.{◌≡◌, ◌++◌, ℕ, ◌<◌, ◌%◌, 
 ghost use Rattle.std.specs.Int.Bits.{bit_and};
 ghost use Rattle.isa.specs.Choice.{pick};
 ghost use Rattle.cpu.specs.State.{state};
+ghost use Rattle.refusals.specs.Numbers.{refusal_of};
 ghost use Rattle.machine.specs.Machine.{machine_of};
 ghost use Rattle.machine.specs.declared.Trace.{Trace};
 ghost use Rattle.machine.specs.Report.{heading, places, report, reported, reporting, shown};
@@ -12,6 +13,7 @@ use crate::ranges::sound;
 use cpu::Cpu;
 use datapath::memory::{MEMORY, load};
 use isa::DataAddress;
+use refusals::Refusal;
 
 // The bits of a display nibble that show: with 3 commons bit 3 shows 0, and a halted machine shows nothing.
 fn lit(cpu: Cpu) -> u8
@@ -57,12 +59,7 @@ fn put_heading(cpu: Cpu, out: &mut [u8])
     requires { length out.old ≡ 48 }
     ensures { take 16 out.new ≡ heading cpu }
 {
-    let first = heading(cpu);
-    let mut k = 0;
-    while k < 16 {
-        out[k] = first[k];
-        k += 1;
-    }
+    out[..16].copy_from_slice(&heading(cpu));
 }
 
 // Writes the 32 display nibbles after them: nibble `s` is the one at E0h + s. What shows is the same bits of each, so the loop takes many at once.
@@ -71,11 +68,9 @@ fn put_display(cpu: Cpu, memory: &[u8; MEMORY], out: &mut [u8])
     ensures { out.new ≡ take 16 out.old ++ places 32 (shown cpu memory.now) 0 }
 {
     let lit = lit(cpu);
-    let mut k = 16;
-    while k < 48u8 {
+    for k in 16..48u8 {
         let x = load(memory, DataAddress(0xd0 + k));
         out[k as usize] = x.nibble & lit;
-        k += 1;
     }
 }
 
@@ -90,17 +85,17 @@ pub fn write_report(cpu: Cpu, memory: &[u8; MEMORY], out: &mut [u8])
 }
 
 impl Machine {
-    // Writes the report of the machine, or refuses with 2 for the buffer's length or 5 for the machine: then nothing is written.
-    pub fn report(self, out: &mut [u8]) -> u8
-        ensures { reporting result out.new ≡ report self out.old }
+    // Writes the report of the machine, or refuses the buffer's length or the machine: then nothing is written.
+    pub fn report(self, out: &mut [u8]) -> Result<(), Refusal>
+        ensures { reporting (refusal_of result) out.new ≡ report self out.old }
     {
         if out.len() != 48 {
-            return 2;
+            return Err(Refusal::Buffer);
         }
-        if sound(self.cpu, &self.memory) {
-            write_report(self.cpu, &self.memory, out);
-            return 0;
+        if !sound(self.cpu, &self.memory) {
+            return Err(Refusal::Range);
         }
-        5
+        write_report(self.cpu, &self.memory, out);
+        Ok(())
     }
 }

@@ -1,12 +1,13 @@
 -- A machine has one answer, its picture is one, and asleep it is dark. Assumes nothing.
 use Prim.Native.Nat.{ℕ, zero, suc, ◌+◌, ◌%◌, ◌<◌}
 use native.Mathlib.Omega.{arith}
-use mathlib.Core.Path.{◌≡◌, refl, sym, ap, ap₂, subst}
+use mathlib.Core.Path.{◌≡◌, refl, sym, ap, ap₂, ◌∙◌, subst}
 use mathlib.Core.Bool.{Bool, true, false, ◌&&◌}
 use mathlib.Core.List.{List, ◌∷◌}
 use lib.Dec.{eqb}
 use lib.ListN.{replicate}
 use borrow.Author.Tests.{lt-ltb, eq-eqb}
+use Rattle.std.specs.Prelude.{Ok, Err}
 use Rattle.isa.specs.Choice.{pick}
 use Rattle.datapath.specs.Memory.{loaded}
 use Rattle.cpu.specs.Range.{cpu_ok, memory_ok, valid}
@@ -16,16 +17,15 @@ use Rattle.machine.specs.Machine.{state_of}
 use Rattle.machine.specs.Report.{places, shown}
 use Rattle.glass.specs.Reading.{all_nibbles, SeenAnswers}
 use Rattle.glass.specs.declared.Reading.TheVariants.{Dark}
-use Rattle.glass.specs.declared.Seen.TheVariants.{Shown}
 use Rattle.glass.proofs.Laws.{true-false, seen-determined}
-use Rattle.machine_glass.specs.Glass.{on_glass, SightDetermined, ShowsPicture, AsleepIsDark}
-use Rattle.machine_glass.specs.declared.Sight.TheVariants.{OnGlass, BadMachine}
+use Rattle.refusals.proofs.Numbers.{same_number}
+use Rattle.machine_glass.specs.Glass.{on_glass, Sight, SightDetermined, ShowsPicture, AsleepIsDark}
 
 pub sight-determined : SightDetermined
-sight-determined m (OnGlass s) (OnGlass t) a b = ap OnGlass (seen-determined (on_glass m) s t a.1 b.1)
-sight-determined m (OnGlass s) BadMachine a b = absurd (true-false (valid (state_of m)) a.0 b.0)
-sight-determined m BadMachine (OnGlass t) a b = absurd (true-false (valid (state_of m)) b.0 a.0)
-sight-determined m BadMachine BadMachine a b = refl
+sight-determined m (Ok s) (Ok t) a b = ap {B = Sight} Ok (seen-determined (on_glass m) s t a.1 b.1)
+sight-determined m (Ok s) (Err q) a b = absurd (true-false (valid (state_of m)) a.0 b.0)
+sight-determined m (Err r) (Ok t) a b = absurd (true-false (valid (state_of m)) b.0 a.0)
+sight-determined m (Err r) (Err q) a b = ap {B = Sight} Err (same_number r q (sym a.1 ∙ b.1))
 
 and_right : (a b : Bool) → a && b ≡ true → b ≡ true
 and_right true b e = e
@@ -59,10 +59,10 @@ all-0 : (n : ℕ) (f : ℕ → ℕ) (s : ℕ) → ((k : ℕ) → f k ≡ 0) → 
 all-0 zero f s h = refl
 all-0 (suc n) f s h = ap₂ {C = List ℕ} (λ (x : ℕ) (xs : List ℕ). x ∷ xs) (h s) (all-0 n f (suc s) h)
 
-dark : SeenAnswers (replicate 8 0) (Shown Dark)
+dark : SeenAnswers (replicate 8 0) (Ok Dark)
 unfolding all_nibbles
 dark = ((refl, refl), refl)
 
 pub asleep-is-dark : AsleepIsDark
 asleep-is-dark m v h =
-    (v, subst (λ (s : List ℕ). SeenAnswers s (Shown Dark)) (sym (all-0 8 (shown m.cpu m.memory) 0 (shown-asleep m.cpu m.memory h))) dark)
+    (v, subst (λ (s : List ℕ). SeenAnswers s (Ok Dark)) (sym (all-0 8 (shown m.cpu m.memory) 0 (shown-asleep m.cpu m.memory h))) dark)

@@ -2,47 +2,29 @@
 #![tactic(auto)]
 
 ghost use Rattle.std.specs.Prelude.{◌≡◌};
-ghost use Rattle.machine_glass.specs.Glass.{Sees, picture_of};
+ghost use Rattle.machine_glass.specs.Glass.{Sees, answered, picture_of};
 
-use glass::Seen;
 use glass::read::read;
+use glass::{Reading, Unseen};
 use machine::Machine;
+use refusals::Refusal;
 
-// Display nibbles 0 to 7, and document 01's refusal number, 0 for none. A refused machine has a blank picture.
-#[derive(Clone, Copy)]
-pub struct Pictured {
-    pub nibbles: [u8; 8],
-    pub refusal: u8,
-}
-
-// What is seen of a machine: what its picture is read as, or refusal 5.
-#[derive(Clone, Copy)]
-pub enum Sight {
-    OnGlass(Seen),
-    BadMachine,
-}
-
-// The picture as a report shows it: dark asleep, and without bit 3 on three commons.
-pub fn picture_of(machine: Machine) -> Pictured
-    ensures { result ≡ picture_of machine }
+// Display nibbles 0 to 7, as a report shows them: dark asleep, and without bit 3 on three commons.
+pub fn picture_of(machine: Machine) -> Result<[u8; 8], Refusal>
+    ensures { answered result ≡ picture_of machine }
 {
     let mut report = [0u8; 48];
-    let refusal = machine.report(&mut report);
-    let nibbles = [
+    machine.report(&mut report)?;
+    Ok([
         report[16], report[17], report[18], report[19], report[20], report[21], report[22],
         report[23],
-    ];
-    Pictured { nibbles, refusal }
+    ])
 }
 
-pub fn sight_of(machine: Machine) -> Sight
+// What the picture of a machine is read as, or why the machine is refused.
+pub fn sight_of(machine: Machine) -> Result<Result<Reading, Unseen>, Refusal>
     ensures { Sees machine result }
 {
-    let picture = picture_of(machine);
-    if picture.refusal != 0 {
-        return Sight::BadMachine;
-    }
-    let nibbles = picture.nibbles;
-    let seen = read(&nibbles);
-    Sight::OnGlass(seen)
+    let picture = picture_of(machine)?;
+    Ok(read(&picture))
 }

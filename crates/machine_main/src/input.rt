@@ -11,15 +11,15 @@ pub fn byte<R: Read>(file: &mut R) -> u8 {
 }
 
 pub fn word<R: Read>(file: &mut R) -> u16 {
-    let low = byte(file);
-    let high = byte(file);
-    low as u16 + high as u16 * 256
+    let mut two = [0u8; 2];
+    read_full(file, &mut two);
+    u16::from_le_bytes(two)
 }
 
 fn long<R: Read>(file: &mut R) -> u32 {
-    let low = word(file);
-    let high = word(file);
-    low as u32 + high as u32 * 65536
+    let mut four = [0u8; 4];
+    read_full(file, &mut four);
+    u32::from_le_bytes(four)
 }
 
 fn address<R: Read>(file: &mut R) -> ProgramAddress {

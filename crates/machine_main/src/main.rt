@@ -21,7 +21,7 @@ use rom::reader::MASK;
 use std::fs::File;
 use std::io;
 use std::io::{BufReader, BufWriter, Read, Write};
-use text::{put, put_answer, put_count};
+use text::{put_answer, put_count};
 
 // The image has room for a longer one than a whole one.
 fn power_on<R: Read>(file: &mut R, machine: Machine) -> Answer {
@@ -53,8 +53,7 @@ fn pins<R: Read>(file: &mut R, machine: Machine, mask: &[u8]) -> Answer {
 }
 
 fn set_cpu<R: Read>(file: &mut R, mut machine: Machine) -> Machine {
-    let cpu = input::cpu(file);
-    machine.cpu = cpu;
+    machine.cpu = input::cpu(file);
     machine
 }
 
@@ -68,8 +67,7 @@ fn set_nibble<R: Read>(file: &mut R, mut machine: Machine) -> Machine {
 }
 
 fn set_gap<R: Read>(file: &mut R, mut machine: Machine) -> Machine {
-    let gap = word(file);
-    machine.trace.gap = gap;
+    machine.trace.gap = word(file);
     machine
 }
 
@@ -117,10 +115,8 @@ fn commands<R: Read, W: Write>(
     mask: &[u8],
 ) -> io::Result<()> {
     let mut machine = Machine::blank();
-    let mut left = count;
-    while 0 < left {
+    for _ in 0..count {
         machine = command(file, out, machine, mask)?;
-        left -= 1;
     }
     Ok(())
 }
@@ -133,10 +129,8 @@ fn case<R: Read, W: Write>(file: &mut R, out: &mut W) -> io::Result<()> {
 }
 
 fn cases<R: Read, W: Write>(file: &mut R, out: &mut W) -> io::Result<()> {
-    let mut left = word(file);
-    while 0 < left {
+    for _ in 0..word(file) {
         case(file, out)?;
-        left -= 1;
     }
     Ok(())
 }
@@ -145,7 +139,7 @@ fn main(rt: HostRuntime) -> io::Result<()> {
     let mut out = BufWriter::new(rt.alloc(), io::writer(&rt))?;
     match File::open(&rt, "vectors.bin") {
         Ok(file) => cases(&mut BufReader::new(rt.alloc(), file)?, &mut out)?,
-        Err(_) => put(&mut out, b"no vectors.bin\n")?,
+        Err(_) => writeln!(out, "no vectors.bin")?,
     }
     out.flush()
 }

@@ -1,4 +1,2 @@
 pub mod Cases
-pub mod Cut
-pub mod Numbers
 pub mod Padding

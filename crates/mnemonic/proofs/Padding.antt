@@ -1,40 +1,32 @@
--- A padded text, byte by byte: what a loop that writes one byte a turn needs, and what a caller that cuts the text off needs. Assumes nothing.
-use Prim.Native.Nat.{ℕ, zero, suc, ◌+◌, ◌<◌, ◌≤◌}
+-- A text over zeros is the padded text. Assumes nothing.
+use Prim.Native.Nat.{ℕ, zero, suc, ◌+◌, ◌-◌, ◌≤◌}
 use native.Mathlib.Nat.{not-suc-le-zero, le_of_suc-le-suc}
-use native.Mathlib.Numerals.{add-one}
-use mathlib.Core.Path.{◌≡◌, refl, sym, ap, ap₂, ◌∙◌}
+use mathlib.Core.Path.{◌≡◌, refl, sym, ap, ◌∙◌}
 use mathlib.Core.List.{List, [], ◌∷◌, ◌++◌}
-use lib.ListN.{length, get_or, take, set}
-use lib.Seq.{take-suc-set, take-suc, take_all}
 use native.Mathlib.Omega.{arith}
-use Rattle.mnemonic.specs.Held.{padded, Holds}
-use Rattle.mnemonic.specs.declared.Text.{Text}
+use lib.ListN.{length, drop, replicate, length-append}
+use lib.Seq.{take-append_seam, drop-append_seam, drop-drop}
+use borrow.Rule.Slice.PartMut.{put_mid}
+use Rattle.std.proofs.lemmas.List.{append_assoc}
+use Rattle.mnemonic.specs.Held.{padded}
 
-pub padded-length : (n : ℕ) (s : List ℕ) → length (padded n s) ≡ n
-padded-length zero s = refl
-padded-length (suc n) [] = ap suc (padded-length n [])
-padded-length (suc n) (c ∷ s) = ap suc (padded-length n s)
+empty : (n : ℕ) → replicate n 0 ≡ padded n []
+empty zero = refl
+empty (suc n) = ap (λ (s : List ℕ). 0 ∷ s) (empty n)
 
-padded-at : (n : ℕ) (s : List ℕ) (i : ℕ) → i < n → get_or (padded n s) i 0 ≡ get_or s i 0
-padded-at zero s i h = absurd (not-suc-le-zero h)
-padded-at (suc n) [] zero h = refl
-padded-at (suc n) [] (suc i) h = padded-at n [] i (le_of_suc-le-suc h)
-padded-at (suc n) (c ∷ s) zero h = refl
-padded-at (suc n) (c ∷ s) (suc i) h = padded-at n s i (le_of_suc-le-suc h)
+pub over_zeros : (n : ℕ) (s : List ℕ) → length s ≤ n → s ++ drop (length s) (replicate n 0) ≡ padded n s
+over_zeros zero [] h = refl
+over_zeros zero (c ∷ s) h = absurd (not-suc-le-zero h)
+over_zeros (suc n) [] h = empty (suc n)
+over_zeros (suc n) (c ∷ s) h = ap (λ (s : List ℕ). c ∷ s) (over_zeros n s (le_of_suc-le-suc h))
 
--- one byte more
-pub more : (n : ℕ) (s l : List ℕ) (i x : ℕ) → length l ≡ n → i < n → x ≡ get_or s i 0 → take i l ≡ take i (padded n s)
-    → take (i + 1) (set l i x) ≡ take (i + 1) (padded n s)
-more n s l i x e h p q =
-    rw (add-one i)
-    (take-suc-set l i x (rw e h)
-    ∙ ap₂ (λ (t : List ℕ) (y : ℕ). t ++ (y ∷ [])) q (p ∙ sym (padded-at n s i h))
-    ∙ sym (take-suc (padded n s) i 0 (rw (padded-length n s) h)))
-
--- all of them
-pub whole : (n : ℕ) (s l : List ℕ) (i : ℕ) → length l ≡ n → n ≤ i → take i l ≡ take i (padded n s) → l ≡ padded n s
-whole n s l i e h q = sym (take_all i l (rw e h)) ∙ q ∙ take_all i (padded n s) (rw (padded-length n s) h)
-
--- a text ends inside its bytes, so that they can be cut off there
-pub inside : (r : Text) (s : List ℕ) → Holds r s → r.length ≤ length r.bytes
-inside r s h = omega (arith, h.fits, ap length h.bytes, padded-length 16 s)
+-- what two writes over zeros, one after the other, leave
+pub written : (n : ℕ) (f b g h : List ℕ) → g ≡ f → h ≡ b → length f + length b ≤ n
+    → put_mid (length f) (length f + length b - length f) (g ++ drop (length f) (replicate n 0)) h ≡ padded n (f ++ b)
+written n f b g h p q l =
+    let zeros : List ℕ = replicate n 0 in
+    let k : length f + length b - length f ≡ length b = omega arith in
+    rw (p, q, k, take-append_seam f (drop (length f) zeros), drop-append_seam f (drop (length f) zeros), drop-drop {A = ℕ} (length b) (length f) zeros)
+    (sym (append_assoc f b (drop (length f + length b) zeros))
+    ∙ ap (λ (m : ℕ). (f ++ b) ++ drop m zeros) (sym (length-append f b))
+    ∙ over_zeros n (f ++ b) (rw (length-append f b) l))

@@ -1,5 +1,5 @@
 -- A text in 16 bytes: the text, and zeros after it. Assumes nothing.
-use Rattle.std.specs.Prelude.{ℕ, zero, suc, ◌≤◌, ◌≡◌, List, [], ◌∷◌, length, take}
+use Rattle.std.specs.Prelude.{ℕ, zero, suc, ◌≤◌, ◌≡◌, List, [], ◌∷◌, length}
 use Rattle.mnemonic.specs.declared.Text.{Text}
 
 -- so many bytes: the text, and zeros after it
@@ -8,19 +8,8 @@ padded zero s = []
 padded (suc n) [] = 0 ∷ padded n []
 padded (suc n) (c ∷ s) = c ∷ padded n s
 
--- the text of padded bytes
-abbrev pub up_to : List ℕ → List ℕ
-up_to [] = []
-up_to (zero ∷ s) = []
-up_to (suc c ∷ s) = suc c ∷ up_to s
-
 -- a record of 16 bytes that holds a text
 pub record Holds (r : Text) (s : List ℕ) : Type 0 where
   pub bytes : r.bytes ≡ padded 16 s
   pub count : r.length ≡ length s
   pub fits : r.length ≤ 16
-
--- so many of the bytes are the text
-pub record Counted (line : List ℕ) (n : ℕ) : Type 0 where
-  pub text : take n line ≡ up_to line
-  pub fits : n ≤ 16

@@ -1,137 +1,127 @@
 // The text of an instruction, and an instruction at an address.
-ghost use Rattle.std.specs.Prelude.{◌≡◌};
+ghost use Rattle.std.specs.Prelude.{◌≡◌, ◌+◌, ◌*◌};
 ghost use Rattle.mnemonic.specs.Held.{Holds};
 ghost use Rattle.mnemonic.specs.Line.{text_of};
 ghost use Rattle.mnemonic.specs.Placing.{placed_at};
 
+use crate::Text;
 use crate::letters::{address, byte, digit, joined, nibble, plain, register};
-use crate::{Text, fronts};
 use isa::{Condition, Instruction, Page, Pointer, Port, ProgramAddress};
 
 // JAn: the bit's number is a digit of the first word.
+#[tactic(auto, unfolding(crate::specs::Line::line_of, crate::specs::Line::text_of))]
 fn bit_branch(n: u8, target: ProgramAddress) -> Text
     ensures { Holds result (text_of (Instruction.Branch target (Condition.Ja n))) }
 {
-    let d = digit(n as u16);
-    let front = [b'J', b'A', d, b' ', 0, 0, 0, 0, 0, 0, 0, 0, 0, 0, 0, 0];
-    address(front, target.0)
+    address(&[b'J', b'A', digit(n as u16), b' '], target.0)
 }
 
 // A conditional branch.
+#[tactic(auto, unfolding(crate::specs::Line::line_of, crate::specs::Line::text_of))]
 fn branch(condition: Condition, target: ProgramAddress) -> Text
     ensures { Holds result (text_of (Instruction.Branch target condition)) }
 {
     let at = target.0;
     match condition {
         Condition::Ja(n) => bit_branch(n, target),
-        Condition::JnzR0 => address(fronts::JNZ_R0, at),
-        Condition::JnzR1 => address(fronts::JNZ_R1, at),
-        Condition::JnzR4 => address(fronts::JNZ_R4, at),
-        Condition::Jz => address(fronts::JZ_A, at),
-        Condition::JnzA => address(fronts::JNZ_A, at),
-        Condition::Jc => address(fronts::JC, at),
-        Condition::Jnc => address(fronts::JNC, at),
-        Condition::Jtmr => address(fronts::JTMR, at),
+        Condition::JnzR0 => address(b"JNZ R0,", at),
+        Condition::JnzR1 => address(b"JNZ R1,", at),
+        Condition::JnzR4 => address(b"JNZ R4,", at),
+        Condition::Jz => address(b"JZ A,", at),
+        Condition::JnzA => address(b"JNZ A,", at),
+        Condition::Jc => address(b"JC ", at),
+        Condition::Jnc => address(b"JNC ", at),
+        Condition::Jtmr => address(b"JTMR ", at),
     }
 }
 
+// XX, by its nibbles.
+fn xx(low: u8, high: u8) -> u16
+    ensures { result ≡ 16 * high + low }
+{
+    16 * (high as u16) + low as u16
+}
+
 // The text of an instruction.
+#[tactic(auto, unfolding(crate::specs::Line::line_of, crate::specs::Line::text_of))]
 pub fn text_of(instruction: Instruction) -> Text
     ensures { Holds result (text_of instruction) }
 {
     match instruction {
-        Instruction::AddAM => plain(fronts::ADD_A_R1R0),
-        Instruction::AdcAM => plain(fronts::ADC_A_R1R0),
-        Instruction::SubAM => plain(fronts::SUB_A_R1R0),
-        Instruction::SbcAM => plain(fronts::SBC_A_R1R0),
-        Instruction::AddAX(d) => nibble(fronts::ADD_A, d),
-        Instruction::SubAX(d) => nibble(fronts::SUB_A, d),
-        Instruction::Daa => plain(fronts::DAA),
-        Instruction::AndAM => plain(fronts::AND_A_R1R0),
-        Instruction::OrAM => plain(fronts::OR_A_R1R0),
-        Instruction::XorAM => plain(fronts::XOR_A_R1R0),
-        Instruction::AndMA => plain(fronts::AND_R1R0_A),
-        Instruction::OrMA => plain(fronts::OR_R1R0_A),
-        Instruction::XorMA => plain(fronts::XOR_R1R0_A),
-        Instruction::AndAX(d) => nibble(fronts::AND_A, d),
-        Instruction::OrAX(d) => nibble(fronts::OR_A, d),
-        Instruction::XorAX(d) => nibble(fronts::XOR_A, d),
-        Instruction::IncA => plain(fronts::INC_A),
-        Instruction::IncR(n) => register(fronts::INC_R, n),
-        Instruction::IncM(p) => match p {
-            Pointer::R1R0 => plain(fronts::INC_R1R0),
-            Pointer::R3R2 => plain(fronts::INC_R3R2),
-        },
-        Instruction::DecA => plain(fronts::DEC_A),
-        Instruction::DecR(n) => register(fronts::DEC_R, n),
-        Instruction::DecM(p) => match p {
-            Pointer::R1R0 => plain(fronts::DEC_R1R0),
-            Pointer::R3R2 => plain(fronts::DEC_R3R2),
-        },
-        Instruction::MovAR(n) => register(fronts::MOV_A_R, n),
-        Instruction::MovRA(n) => joined(fronts::MOV_R, &[digit(n as u16), b',', b'A']),
-        Instruction::MovAM(p) => match p {
-            Pointer::R1R0 => plain(fronts::MOV_A_R1R0),
-            Pointer::R3R2 => plain(fronts::MOV_A_R3R2),
-        },
-        Instruction::MovMA(p) => match p {
-            Pointer::R1R0 => plain(fronts::MOV_R1R0_A),
-            Pointer::R3R2 => plain(fronts::MOV_R3R2_A),
-        },
-        Instruction::MovAX(d) => nibble(fronts::MOV_A, d),
-        Instruction::MovPairXX(p, low, high) => {
-            let xx = 16 * (high as u16) + low as u16;
-            match p {
-                Pointer::R1R0 => byte(fronts::MOV_R1R0, xx),
-                Pointer::R3R2 => byte(fronts::MOV_R3R2, xx),
-            }
-        }
-        Instruction::MovR4X(d) => nibble(fronts::MOV_R4, d),
-        Instruction::RlA => plain(fronts::RL_A),
-        Instruction::RlcA => plain(fronts::RLC_A),
-        Instruction::RrA => plain(fronts::RR_A),
-        Instruction::RrcA => plain(fronts::RRC_A),
-        Instruction::InA(p) => match p {
-            Port::Pm => plain(fronts::IN_A_PM),
-            Port::Ps => plain(fronts::IN_A_PS),
-            Port::Pp => plain(fronts::IN_A_PP),
-        },
-        Instruction::OutPaA => plain(fronts::OUT_PA_A),
-        Instruction::Jmp(t) => address(fronts::JMP, t.0),
+        Instruction::AddAM => plain(b"ADD A,[R1R0]"),
+        Instruction::AdcAM => plain(b"ADC A,[R1R0]"),
+        Instruction::SubAM => plain(b"SUB A,[R1R0]"),
+        Instruction::SbcAM => plain(b"SBC A,[R1R0]"),
+        Instruction::AddAX(d) => nibble(b"ADD A,", d),
+        Instruction::SubAX(d) => nibble(b"SUB A,", d),
+        Instruction::Daa => plain(b"DAA"),
+        Instruction::AndAM => plain(b"AND A,[R1R0]"),
+        Instruction::OrAM => plain(b"OR A,[R1R0]"),
+        Instruction::XorAM => plain(b"XOR A,[R1R0]"),
+        Instruction::AndMA => plain(b"AND [R1R0],A"),
+        Instruction::OrMA => plain(b"OR [R1R0],A"),
+        Instruction::XorMA => plain(b"XOR [R1R0],A"),
+        Instruction::AndAX(d) => nibble(b"AND A,", d),
+        Instruction::OrAX(d) => nibble(b"OR A,", d),
+        Instruction::XorAX(d) => nibble(b"XOR A,", d),
+        Instruction::IncA => plain(b"INC A"),
+        Instruction::IncR(n) => register(b"INC R", n),
+        Instruction::IncM(Pointer::R1R0) => plain(b"INC [R1R0]"),
+        Instruction::IncM(Pointer::R3R2) => plain(b"INC [R3R2]"),
+        Instruction::DecA => plain(b"DEC A"),
+        Instruction::DecR(n) => register(b"DEC R", n),
+        Instruction::DecM(Pointer::R1R0) => plain(b"DEC [R1R0]"),
+        Instruction::DecM(Pointer::R3R2) => plain(b"DEC [R3R2]"),
+        Instruction::MovAR(n) => register(b"MOV A,R", n),
+        Instruction::MovRA(n) => joined(b"MOV R", &[digit(n as u16), b',', b'A']),
+        Instruction::MovAM(Pointer::R1R0) => plain(b"MOV A,[R1R0]"),
+        Instruction::MovAM(Pointer::R3R2) => plain(b"MOV A,[R3R2]"),
+        Instruction::MovMA(Pointer::R1R0) => plain(b"MOV [R1R0],A"),
+        Instruction::MovMA(Pointer::R3R2) => plain(b"MOV [R3R2],A"),
+        Instruction::MovAX(d) => nibble(b"MOV A,", d),
+        Instruction::MovPairXX(Pointer::R1R0, low, high) => byte(b"MOV R1R0,", xx(low, high)),
+        Instruction::MovPairXX(Pointer::R3R2, low, high) => byte(b"MOV R3R2,", xx(low, high)),
+        Instruction::MovR4X(d) => nibble(b"MOV R4,", d),
+        Instruction::RlA => plain(b"RL A"),
+        Instruction::RlcA => plain(b"RLC A"),
+        Instruction::RrA => plain(b"RR A"),
+        Instruction::RrcA => plain(b"RRC A"),
+        Instruction::InA(Port::Pm) => plain(b"IN A,PM"),
+        Instruction::InA(Port::Ps) => plain(b"IN A,PS"),
+        Instruction::InA(Port::Pp) => plain(b"IN A,PP"),
+        Instruction::OutPaA => plain(b"OUT PA,A"),
+        Instruction::Jmp(t) => address(b"JMP ", t.0),
         Instruction::Branch(t, k) => branch(k, t),
-        Instruction::Call(t) => address(fronts::CALL, t.0),
-        Instruction::Ret => plain(fronts::RET),
-        Instruction::Reti => plain(fronts::RETI),
-        Instruction::Clc => plain(fronts::CLC),
-        Instruction::Stc => plain(fronts::STC),
-        Instruction::Ei => plain(fronts::EI),
-        Instruction::Di => plain(fronts::DI),
-        Instruction::Nop => plain(fronts::NOP),
-        Instruction::TimerXX(x) => byte(fronts::TIMER, x as u16),
-        Instruction::TimerOn => plain(fronts::TIMER_ON),
-        Instruction::TimerOff => plain(fronts::TIMER_OFF),
-        Instruction::MovATmrl => plain(fronts::MOV_A_TMRL),
-        Instruction::MovATmrh => plain(fronts::MOV_A_TMRH),
-        Instruction::MovTmrlA => plain(fronts::MOV_TMRL_A),
-        Instruction::MovTmrhA => plain(fronts::MOV_TMRH_A),
-        Instruction::ReadR4A(p) => match p {
-            Page::Current => plain(fronts::READ_R4A),
-            Page::F => plain(fronts::READF_R4A),
-        },
-        Instruction::ReadMr0A(p) => match p {
-            Page::Current => plain(fronts::READ_MR0A),
-            Page::F => plain(fronts::READF_MR0A),
-        },
-        Instruction::SoundN(d) => nibble(fronts::SOUND, d),
-        Instruction::SoundA => plain(fronts::SOUND_A),
-        Instruction::SoundOne => plain(fronts::SOUND_ONE),
-        Instruction::SoundLoop => plain(fronts::SOUND_LOOP),
-        Instruction::SoundOff => plain(fronts::SOUND_OFF),
-        Instruction::Halt => plain(fronts::HALT),
+        Instruction::Call(t) => address(b"CALL ", t.0),
+        Instruction::Ret => plain(b"RET"),
+        Instruction::Reti => plain(b"RETI"),
+        Instruction::Clc => plain(b"CLC"),
+        Instruction::Stc => plain(b"STC"),
+        Instruction::Ei => plain(b"EI"),
+        Instruction::Di => plain(b"DI"),
+        Instruction::Nop => plain(b"NOP"),
+        Instruction::TimerXX(x) => byte(b"TIMER ", x as u16),
+        Instruction::TimerOn => plain(b"TIMER ON"),
+        Instruction::TimerOff => plain(b"TIMER OFF"),
+        Instruction::MovATmrl => plain(b"MOV A,TMRL"),
+        Instruction::MovATmrh => plain(b"MOV A,TMRH"),
+        Instruction::MovTmrlA => plain(b"MOV TMRL,A"),
+        Instruction::MovTmrhA => plain(b"MOV TMRH,A"),
+        Instruction::ReadR4A(Page::Current) => plain(b"READ R4A"),
+        Instruction::ReadR4A(Page::F) => plain(b"READF R4A"),
+        Instruction::ReadMr0A(Page::Current) => plain(b"READ MR0A"),
+        Instruction::ReadMr0A(Page::F) => plain(b"READF MR0A"),
+        Instruction::SoundN(d) => nibble(b"SOUND ", d),
+        Instruction::SoundA => plain(b"SOUND A"),
+        Instruction::SoundOne => plain(b"SOUND ONE"),
+        Instruction::SoundLoop => plain(b"SOUND LOOP"),
+        Instruction::SoundOff => plain(b"SOUND OFF"),
+        Instruction::Halt => plain(b"HALT"),
     }
 }
 
 // The instruction as a listing shows it where the moved address is this: a conditional branch has its whole target.
+#[tactic(auto, unfolding(crate::specs::Placing::placed_at, isa::specs::Views::view))]
 pub fn placed(instruction: Instruction, moved: u16) -> Instruction
     ensures { result ≡ placed_at moved instruction }
 {

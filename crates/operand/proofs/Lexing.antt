@@ -1,33 +1,23 @@
 -- The next token of a line: where the spaces end, what stands there, and that it is the first of the line's tokens. Assumes nothing.
-use Prim.Native.Nat.{ℕ, suc, ◌+◌, ◌<◌, ◌≤◌}
+use Prim.Native.Nat.{ℕ, ◌+◌, ◌<◌, ◌≤◌}
 use Prim.Native.Char.{code}
 use mathlib.Core.Path.{◌≡◌, refl, sym, ap, subst, ◌∙◌}
 use mathlib.Core.Bool.{true, false}
 use mathlib.Core.List.{List, [], ◌∷◌}
-use native.Mathlib.Nat.{add-suc, add-zero, suc-add}
 use native.Mathlib.Numerals.{add-one}
 use native.Mathlib.Omega.{arith}
 use borrow.Author.Tests.{eqb-false, eqb-true, ltb-false, ltb-true, ne_eqb}
 use lib.Dec.{eqb, ltb}
-use lib.ListN.{get_or, length, drop, drop_of_length-le, length-drop, get_or-eq_default}
-use lib.Seq.{drop-cons, drop-drop, get_or-drop}
+use lib.ListN.{get_or, length, drop, length-drop, get_or-eq_default}
+use lib.Seq.{drop-drop, get_or-drop}
 use Rattle.operand.specs.Text.{LF, in_word, tokens}
-use Rattle.operand.specs.Read.{Lexed, ended, lexeme_at, lexeme_from, past_spaces, sign, sign_kind, spaces, tokens_at, up_to_lf, word, word_at, word_kind}
+use Rattle.operand.specs.Read.{Lexed, ended, lexeme_at, lexeme_from, past_spaces, sign, spaces, tokens_at, up_to_lf, word, word_at, word_kind}
+use Rattle.operand.specs.declared.tokens.Kind.{Kind}
+use Rattle.operand.specs.declared.tokens.Kind.TheVariants.{End, Sign}
 use Rattle.operand.specs.declared.tokens.Lexeme.{Lexeme}
 use Rattle.operand.proofs.Texts.{at-end, at-lf, at_sign, at-word, case, get_d-in, word_on, word-within}
 
 -- ---- past the spaces
-module _ (text : List ℕ) (at : ℕ) where
-  pub space-past : length text ≤ at → past_spaces text at ≡ at
-  space-past h = rw (drop_of_length-le text h) (add-zero at)
-
-  module _ (within : at < length text) where
-    pub space-on : get_or text at 0 ≡ code " " → past_spaces text at ≡ past_spaces text (suc at)
-    space-on e = rw (drop-cons text at 0 within, e) (add-suc at (spaces (drop (suc at) text)) ∙ sym (suc-add at (spaces (drop (suc at) text))))
-
-    pub no-space : eqb (get_or text at 0) (code " ") ≡ false → past_spaces text at ≡ at
-    no-space e = rw (drop-cons text at 0 within, e) (add-zero at)
-
 spaces-short : (s : List ℕ) → spaces s ≤ length s
 spaces-short [] = omega arith
 spaces-short (c ∷ s) = case (eqb c 32) (λ e. rw e (omega (arith, spaces-short s))) (λ e. rw e (omega arith))
@@ -60,25 +50,24 @@ skipped text at h =
 
 -- ---- what stands there
 module _ (text : List ℕ) (at : ℕ) where
-  pub ends-past : length text ≤ at → record { kind = 1; start = at; next = at } ≡ lexeme_from text at
+  pub ends-past : length text ≤ at → record { kind = End; start = at; next = at } ≡ lexeme_from text at
   ends-past h = rw (get_or-eq_default text LF h) refl
 
   module _ (within : at < length text) where
-    pub ends-lf : get_or text at 0 ≡ LF → record { kind = 1; start = at; next = at } ≡ lexeme_from text at
+    pub ends-lf : get_or text at 0 ≡ LF → record { kind = End; start = at; next = at } ≡ lexeme_from text at
     ends-lf e = rw (get_d-in text at within, e) refl
 
     module _ (here : get_or text at 0 ≡ LF → ⊥) where
-      pub word-from : (kind next : ℕ) → in_word (get_or text at 0) ≡ true → kind ≡ word_kind (word_at text at) → next ≡ at + length (word_at text at)
+      pub word-from : (kind : Kind) (next : ℕ) → in_word (get_or text at 0) ≡ true → kind ≡ word_kind (word_at text at) → next ≡ at + length (word_at text at)
           → record { kind = kind; start = at; next = next } ≡ lexeme_from text at
       word-from kind next i k n = rw (get_d-in text at within, ne_eqb (get_or text at 0) LF here, i, k, n) refl
 
-      pub sign-from : (kind : ℕ) → in_word (get_or text at 0) ≡ false → kind ≡ sign_kind (get_or text at 0)
-          → record { kind = kind; start = at; next = at + 1 } ≡ lexeme_from text at
-      sign-from kind i k = rw (get_d-in text at within, ne_eqb (get_or text at 0) LF here, i, k) refl
+      pub sign-from : in_word (get_or text at 0) ≡ false → record { kind = Sign (get_or text at 0); start = at; next = at + 1 } ≡ lexeme_from text at
+      sign-from i = rw (get_d-in text at within, ne_eqb (get_or text at 0) LF here, i) refl
 
 -- ---- it is the first of the line's tokens
 module _ (text : List ℕ) (at from : ℕ) (k : Skipped text from at) where
-  ended-there : tokens_at text at ≡ [] → get_or text at LF ≡ LF → Lexed text from (record { kind = 1; start = at; next = at })
+  ended-there : tokens_at text at ≡ [] → get_or text at LF ≡ LF → Lexed text from (record { kind = End; start = at; next = at })
   ended-there e g = record {
     from = k.from;
     starts = omega arith;
@@ -101,7 +90,7 @@ module _ (text : List ℕ) (at from : ℕ) (k : Skipped text from at) where
         }
 
     sign-there : in_word (get_or text at 0) ≡ false
-        → Lexed text from (record { kind = sign_kind (get_or text at 0); start = at; next = at + 1 })
+        → Lexed text from (record { kind = Sign (get_or text at 0); start = at; next = at + 1 })
     sign-there i = record {
       from = k.from;
       starts = omega arith;

@@ -1,6 +1,7 @@
 pub mod Digits
 pub mod Lexing
 pub mod Places
+pub mod Scans
 pub mod Terms
 pub mod Texts
 pub mod TokenKinds

@@ -3,21 +3,21 @@ use Prim.Native.Nat.{ℕ, ◌+◌, ◌<◌, ◌≤◌}
 use mathlib.Core.Path.{◌≡◌, refl, sym, ap, ◌∙◌}
 use mathlib.Core.Bool.{Bool, true, false, ◌||◌}
 use mathlib.Core.List.{List, [], ◌∷◌, ◌++◌}
-use mathlib.Core.Option.{Option, none, some}
+use mathlib.Core.Option.{none, some}
+use mathlib.Core.Option as Math
 use native.Mathlib.Nat.{add_assoc, add-zero, zero-add}
 use native.Mathlib.Omega.{arith}
-use borrow.Author.Tests.{leb-true}
-use lib.Dec.{eqb, leb}
 use lib.ListN.{get_or}
+use Rattle.std.specs.Prelude.{IfSome, Some, None}
 use Rattle.isa.specs.Choice.{pick}
-use Rattle.operand.specs.Text.{is_digit}
-use Rattle.operand.specs.Words.{among, at_most, first, front, in_base, last, number_of, place}
-use Rattle.operand.specs.Operand.{Part, Term, before, is_missing, label, minus, missing, plus, value_of}
-use Rattle.operand.specs.Read.{Counts, Single, befores, counted}
-use Rattle.operand.specs.declared.operands.Sum.{Sum}
+use Rattle.operand.specs.Words.{among, number_of, place}
+use Rattle.operand.specs.Operand.{Part, Term, before, is_missing, label, minus, missing, number, plus, value_of}
+use Rattle.operand.specs.Read.{Counts, address_in, befores, given, single_of}
+use Rattle.operand.specs.declared.operands.Value.{Value}
+use Rattle.operand.proofs.Scans.{none-some, some-is}
 use Rattle.operand.proofs.Texts.{case}
 
-pub befores-append : (a b : List Term) (o : Option (List Term)) → befores (a ++ b) o ≡ befores a (befores b o)
+pub befores-append : (a b : List Term) (o : Math.Option (List Term)) → befores (a ++ b) o ≡ befores a (befores b o)
 befores-append [] b o = refl
 befores-append (t ∷ a) b o = ap (before t) (befores-append a b o)
 
@@ -44,48 +44,51 @@ missing-append names (t ∷ a) b = rw (missing-append names a b) (sym (or_assoc 
     or_assoc true y z = refl
     or_assoc false y z = refl
 
-or-false : (b : Bool) → (b || false) ≡ b
-or-false true = refl
-or-false false = refl
-
 -- a number or a label by itself
-pub single-counts : (names : List (List ℕ)) (addresses : List ℕ) (at next : ℕ) (taken : Bool) (p : Part) (r : Sum) → value_of names addresses p ≤ 65535
-    → at < next
-    → Single (value_of names addresses p) (is_missing names p) taken next r → Counts names addresses at (record { taken = taken; part = p } ∷ []) r
-single-counts names addresses at next true p r v h s = record {
-  added = s.plus;
-  taken = s.minus ∙ sym (add-zero (value_of names addresses p));
-  missed = s.missing ∙ sym (or-false (is_missing names p));
-  low = omega (arith, s.plus, s.next);
-  less = omega (arith, s.minus, s.next);
-}
-single-counts names addresses at next false p r v h s = record {
-  added = s.plus ∙ sym (add-zero (value_of names addresses p));
-  taken = s.minus;
-  missed = s.missing ∙ sym (or-false (is_missing names p));
-  low = omega (arith, s.plus, s.next);
-  less = omega (arith, s.minus, s.next);
-}
+module _ (names : List (List ℕ)) (addresses : List ℕ) (at next : ℕ) (on : at < next) where
+  abbrev Alone : Bool → Part → Value → Type 0
+  Alone taken p v = Counts names addresses at (record { taken = taken; part = p } ∷ []) (record { value = v; next = next })
 
--- an address is a number of two bytes
-pub label_small : (names : List (List ℕ)) (addresses w : List ℕ) → ((k : ℕ) → get_or addresses k 0 < 65536) → value_of names addresses (label w) ≤ 65535
-label_small names addresses w h = case (among names w) (λ e. rw e (omega (arith, h (place names w)))) (λ e. rw e (omega arith))
+  pub number-counts : (taken : Bool) (n : ℕ) → n ≤ 65535 → Alone taken (number n) (single_of (Some n) taken)
+  number-counts true n h = record { added = refl; taken = sym (add-zero n); missed = refl; low = omega arith; less = omega arith }
+  number-counts false n h = record { added = sym (add-zero n); taken = refl; missed = refl; low = omega arith; less = omega arith }
 
--- a number that is counted is at most 65,535, else there is none
-most-none : (o : Option ℕ) → 65535 < counted (at_most 65535 o) → at_most 65535 o ≡ none
-most-none none h = refl
-most-none (some v) h = case (leb v 65535) (λ e. absurd (omega (arith, leb-true v 65535 e, rw e at (rw e at h)))) (λ e. rw e refl)
+  -- an address is a number of two bytes
+  pub label-counts : (taken : Bool) (w : List ℕ) → IfSome (address_in names addresses w) (λ (n : ℕ). n < 65536)
+      → Alone taken (label w) (single_of (address_in names addresses w) taken)
+  label-counts taken w small = case (among names w) (λ e. rw e (present e (rw e at small) taken)) (λ e. rw e (lacking e taken))
+    where
+      present : among names w ≡ true → get_or addresses (place names w) 0 < 65536 → (taken : Bool) → Alone taken (label w) (single_of (Some (get_or addresses (place names w) 0)) taken)
+      present e s true = record {
+        added = refl;
+        taken = rw e (sym (add-zero (get_or addresses (place names w) 0)));
+        missed = rw e refl;
+        low = omega arith;
+        less = omega (arith, s);
+      }
+      present e s false = record {
+        added = rw e (sym (add-zero (get_or addresses (place names w) 0)));
+        taken = refl;
+        missed = rw e refl;
+        low = omega (arith, s);
+        less = omega arith;
+      }
 
-most-some : (o : Option ℕ) → counted (at_most 65535 o) ≤ 65535 → at_most 65535 o ≡ some (counted (at_most 65535 o))
-most-some none h = absurd (omega arith)
-most-some (some v) h = case (leb v 65535) (λ e. rw e (rw e refl)) (λ e. absurd (omega (arith, rw e at h)))
+      lacking : among names w ≡ false → (taken : Bool) → Alone taken (label w) (single_of None taken)
+      lacking e true = record { added = refl; taken = rw e refl; missed = rw e refl; low = omega arith; less = omega arith }
+      lacking e false = record { added = rw e refl; taken = refl; missed = rw e refl; low = omega arith; less = omega arith }
 
-pub no_number : (w : List ℕ) → 65535 < counted (number_of w) → number_of w ≡ none
-unfolding number_of
-no_number w h = case (is_digit (first w))
-    (λ d. rw d (most-none (pick (eqb (last w) 72) (in_base 16 0 (front w)) (in_base 10 0 w)) (rw d at h))) (λ d. rw d refl)
+-- a number that is read is at most 65,535
+pub number-read : (w : List ℕ) (n : ℕ) → Some n ≡ given (number_of w) → (number_of w ≡ some n)
+number-read w n e = case_of (number_of w) refl
+  where
+    case_of : (o : Math.Option ℕ) → number_of w ≡ o → number_of w ≡ some n
+    case_of none q = absurd (none-some (sym (e ∙ ap given q)))
+    case_of (some v) q = q ∙ ap some (some-is (sym (e ∙ ap given q)))
 
-pub some_number : (w : List ℕ) → counted (number_of w) ≤ 65535 → number_of w ≡ some (counted (number_of w))
-unfolding number_of
-some_number w h = case (is_digit (first w))
-    (λ d. rw d (most-some (pick (eqb (last w) 72) (in_base 16 0 (front w)) (in_base 10 0 w)) (rw d at h))) (λ d. absurd (omega (arith, rw d at h)))
+pub no_number : (w : List ℕ) → None ≡ given (number_of w) → number_of w ≡ none
+no_number w e = case_of (number_of w) refl
+  where
+    case_of : (o : Math.Option ℕ) → number_of w ≡ o → number_of w ≡ none
+    case_of none q = q
+    case_of (some v) q = absurd (none-some (e ∙ ap given q))

@@ -134,7 +134,7 @@ module _ (text : List ℕ) where
       → same (word_at text i) (word_at text k) ≡ same (word_at text (suc i)) (word_at text (suc k))
   same-on i k e d = rw (word_on text i e, word_on text k (sym (ap in_word d) ∙ e), eq-eqb (get_or text i 0) (get_or text k 0) d) refl
 
-run_take : (s : List ℕ) → take (length (run s)) s ≡ run s
+pub run_take : (s : List ℕ) → take (length (run s)) s ≡ run s
 run_take [] = refl
 run_take (c ∷ s) = case (in_word c) (λ e. rw e (ap (λ (t : List ℕ). c ∷ t) (run_take s))) (λ e. rw e refl)
 

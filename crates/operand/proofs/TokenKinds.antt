@@ -1,136 +1,145 @@
 -- A token by its kind: which token stands where a reader answers one, and what an operand makes of it. Assumes nothing.
-use Prim.Native.Nat.{ℕ, ◌+◌, ◌<◌}
+use Prim.Native.Nat.{ℕ}
 use mathlib.Core.Path.{◌≡◌, refl, sym, ap, ◌∙◌}
-use mathlib.Core.Bool.{Bool, true, false, ◌&&◌, ◌||◌}
+use mathlib.Core.Bool.{Bool, true, false, not}
 use mathlib.Core.List.{List, [], ◌∷◌}
 use mathlib.Core.Option.{none}
 use native.Mathlib.Omega.{arith}
-use borrow.Author.Tests.{eqb-false, lt-ltb, ltb-true, ne_eqb}
-use lib.Dec.{eqb, ltb}
-use lib.ListN.{get_or, length}
+use borrow.Author.Tests.{eqb-true, ne_eqb}
+use lib.Dec.{eqb}
+use lib.ListN.{get_or}
+use Rattle.std.specs.Prelude.{Some, None}
 use Rattle.mnemonic.specs.Spelling.{Token, letters, mark}
 use Rattle.operand.specs.Text.{LF, in_word, is_digit, is_letter}
 use Rattle.operand.specs.Words.{first, fixed_words, is_fixed, is_label, number_of, place}
 use Rattle.operand.specs.Operand.{as_number, followed, part_of, wanted}
-use Rattle.operand.specs.Read.{Next, Stops, ended, sign, sign_kind, tokens_at, word, word_at, word_kind}
+use Rattle.operand.specs.Read.{Next, Stops, ended, going_on, sign, tokens_at, word, word_at, word_kind}
+use Rattle.operand.specs.declared.tokens.Kind.{Kind}
+use Rattle.operand.specs.declared.tokens.Kind.TheVariants.{End, Fixed, Label, Number, Sign}
 use Rattle.operand.specs.declared.tokens.Lexeme.{Lexeme}
-use Rattle.operand.proofs.Texts.{both, case, differ, neither, not-letter, word_on}
+use Rattle.operand.proofs.Scans.{none-some, some-of}
+use Rattle.operand.proofs.Texts.{case, differ, not-letter, word_on}
 
--- a sign that is printed is told by its kind
-pub sign-is : (c k : ℕ) → 3 < k → sign_kind c ≡ k → c ≡ k
-unfolding sign_kind
-sign-is c k h e = case (ltb 32 c && ltb c 128) (λ f. rw f at e) (λ f. absurd (let z : 0 ≡ k = rw f at e in omega arith))
+-- kinds that differ in this are apart
+abbrev tag : Kind → ℕ
+tag End = 0
+tag Label = 1
+tag Number = 2
+tag (Fixed k) = 3
+tag (Sign c) = 4
 
-pub sign-not : (c k : ℕ) → 32 < k → k < 128 → (sign_kind c ≡ k → ⊥) → eqb c k ≡ false
-unfolding sign_kind
-sign-not c k l u f = ne_eqb c k (λ e. f (ap sign_kind e ∙ rw (lt-ltb 32 k l, lt-ltb k 128 u) refl))
+pub apart : {a b : Kind} → (tag a ≡ tag b → ⊥) → a ≡ b → ⊥
+apart f e = f (ap tag e)
 
-no_sign : (c k : ℕ) → k < 4 → 0 < k → sign_kind c ≡ k → ⊥
-unfolding sign_kind
-no_sign c k l u e = case
-    (ltb 32 c && ltb c 128) (λ f. let o = ltb-true 32 c (both (ltb 32 c) (ltb c 128) f).0 in let z : c ≡ k = rw f at e in omega arith)
-    (λ f. let z : 0 ≡ k = rw f at e in omega arith)
+abbrev character : Kind → ℕ
+character End = 0
+character Label = 0
+character Number = 0
+character (Fixed k) = 0
+character (Sign c) = c
 
--- a word's kind is 2, 3, or 128 and more
+-- the kinds of words
 module _ (w : List ℕ) where
-  digit-kind : is_digit (first w) ≡ true → word_kind w ≡ 3
+  word-case : {A : Type 0} → (is_digit (first w) ≡ true → word_kind w ≡ Number → A)
+      → (is_digit (first w) ≡ false → is_fixed w ≡ true → word_kind w ≡ Fixed (place fixed_words w) → A)
+      → (is_digit (first w) ≡ false → is_fixed w ≡ false → word_kind w ≡ Label → A) → A
   unfolding word_kind
-  digit-kind e = rw e refl
+  word-case f g h = case (is_digit (first w)) (λ e. f e (rw e refl))
+      (λ e. case (is_fixed w) (λ q. g e q (rw (e, q) refl)) (λ q. h e q (rw (e, q) refl)))
 
-  fixed-kind : is_digit (first w) ≡ false → is_fixed w ≡ true → word_kind w ≡ 128 + place fixed_words w
-  unfolding word_kind
-  fixed-kind e f = rw (e, f) refl
+  no-sign-kind : (c : ℕ) → word_kind w ≡ Sign c → ⊥
+  no-sign-kind c q = word-case (λ e k. apart (λ z. omega arith) (sym k ∙ q)) (λ e f k. apart (λ z. omega arith) (sym k ∙ q))
+      (λ e f k. apart (λ z. omega arith) (sym k ∙ q))
 
-  label-kind : is_digit (first w) ≡ false → is_fixed w ≡ false → word_kind w ≡ 2
-  unfolding word_kind
-  label-kind e f = rw (e, f) refl
+  no-end-kind : word_kind w ≡ End → ⊥
+  no-end-kind q = word-case (λ e k. apart (λ z. omega arith) (sym k ∙ q)) (λ e f k. apart (λ z. omega arith) (sym k ∙ q))
+      (λ e f k. apart (λ z. omega arith) (sym k ∙ q))
 
-  pub no-sign-kind : (k : ℕ) → 3 < k → k < 128 → word_kind w ≡ k → ⊥
-  no-sign-kind k l u q = case (is_digit (first w)) (λ e. omega (arith, digit-kind e))
-      (λ e. case (is_fixed w) (λ f. omega (arith, fixed-kind e f)) (λ f. omega (arith, label-kind e f)))
+  number_is : word_kind w ≡ Number → is_digit (first w) ≡ true
+  number_is q = word-case (λ e k. e) (λ e f k. absurd (apart (λ z. omega arith) (sym k ∙ q)))
+      (λ e f k. absurd (apart (λ z. omega arith) (sym k ∙ q)))
 
-  pub no-end-kind : word_kind w ≡ 1 → ⊥
-  no-end-kind q = case (is_digit (first w)) (λ e. omega (arith, digit-kind e))
-      (λ e. case (is_fixed w) (λ f. omega (arith, fixed-kind e f)) (λ f. omega (arith, label-kind e f)))
-
-  pub number_is : word_kind w ≡ 3 → is_digit (first w) ≡ true
-  number_is q = case (is_digit (first w)) (λ e. e)
-      (λ e. case (is_fixed w) (λ f. absurd (omega (arith, fixed-kind e f))) (λ f. absurd (omega (arith, label-kind e f))))
-
-  pub label_is : in_word (first w) ≡ true → word_kind w ≡ 2 → is_label w ≡ true
+  label_is : in_word (first w) ≡ true → word_kind w ≡ Label → is_label w ≡ true
   unfolding is_label in_word
-  label_is i q = case (is_digit (first w)) (λ e. absurd (omega (arith, digit-kind e)))
-      (λ e. case (is_fixed w) (λ f. absurd (omega (arith, fixed-kind e f)))
-      (λ f. case (is_letter (first w)) (λ l. rw (l, f) refl) (λ l. absurd (differ (sym (rw (l, e) refl) ∙ i)))))
+  label_is i q = word-case (λ e k. absurd (apart (λ z. omega arith) (sym k ∙ q))) (λ e f k. absurd (apart (λ z. omega arith) (sym k ∙ q)))
+      (λ e f k. case (is_letter (first w)) (λ l. rw (l, f) refl) (λ l. absurd (differ (sym (rw (l, e) refl) ∙ i))))
 
   -- a word that starts with a digit is no label
-  pub digit-no-label : is_digit (first w) ≡ true → part_of w ≡ as_number (number_of w)
+  digit-no-label : is_digit (first w) ≡ true → part_of w ≡ as_number (number_of w)
   unfolding part_of is_label
   digit-no-label e = rw (not-letter (first w) e) refl
 
-  pub fixed-no-part : (word_kind w ≡ 2 → ⊥) → (word_kind w ≡ 3 → ⊥) → part_of w ≡ none
+  fixed-no-part : (word_kind w ≡ Label → ⊥) → (word_kind w ≡ Number → ⊥) → part_of w ≡ none
   unfolding part_of is_label number_of
-  fixed-no-part a b = case (is_digit (first w)) (λ e. absurd (b (digit-kind e)))
-      (λ e. case (is_fixed w) (λ f. case (is_letter (first w)) (λ l. rw (l, f, e) refl) (λ l. rw (l, e) refl))
-      (λ f. absurd (a (label-kind e f))))
+  fixed-no-part a b = word-case (λ e k. absurd (b k))
+      (λ e f k. case (is_letter (first w)) (λ l. rw (l, f, e) refl) (λ l. rw (l, e) refl)) (λ e f k. absurd (a k))
+
+pub sign-is : {c k : ℕ} → Sign c ≡ Sign k → c ≡ k
+sign-is e = ap character e
+
+-- what goes on with a sum is one of two signs
+pub going : (kind : Kind) (all taken : Bool) {A : Type 0} → going_on kind all ≡ Some taken → (kind ≡ Sign 43 → taken ≡ all → A)
+    → (kind ≡ Sign 45 → taken ≡ not all → A) → A
+going End all taken e f g = absurd (none-some e)
+going Label all taken e f g = absurd (none-some e)
+going Number all taken e f g = absurd (none-some e)
+going (Fixed k) all taken e f g = absurd (none-some e)
+going (Sign c) all taken e f g = case (eqb c 43)
+    (λ a. f (ap Sign (eqb-true c 43 a)) (sym (some-of all (rw a at e))))
+    (λ a. case (eqb c 45) (λ b. g (ap Sign (eqb-true c 45 b)) (sym (some-of all (rw (a, b) at e))))
+    (λ b. absurd (none-some (rw (a, b) at e))))
 
 module _ {text : List ℕ} {ts : List Token} {r : Lexeme} where
-  -- a sign that means something is told by its kind
-  pub as-sign : Next text ts r → (k : ℕ) → 3 < k → k < 128 → r.kind ≡ k → ts ≡ mark k ∷ tokens_at text r.next
-  as-sign (ended e q g) k l u h = absurd (omega arith)
-  as-sign (word e q n i w) k l u h = absurd (no-sign-kind (word_at text r.start) k l u (sym q ∙ h))
-  as-sign (sign c e q) k l u h = e ∙ ap (λ (d : ℕ). mark d ∷ tokens_at text r.next) (sign-is c k l (sym q ∙ h))
+  pub as-sign : Next text ts r → (k : ℕ) → r.kind ≡ Sign k → ts ≡ mark k ∷ tokens_at text r.next
+  as-sign (ended e q g) k h = absurd (apart (λ z. omega arith) (sym q ∙ h))
+  as-sign (word e q n i w) k h = absurd (no-sign-kind (word_at text r.start) k (sym q ∙ h))
+  as-sign (sign c e q) k h = e ∙ ap (λ (d : ℕ). mark d ∷ tokens_at text r.next) (sign-is (sym q ∙ h))
 
-  pub as-end : Next text ts r → r.kind ≡ 1 → (ts ≡ []) × (get_or text r.next LF ≡ LF)
+  pub as-end : Next text ts r → r.kind ≡ End → (ts ≡ []) × (get_or text r.next LF ≡ LF)
   as-end (ended e q g) h = (e, g)
   as-end (word e q n i w) h = absurd (no-end-kind (word_at text r.start) (sym q ∙ h))
-  as-end (sign c e q) h = absurd (no_sign c 1 (omega arith) (omega arith) (sym q ∙ h))
+  as-end (sign c e q) h = absurd (apart (λ z. omega arith) (sym q ∙ h))
 
   -- a label, a number, or nothing that an operand can have here
-  pub as-label : Next text ts r → r.kind ≡ 2 → (ts ≡ letters (word_at text r.start) ∷ tokens_at text r.next) ×
+  pub as-label : Next text ts r → r.kind ≡ Label → (ts ≡ letters (word_at text r.start) ∷ tokens_at text r.next) ×
       (is_label (word_at text r.start) ≡ true)
-  as-label (ended e q g) h = absurd (omega arith)
+  as-label (ended e q g) h = absurd (apart (λ z. omega arith) (sym q ∙ h))
   as-label (word e q n i w) h = (e, label_is (word_at text r.start) (rw (word_on text r.start w) w) (sym q ∙ h))
-  as-label (sign c e q) h = absurd (no_sign c 2 (omega arith) (omega arith) (sym q ∙ h))
+  as-label (sign c e q) h = absurd (apart (λ z. omega arith) (sym q ∙ h))
 
-  pub as-number : Next text ts r → r.kind ≡ 3 → (ts ≡ letters (word_at text r.start) ∷ tokens_at text r.next)
-      × (part_of (word_at text r.start) ≡ as_number (number_of (word_at text r.start))) × (is_digit (get_or text r.start 0) ≡ true)
-      × (r.next ≡ r.start + length (word_at text r.start)) × (r.start < length text)
-  as-number (ended e q g) h = absurd (omega arith)
+  pub as-number : Next text ts r → r.kind ≡ Number → (ts ≡ letters (word_at text r.start) ∷ tokens_at text r.next)
+      × (part_of (word_at text r.start) ≡ as_number (number_of (word_at text r.start))) × (is_digit (first (word_at text r.start)) ≡ true)
+  as-number (ended e q g) h = absurd (apart (λ z. omega arith) (sym q ∙ h))
   as-number (word e q n i w) h =
-      let d = number_is (word_at text r.start) (sym q ∙ h) in
-      (e, digit-no-label (word_at text r.start) d, rw (word_on text r.start w) at d, n, i)
-  as-number (sign c e q) h = absurd (no_sign c 3 (omega arith) (omega arith) (sym q ∙ h))
+      let d = number_is (word_at text r.start) (sym q ∙ h) in (e, digit-no-label (word_at text r.start) d, d)
+  as-number (sign c e q) h = absurd (apart (λ z. omega arith) (sym q ∙ h))
 
-  pub as_none : Next text ts r → (r.kind ≡ 2 → ⊥) → (r.kind ≡ 3 → ⊥) → eqb r.kind 40 ≡ false
+  pub as_none : Next text ts r → (r.kind ≡ Label → ⊥) → (r.kind ≡ Number → ⊥) → (r.kind ≡ Sign 40 → ⊥)
       → (minus here : Bool) (outer : List Bool) → wanted ts minus here outer ≡ none
   as_none (ended e q g) a b p minus here outer = rw e refl
   as_none (word e q n i w) a b p minus here outer =
       rw (e, fixed-no-part (word_at text r.start) (λ x. a (q ∙ x)) (λ x. b (q ∙ x))) refl
-  as_none (sign c e q) a b p minus here outer =
-      rw (e, sign-not c 40 (omega arith) (omega arith) (λ x. eqb-false r.kind 40 p (q ∙ x))) refl
+  as_none (sign c e q) a b p minus here outer = rw (e, ne_eqb c 40 (λ x. p (q ∙ ap Sign x))) refl
 
   -- no sum goes on where the kind is neither + nor -
-  pub as-stop : Next text ts r → (eqb r.kind 43 || eqb r.kind 45) ≡ false → Stops ts
-  as-stop (ended e q g) h = rw e tt
-  as-stop (word e q n i w) h = rw e tt
-  as-stop (sign c e q) h =
-      let f = neither (eqb r.kind 43) (eqb r.kind 45) h in
-      rw e (
-        sign-not c 43 (omega arith) (omega arith) (λ x. eqb-false r.kind 43 f.0 (q ∙ x)),
-        sign-not c 45 (omega arith) (omega arith) (λ x. eqb-false r.kind 45 f.1 (q ∙ x)),
-      )
+  pub as-stop : Next text ts r → (all : Bool) → going_on r.kind all ≡ None → Stops ts
+  as-stop (ended e q g) all h = rw e tt
+  as-stop (word e q n i w) all h = rw e tt
+  as-stop (sign c e q) all h =
+      let k : going_on (Sign c) all ≡ None = ap (λ (x : Kind). going_on x all) (sym q) ∙ h in
+      rw e (case (eqb c 43) (λ a. absurd (none-some (sym (rw a at k))))
+      (λ a. case (eqb c 45) (λ b. absurd (none-some (sym (rw (a, b) at k)))) (λ b. (a, b))))
 
   -- past an operand that stops, a parenthesis is closed here or nowhere
-  pub as-closing : Next text ts r → Stops ts → (r.kind ≡ 41 → ⊥) → (here o : Bool) (os : List Bool) → followed ts here (o ∷ os) ≡ none
+  pub as-closing : Next text ts r → Stops ts → (r.kind ≡ Sign 41 → ⊥) → (here o : Bool) (os : List Bool) → followed ts here (o ∷ os) ≡ none
   as-closing (ended e q g) s n here o os = rw e refl
   as-closing (word e q k i w) s n here o os = rw e refl
   as-closing (sign c e q) s n here o os =
       let stop : Stops (mark c ∷ tokens_at text r.next) = rw e at s in
-      rw (e, stop.0, stop.1, sign-not c 41 (omega arith) (omega arith) (λ x. n (q ∙ x))) refl
+      rw (e, stop.0, stop.1, ne_eqb c 41 (λ x. n (q ∙ ap Sign x))) refl
 
   -- at the end of the line an operand has ended, and not before
-  pub as-over : Next text ts r → Stops ts → (r.kind ≡ 1 → ⊥) → (here : Bool) → followed ts here [] ≡ none
+  pub as-over : Next text ts r → Stops ts → (r.kind ≡ End → ⊥) → (here : Bool) → followed ts here [] ≡ none
   as-over (ended e q g) s n here = absurd (n q)
   as-over (word e q k i w) s n here = rw e refl
   as-over (sign c e q) s n here =

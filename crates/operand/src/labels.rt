@@ -1,31 +1,40 @@
 // The labels of a text: where the word of each stands, in the order of the lines that define them, and its address.
-ghost use Rattle.std.specs.Prelude.{◌≡◌, length, take};
-ghost use Rattle.operand.specs.Words.{place};
-ghost use Rattle.operand.specs.Read.{names_at, word_at};
+ghost use Rattle.std.specs.Prelude.{◌≡◌, ◌<◌, IfSome};
+ghost use Rattle.std.specs.List.{position_from};
+ghost use Rattle.operand.specs.Words.{same};
+ghost use Rattle.operand.specs.Read.{address_in, names_of, word_at};
 
-use crate::characters::same;
+use crate::characters::word;
 
-// How many labels there are among the first `count`.
-pub(crate) fn present(starts: &[u16], count: usize) -> usize
-    ensures { result ≡ length (take count starts.now) }
-{
-    if count < starts.len() {
-        return count;
-    }
-    starts.len()
+// Labels that may be looked up; one past the end of `addresses` has 0.
+#[derive(Clone, Copy)]
+pub struct Labels<'a> {
+    pub text: &'a [u8],
+    pub starts: &'a [u16],
+    pub addresses: &'a [u16],
 }
 
-// The place of a word among the first labels, or their count.
-pub fn find(text: &[u8], starts: &[u16], count: usize, word: usize) -> usize
-    ensures { result ≡ place (names_at text.now starts.now count) (word_at text.now word) }
+pub(crate) fn is_same(a: &[u8], b: &[u8]) -> bool
+    ensures { result ≡ same a.now b.now }
 {
-    let most = present(starts, count);
-    let mut i = 0;
-    while i < most {
-        if same(text, starts[i] as usize, word) {
-            return i;
-        }
-        i += 1;
-    }
-    i
+    a == b
+}
+
+// The place of a word among labels.
+pub fn find(text: &[u8], starts: &[u16], name: &[u8]) -> Option<usize>
+    ensures { result ≡ position_from (λ start. same (word_at text.now start) name.now) 0 starts.now }
+{
+    starts
+        .iter()
+        .position(|start| is_same(word(text, *start as usize), name))
+}
+
+// The address of the label whose word stands here.
+pub(crate) fn address(labels: Labels, at: usize) -> Option<u16>
+    ensures value { result ≡ address_in (names_of labels.entry.text.now labels.entry.starts.now)
+        labels.entry.addresses.now (word_at labels.entry.text.now at) }
+    ensures small { IfSome result (λ n. n < 65536) }
+{
+    let k = find(labels.text, labels.starts, word(labels.text, at))?;
+    Some(labels.addresses.get(k).copied().unwrap_or(0))
 }

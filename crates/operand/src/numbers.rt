@@ -1,57 +1,47 @@
 // Numbers: decimal, or hexadecimal ending in H, at most 65,535.
-ghost use Rattle.std.specs.Prelude.{◌≡◌, true, ◌+◌, ◌≤◌, ◌<◌, get_or, length};
-ghost use Rattle.std.proofs.Math.Seq.{slice};
+ghost use Rattle.std.specs.Prelude.{◌≡◌, ◌≤◌, true};
 ghost use Rattle.operand.specs.Text.{is_digit};
-ghost use Rattle.operand.specs.Words.{digit_value, in_base, number_of};
-ghost use Rattle.operand.specs.Read.{counted, word_at};
+ghost use Rattle.operand.specs.Words.{at_most, first, in_base, number_of};
+ghost use Rattle.operand.specs.Read.{digit_in, given};
 
-use crate::characters::is_digit;
-
-// A digit's value, 16 for no digit.
-fn digit_value(c: u8) -> u32
-    ensures { result ≡ digit_value c }
+// A digit's value in a base.
+fn digit_value(c: u8, base: u16) -> Option<u16>
+    requires { base ≤ 16 }
+    ensures { result ≡ digit_in base c }
 {
-    if is_digit(c) {
-        return (c - b'0') as u32;
+    let value = match c {
+        b'0'..=b'9' => c - b'0',
+        b'A'..=b'F' => c - b'A' + 10,
+        _ => return None,
+    };
+    if (value as u16) < base {
+        Some(value as u16)
+    } else {
+        None
     }
-    if c < b'A' {
-        return 16;
-    }
-    if c > b'F' {
-        return 16;
-    }
-    (c - b'A') as u32 + 10
 }
 
-// The value of the digits between two places, 65,536 where it is more or one of them is none.
-fn digits(text: &[u8], from: usize, to: usize, base: u32) -> u32
-    requires { (from ≤ to) × (to ≤ length text.now) × (1 ≤ base) × (base ≤ 16) }
-    ensures { result ≡ counted (in_base base 0 (slice from to text.now)) }
+// The value of digits.
+fn digits(word: &[u8], base: u16) -> Option<u16>
+    requires { base ≤ 16 }
+    ensures { result ≡ given (at_most 65535 (in_base base 0 word.now)) }
 {
-    let mut value = 0;
-    let mut i = from;
-    while i < to {
-        let d = digit_value(text[i]);
-        if d >= base {
-            return 65536;
-        }
-        value = value * base + d;
-        if value > 65535 {
-            return 65536;
-        }
-        i += 1;
+    let mut value: u16 = 0;
+    for c in word {
+        value = value
+            .checked_mul(base)?
+            .checked_add(digit_value(*c, base)?)?;
     }
-    value
+    Some(value)
 }
 
-// The value of a word that starts with a digit, 65,536 where it is no number.
-pub(crate) fn number(text: &[u8], start: usize, next: usize) -> u32
-    requires word_ends { (next ≡ start + length (word_at text.now start)) × (start < length text.now) }
-    requires word_begins { is_digit (get_or text.now start 0) ≡ true }
-    ensures { result ≡ counted (number_of (word_at text.now start)) }
+// The value of a word that starts with a digit.
+pub(crate) fn number(word: &[u8]) -> Option<u16>
+    requires { is_digit (first word.now) ≡ true }
+    ensures { result ≡ given (number_of word.now) }
 {
-    if text[next - 1] == b'H' {
-        return digits(text, start, next - 1, 16);
+    match word.strip_suffix(b"H") {
+        Some(digits_before) => digits(digits_before, 16),
+        None => digits(word, 10),
     }
-    digits(text, start, next, 10)
 }

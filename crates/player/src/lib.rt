@@ -4,82 +4,59 @@
 #![tactic(auto)]
 
 ghost use Rattle.std.specs.Prelude.{◌≡◌, IfOk};
-ghost use Rattle.script.specs.Check.{checked};
+ghost use Rattle.script.specs.Check.{checked, told};
 
-use glass::Seen;
-use glass::text::text;
+use glass::Unseen;
 use machine::Machine;
-use machine_glass::{Sight, sight_of};
-use script::Checked;
+use machine_glass::sight_of;
+use script::Refused;
 use script::apply::step_record;
 use script::check::check_script;
 use script::hex::hex_line;
 use std::io;
 use std::io::Write;
 
-// What is printed after each record.
-#[derive(Clone, Copy)]
-pub enum Shown {
-    Reports,
-    Readings,
-}
-
 // Room for more records than 65,535 bytes can hold: a program keeps no reports and never meets refusal 9.
 const ROOM: usize = 3145728;
 
-fn put_refused<W: Write>(out: &mut W, answer: Checked) -> io::Result<()> {
-    let number = answer.number;
-    let offset = answer.offset;
-    write!(out, "refused {number} at {offset}\n")
+// What is printed of a machine after each record. No checked script leaves one out of range.
+pub trait Show {
+    fn show<W: Write>(&self, out: &mut W, machine: Machine) -> io::Result<()>;
 }
 
-fn put_report<W: Write>(out: &mut W, machine: Machine) -> io::Result<()> {
-    let mut report = [0u8; 48];
-    machine.report(&mut report);
-    let line = hex_line(report);
-    out.write_all(&line)
-}
+#[derive(Clone, Copy)]
+pub struct Reports;
 
-// The characters of a text, the lowest byte first.
-fn put_text<W: Write>(out: &mut W, text: u64) -> io::Result<()> {
-    let mut rest = text;
-    while rest != 0 {
-        let character = [(rest % 256) as u8];
-        out.write_all(&character)?;
-        rest /= 256;
-    }
-    Ok(())
-}
-
-fn put_unreadable<W: Write>(out: &mut W, digit: u8) -> io::Result<()> {
-    write!(out, "unreadable at digit {digit}")
-}
-
-// A machine's picture has eight nibbles, none over 15, and no checked script leaves a machine out of range.
-fn put_seen<W: Write>(out: &mut W, seen: Seen) -> io::Result<()> {
-    match seen {
-        Seen::Shown(reading) => put_text(out, text(reading)),
-        Seen::Unreadable(digit) => put_unreadable(out, digit),
-        _ => Ok(()),
+impl Show for Reports {
+    fn show<W: Write>(&self, out: &mut W, machine: Machine) -> io::Result<()> {
+        let mut report = [0u8; 48];
+        let _ = machine.report(&mut report);
+        out.write_all(&hex_line(report))
     }
 }
 
-fn put_sight<W: Write>(out: &mut W, machine: Machine) -> io::Result<()> {
-    if let Sight::OnGlass(seen) = sight_of(machine) {
-        put_seen(out, seen)?;
+// What an operator sees.
+#[derive(Clone, Copy)]
+pub struct Readings;
+
+impl Show for Readings {
+    fn show<W: Write>(&self, out: &mut W, machine: Machine) -> io::Result<()> {
+        match sight_of(machine) {
+            Ok(Ok(reading)) => writeln!(out, "{reading}"),
+            Ok(Err(Unseen::Unreadable(digit))) => writeln!(out, "unreadable at digit {digit}"),
+            // A machine in range has eight nibbles, none over 15.
+            _ => writeln!(out),
+        }
     }
-    out.write_all(b"\n")
 }
 
-fn put_shown<W: Write>(out: &mut W, machine: Machine, shown: Shown) -> io::Result<()> {
-    match shown {
-        Shown::Reports => put_report(out, machine),
-        Shown::Readings => put_sight(out, machine),
-    }
-}
-
-// Record by record. A script that was checked has no record that is refused.
-fn put_records<W: Write>(out: &mut W, mask: &[u8], script: &[u8], shown: Shown) -> io::Result<()> {
+// Record by record, each as long as it says. A script that was checked has no record that is refused.
+fn put_records<W: Write, S: Show>(
+    out: &mut W,
+    mask: &[u8],
+    script: &[u8],
+    shown: &S,
+) -> io::Result<()> {
     let mut at = 0;
     let mut machine = Machine::blank();
     while at < script.len() {
@@ -89,21 +66,25 @@ fn put_records<W: Write>(out: &mut W, mask: &[u8], script: &[u8], shown: Shown) 
         }
         machine = step.machine;
         at = step.at;
-        put_shown(out, machine, shown)?;
+        shown.show(out, machine)?;
     }
     Ok(())
 }
 
-// Runs a script that is not refused. What is printed no contract can say; the answer is the check's. An error comes of a write alone,
-// and leaves lines unwritten.
-pub fn play<W: Write>(out: &mut W, mask: &[u8], script: &[u8], shown: Shown) -> io::Result<Checked>
-    ensures { IfOk result (λ r. r ≡ checked mask.now script.now 3145728) }
+// Runs a script that is not refused, and shows the machine after each record. What is printed no contract can say; the answer is the check's. An
+// error comes of a write alone, and leaves lines unwritten.
+pub fn play<W: Write, S: Show>(
+    out: &mut W,
+    mask: &[u8],
+    script: &[u8],
+    shown: &S,
+) -> io::Result<Result<(), Refused>>
+    ensures { IfOk result (λ r. told r ≡ checked mask.now script.now 3145728) }
 {
     let answer = check_script(mask, script, ROOM);
-    if answer.number != 0 {
-        put_refused(out, answer)?;
-        return Ok(answer);
+    match answer {
+        Ok(()) => put_records(out, mask, script, shown)?,
+        Err(refused) => writeln!(out, "{refused}")?,
     }
-    put_records(out, mask, script, shown)?;
     Ok(answer)
 }

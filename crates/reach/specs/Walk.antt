@@ -1,5 +1,5 @@
 -- The walk, as a checker's private functions state it, over any successor function on codes and any number n of them: the codes found so far with
--- their queue, what a walk that is over has found, and the lowest of it that is forbidden, by any faults of codes. No promise of an exported
+-- their queue, what a walk that is over has found, and the lowest of it that is forbidden, if any is, by any faults of codes. No promise of an exported
 -- function cites it. Assumes nothing.
 use Rattle.std.specs.Prelude.{ℕ, zero, suc, ◌+◌, ◌<◌, ◌≤◌, ◌≡◌, List, [], ◌∷◌, eqb, length, get_or, set}
 use Rattle.isa.specs.Choice.{pick}
@@ -50,9 +50,13 @@ pub record Found (n : ℕ) (next : ℕ → List ℕ) (seen : List ℕ) : Type 0 
   pub sound : (k : ℕ) → get_or seen k 0 ≡ 1 → Reaches next 0 k
   pub full : (k : ℕ) → Reaches next 0 k → (k < n) × (get_or seen k 0 ≡ 1)
 
--- what is named once the walk is over: the lowest found code that is forbidden, with its fault, or n where there is none
-pub record Names (n : ℕ) (bad : ℕ → ℕ) (seen : List ℕ) (code fault : ℕ) : Type 0 where
-  pub found : code < n → get_or seen code 0 ≡ 1
-  pub forbidden : code < n → bad code ≡ fault
-  pub not-zero : code < n → fault ≡ 0 → ⊥
+-- what is named once the walk is over: the lowest found code that is forbidden, with its fault
+pub record Names (bad : ℕ → ℕ) (seen : List ℕ) (code fault : ℕ) : Type 0 where
+  pub found : get_or seen code 0 ≡ 1
+  pub forbidden : bad code ≡ fault
+  pub not-zero : fault ≡ 0 → ⊥
   pub lowest : (k : ℕ) → get_or seen k 0 ≡ 1 → (bad k ≡ 0 → ⊥) → code ≤ k
+
+-- no found code is forbidden
+abbrev pub Free : (ℕ → ℕ) → List ℕ → Type 0
+Free bad seen = (k : ℕ) → get_or seen k 0 ≡ 1 → bad k ≡ 0

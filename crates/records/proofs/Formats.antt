@@ -1,22 +1,17 @@
 -- The format of one record, test by test; and a record that passes them all. Assumes nothing.
-use Prim.Native.Nat.{ℕ, ◌+◌, ◌<◌, ◌≤◌}
+use Prim.Native.Nat.{ℕ, ◌+◌, ◌≤◌}
 use native.Mathlib.Omega.{arith}
 use mathlib.Core.Path.{◌≡◌, refl, sym, ap, subst}
 use mathlib.Core.Bool.{Bool, true, false}
 use mathlib.Core.List.{List}
+use Rattle.std.specs.Prelude.{Option, Some, None}
 use lib.Dec.{eqb}
 use lib.ListN.{length}
-use borrow.Author.Tests.{lt-ltb, ltb-false, eqb-true}
+use borrow.Author.Tests.{ltb-false, eqb-true}
 use Rattle.isa.specs.Choice.{pick}
 use Rattle.records.specs.Records.{size_at, cut_off, size_refusal, format_by}
-use Rattle.records.specs.declared.Size.{Size}
-use Rattle.records.specs.declared.Size.TheVariants.{Of, UnknownKind}
 
--- where fewer than 4 bytes are left
-pub no-head : (s : List ℕ) (at : ℕ) → length s < at + 4 → cut_off s at ≡ true
-no-head s at h = lt-ltb (length s) (at + 4 + size_at s at) (omega arith)
-
-module _ (size : Size) (s : List ℕ) (at : ℕ) where
+module _ (size : Option ℕ) (s : List ℕ) (at : ℕ) where
   pub format-cut : cut_off s at ≡ true → 6 ≡ format_by size s at
   format-cut h = rw h refl
 
@@ -24,34 +19,34 @@ module _ (size : Size) (s : List ℕ) (at : ℕ) where
   format-whole h = rw h refl
 
 -- a record that is not cut off, of a known kind and of its length
-pub record Whole (size : Size) (s : List ℕ) (at : ℕ) : Type 0 where
+pub record Whole (size : Option ℕ) (s : List ℕ) (at : ℕ) : Type 0 where
   pub inside : at + 4 + size_at s at ≤ length s
-  pub right-size : size ≡ Of (size_at s at)
+  pub right-size : size ≡ Some (size_at s at)
 
 -- a size is one number, or no kind's
-pub same_size : {m n : ℕ} → Of m ≡ Of n → m ≡ n
+pub same_size : {m n : ℕ} → Some m ≡ Some n → m ≡ n
 same_size {m} e = ap number e
   where
-    number : Size → ℕ
-    number (Of k) = k
-    number UnknownKind = 0
+    number : Option ℕ → ℕ
+    number (Some k) = k
+    number None = 0
 
-pub unknown-size : {n : ℕ} → UnknownKind ≡ Of n → ⊥
+pub unknown-size : {n : ℕ} → None ≡ Some n → ⊥
 unknown-size e = subst known (sym e) tt
   where
-    known : Size → Type 0
-    known (Of k) = Unit {0}
-    known UnknownKind = ⊥
+    known : Option ℕ → Type 0
+    known (Some k) = Unit {0}
+    known None = ⊥
 
-right : (size : Size) (n : ℕ) → size_refusal size n ≡ 0 → size ≡ Of n
-right (Of m) n e = go (eqb n m) refl e
+right : (size : Option ℕ) (n : ℕ) → size_refusal size n ≡ 0 → size ≡ Some n
+right (Some m) n e = go (eqb n m) refl e
   where
-    go : (t : Bool) → eqb n m ≡ t → ◌≡◌ {A = ℕ} (pick t 0 6) 0 → Of m ≡ Of n
-    go true p e = ap Of (sym (eqb-true n m p))
+    go : (t : Bool) → eqb n m ≡ t → ◌≡◌ {A = ℕ} (pick t 0 6) 0 → Some m ≡ Some n
+    go true p e = ap Some (sym (eqb-true n m p))
     go false p e = absurd (omega arith)
-right UnknownKind n e = absurd (omega arith)
+right None n e = absurd (omega arith)
 
-pub whole : (size : Size) (s : List ℕ) (at : ℕ) → format_by size s at ≡ 0 → Whole size s at
+pub whole : (size : Option ℕ) (s : List ℕ) (at : ℕ) → format_by size s at ≡ 0 → Whole size s at
 whole size s at e = go (cut_off s at) refl e
   where
     go : (t : Bool) → cut_off s at ≡ t → ◌≡◌ {A = ℕ} (pick t 6 (size_refusal size (size_at s at))) 0 → Whole size s at
@@ -62,14 +57,14 @@ whole size s at e = go (cut_off s at) refl e
     }
 
 -- no other numbers
-pub format-numbers : (P : ℕ → Type 0) → P 0 → P 6 → P 7 → (size : Size) (s : List ℕ) (at : ℕ) → P (format_by size s at)
+pub format-numbers : (P : ℕ → Type 0) → P 0 → P 6 → P 7 → (size : Option ℕ) (s : List ℕ) (at : ℕ) → P (format_by size s at)
 format-numbers P z p q size s at = go (cut_off s at) size
   where
     of : (t : Bool) → P (pick t 0 6)
     of true = z
     of false = p
 
-    go : (t : Bool) (size : Size) → P (pick t 6 (size_refusal size (size_at s at)))
+    go : (t : Bool) (size : Option ℕ) → P (pick t 6 (size_refusal size (size_at s at)))
     go true size = p
-    go false (Of m) = of (eqb (size_at s at) m)
-    go false UnknownKind = q
+    go false (Some m) = of (eqb (size_at s at) m)
+    go false None = q

@@ -1,4 +1,3 @@
-pub mod Ends
 pub mod Offsets
 pub mod Formats
 pub mod Written

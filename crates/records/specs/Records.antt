@@ -1,9 +1,7 @@
 -- Records, over a list of bytes. Document 01: "Script records are little-endian: two-byte payload length, two-byte kind, payload". Which kinds there
 -- are, and the payload length of each, is whose records they are. Past the end every byte reads as 0. Assumes nothing.
-use Rattle.std.specs.Prelude.{ℕ, zero, suc, ◌+◌, ◌*◌, ◌%◌, ◌/◌, Bool, List, [], ◌∷◌, ltb, eqb, length, get_or}
+use Rattle.std.specs.Prelude.{ℕ, zero, suc, ◌+◌, ◌*◌, ◌%◌, ◌/◌, Bool, Option, Some, None, List, [], ◌∷◌, ltb, eqb, length, get_or}
 use Rattle.isa.specs.Choice.{pick}
-use Rattle.records.specs.declared.Size.{Size}
-use Rattle.records.specs.declared.Size.TheVariants.{Of, UnknownKind}
 
 -- a little-endian number of two bytes
 abbrev pub word_at : List ℕ → ℕ → ℕ
@@ -28,12 +26,12 @@ abbrev pub cut_off : List ℕ → ℕ → Bool
 cut_off s at = ltb (length s) (end_at s at)
 
 -- "6: .. payload length wrong", "7: unknown kind": what the kind says of the payload, and the length that the record has
-abbrev pub size_refusal : Size → ℕ → ℕ
-size_refusal (Of right) n = pick (eqb n right) 0 6
-size_refusal UnknownKind n = 7
+abbrev pub size_refusal : Option ℕ → ℕ → ℕ
+size_refusal (Some right) n = pick (eqb n right) 0 6
+size_refusal None n = 7
 
 -- 6 and 7 of the record at an offset, of whose kind a size is said: "6 first in a record cut off; an unknown kind gives 7"
-abbrev pub format_by : Size → List ℕ → ℕ → ℕ
+abbrev pub format_by : Option ℕ → List ℕ → ℕ → ℕ
 format_by size s at = pick (cut_off s at) 6 (size_refusal size (size_at s at))
 
 -- where records start, from an offset on: each where the one before ends. n bounds their number

@@ -1,19 +1,22 @@
 -- The laws of fetching, for those who read a mask: what they ask of it they ask here, and no other proof looks at how a code is fetched. Assumes
 -- nothing.
-use Prim.Native.Nat.{ℕ, ◌+◌, ◌/◌, ◌%◌, ◌<◌}
+use Prim.Native.Nat.{ℕ, ◌+◌, ◌%◌, ◌<◌}
 use mathlib.Core.Path.{◌≡◌, refl, sym, ap, ◌∙◌}
-use mathlib.Core.Bool.{true}
+use mathlib.Core.Bool.{Bool, true, false}
 use mathlib.Core.List.{List}
+use native.Mathlib.Omega.{arith}
 use borrow.Author.Tests.{eq-eqb}
 use lib.ListN.{length, get_or}
+use Rattle.std.specs.Prelude.{Option, Some, Result, Ok}
+use Rattle.refusals.specs.Numbers.{refusal_of}
+use Rattle.refusals.specs.declared.Refusal.{Refusal}
+use Rattle.isa.specs.Choice.{pick}
 use Rattle.isa.specs.Code.{addresses, in_range}
 use Rattle.isa.specs.Reading.{Reading, decoded}
 use Rattle.isa.specs.Timing.{Columns, columns_at, columns_of, cycles_of, entries, length_of}
 use Rattle.isa.proofs.Exact.{reading, sound, timed}
-use Rattle.isa.proofs.List.{length-at, cycles-at}
+use Rattle.isa.proofs.List.{cycles_at_entry}
 use Rattle.isa.specs.declared.Instruction.{Instruction}
-use Rattle.isa.specs.declared.decoder.Decoded.{Decoded}
-use Rattle.isa.specs.declared.decoder.Decoded.TheVariants.{Read}
 use Rattle.rom.specs.Fetching.{sized, Bytes, byte_at, code_at, read_at, length_at, cycles_at}
 use Rattle.rom.specs.declared.reader.Code.{Code}
 
@@ -21,6 +24,11 @@ use Rattle.rom.specs.declared.reader.Code.{Code}
 pub full : (mask : List ℕ) → length mask ≡ addresses → sized mask ≡ true
 unfolding sized
 full mask e = eq-eqb (length mask) addresses e
+
+-- what refuses a mask with 1 where t is false, and answers, says that t is true
+pub mask-passes : {A : Type 0} (t : Bool) (r : Result A Refusal) (x : A) → refusal_of r ≡ pick t 0 1 → r ≡ Ok x → t ≡ true
+mask-passes true r x e p = refl
+mask-passes false r x e p = absurd (omega (arith, e, ap refusal_of p))
 
 module _ (mask : List ℕ) (a : ℕ) where
   pub byte_small : Bytes mask → byte_at mask a < 256
@@ -58,21 +66,18 @@ module _ (mask : List ℕ) (a : ℕ) where
   cycles-bytes = sym cycles-code ∙ ap (λ (k : Code). cycles_of k.first) code-bytes
 
   -- ---- what stands there
-  -- the list's entry has both numbers
-  pub length-entry : get_or entries (code_at mask a).first 0 / 16 ≡ length_at mask a
-  length-entry = length-at (code_at mask a).first ∙ length-code
-
+  -- the list's entry has the cycles
   pub cycles-entry : get_or entries (code_at mask a).first 0 % 16 ≡ cycles_at mask a
-  cycles-entry = cycles-at (code_at mask a).first ∙ cycles-code
+  cycles-entry = cycles_at_entry (code_at mask a).first ∙ cycles-code
 
   -- what the decoder answers for the code is what stands there
-  module _ (c : Code) (at : c ≡ code_at mask a) (h : c.second < 256) (d : Decoded) (r : Reading c.first c.second d) where
+  module _ (c : Code) (at : c ≡ code_at mask a) (h : c.second < 256) (d : Option Instruction) (r : Reading c.first c.second d) where
     pub read-there : d ≡ read_at mask a
     read-there = reading c.first c.second d h r ∙ ap (λ (k : Code). decoded k.first k.second) at ∙ read-code
 
   -- an instruction that stands there is in range, and takes the cycles of its columns
-  module _ (bytes : Bytes mask) (i : Instruction) (e : read_at mask a ≡ Read i) where
-    stands : Reading (code_at mask a).first (code_at mask a).second (Read i)
+  module _ (bytes : Bytes mask) (i : Instruction) (e : read_at mask a ≡ Some i) where
+    stands : Reading (code_at mask a).first (code_at mask a).second (Some i)
     stands = sound (code_at mask a).first (code_at mask a).second i (code-small bytes) (read-code ∙ e)
 
     pub read-fields : in_range i ≡ true

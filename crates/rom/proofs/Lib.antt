@@ -1,4 +1,3 @@
-pub mod Columns
 pub mod Fetching
 pub mod RoundTrip
 pub mod Rule

@@ -1,13 +1,14 @@
 -- The rule of lengths and cycles gives document 01's list: the list is eleven runs of one entry each, by one test that antt computes, and a first
 -- byte in a run has the run's entry, by one law. Assumes nothing.
-use Prim.Native.Nat.{ℕ, zero, suc, ◌+◌, ◌-◌, ◌<◌, ◌≤◌}
+use Prim.Native.Nat.{ℕ, zero, suc, ◌+◌, ◌-◌, ◌*◌, ◌/◌, ◌%◌, ◌<◌, ◌≤◌}
 use native.Mathlib.Nat.{le_of_suc-le-suc, not-suc-le-zero, zero-add, suc-add}
 use native.Mathlib.Omega.{arith}
 use mathlib.Core.Path.{◌≡◌, refl, sym, ap, ◌∙◌}
 use mathlib.Core.List.{List, [], ◌∷◌}
 use lib.ListN.{get_or}
 use Rattle.isa.specs.Reading.{opcodes}
-use Rattle.isa.specs.Timing.{columns_of, entries}
+use Rattle.isa.specs.Timing.{columns_of, entries, length_of, cycles_of}
+use Rattle.isa.proofs.List.{length_at_entry, cycles_at_entry}
 
 -- so many first bytes in a row that have one entry
 pub record Run : Type 0 where
@@ -71,3 +72,16 @@ pub in-run : (k a : ℕ) → start runs k ≤ a → a < start runs k + (at runs 
 in-run k a l h =
     let e : start runs k + (a - start runs k) ≡ a = omega arith in
     in-runs runs k (a - start runs k) (omega arith) ∙ ap (λ (m : ℕ). get_or (listed runs) m 0) e ∙ ap (λ (l : List ℕ). get_or l a 0) tested
+
+-- what the entry of a run says of its first bytes, taken apart
+pub record Timed (a b n : ℕ) : Type 0 where
+  pub bytes : b ≡ length_of a
+  pub cycles : n ≡ cycles_of a
+  pub listed : 16 * b + n ≡ get_or entries a 0
+
+pub timed-run : (k a b n : ℕ) → start runs k ≤ a → a < start runs k + (at runs k).count → n < 16 → 16 * b + n ≡ (at runs k).entry → Timed a b n
+timed-run k a b n l h s e =
+    let listed : 16 * b + n ≡ get_or entries a 0 = e ∙ in-run k a l h in
+    let high : b ≡ get_or entries a 0 / 16 = omega (arith, listed, s) in
+    let low : n ≡ get_or entries a 0 % 16 = omega (arith, listed, s) in
+    record { bytes = high ∙ length_at_entry a; cycles = low ∙ cycles_at_entry a; listed = listed }

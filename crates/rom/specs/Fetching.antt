@@ -1,16 +1,15 @@
 -- Reading at an address of a mask: document 01's numbers for what is refused, and what is read. Assumes nothing.
-use Rattle.std.specs.Prelude.{ℕ, ◌+◌, ◌*◌, ◌/◌, ◌%◌, ◌<◌, Bool, List, ltb, eqb, length, get_or}
+use Rattle.std.specs.Prelude.{ℕ, ◌+◌, ◌*◌, ◌/◌, ◌%◌, ◌<◌, Bool, List, ltb, eqb, length, get_or, Option, Some, None, Result, Ok, Err}
 use Rattle.isa.specs.Choice.{pick}
 use Rattle.isa.specs.Code.{addresses}
 use Rattle.isa.specs.Reading.{fault_number, decoded}
 use Rattle.isa.specs.Timing.{length_of, cycles_of}
 use Rattle.isa.specs.declared.Instruction.{Instruction}
 use Rattle.isa.specs.declared.ProgramAddress.{ProgramAddress}
-use Rattle.isa.specs.declared.decoder.Decoded.{Decoded}
-use Rattle.isa.specs.declared.decoder.Decoded.TheVariants.{Read, Unreadable}
+use Rattle.refusals.specs.Numbers.{number_of}
+use Rattle.refusals.specs.declared.Refusal.{Refusal}
 use Rattle.rom.specs.declared.reader.Code.{Code}
 use Rattle.rom.specs.declared.reader.Fetched.{Fetched}
-use Rattle.rom.specs.declared.reader.Fetched.TheVariants.{BadMask, BadAddress, Unread, Fetch}
 
 -- the masks that are not refused, a byte an address: "1: mask not 4,096 bytes"
 unfoldable pub sized : List ℕ → Bool
@@ -29,7 +28,7 @@ unfoldable pub code_at : List ℕ → ℕ → Code
 code_at mask a = record { first = byte_at mask a; second = byte_at mask (a + 1) }
 
 -- what stands at an address, for the engine, the checker and the reader alike
-unfoldable pub read_at : List ℕ → ℕ → Decoded
+unfoldable pub read_at : List ℕ → ℕ → Option Instruction
 read_at mask a = decoded (code_at mask a).first (code_at mask a).second
 
 -- its length and cycles, by the list's entry for its first byte
@@ -58,16 +57,15 @@ pub data Answer : Type 0 where
 
 -- the number and the values of each answer: 1 "mask not 4,096 bytes", 5 "address to read at over 4,095"; a fault
 -- for what cannot be read
-abbrev pub answer_of : Fetched → Answer
-answer_of BadMask = refused 1
-answer_of BadAddress = refused 5
-answer_of Unread = faulted (fault_number Unreadable)
-answer_of (Fetch i l c) = instruction i l c
+abbrev pub answer_of : Result (Option Fetched) Refusal → Answer
+answer_of (Err r) = refused (number_of r)
+answer_of (Ok None) = faulted (fault_number None)
+answer_of (Ok (Some f)) = instruction f.instruction f.length f.cycles
 
 -- a reading with its length and cycles
-abbrev pub with_timing : ℕ → ℕ → Decoded → Answer
-with_timing size cycles (Read i) = instruction i size cycles
-with_timing size cycles Unreadable = faulted (fault_number Unreadable)
+abbrev pub with_timing : ℕ → ℕ → Option Instruction → Answer
+with_timing size cycles (Some i) = instruction i size cycles
+with_timing size cycles None = faulted (fault_number None)
 
 abbrev pub standing : List ℕ → ℕ → Answer
 standing mask a = with_timing (length_at mask a) (cycles_at mask a) (read_at mask a)

@@ -1,22 +1,42 @@
 // Lengths and cycles by a rule on the first byte: no list of 256 entries for a linker to place (document 02, wish 3). The engine asks by the
 // instruction: there the compiler knows it, and the answer is a constant.
-ghost use Rattle.std.specs.Prelude.{◌≡◌, get_or};
+ghost use Rattle.std.specs.Prelude.{◌≡◌, ◌+◌, ◌*◌, get_or};
 ghost use Rattle.isa.specs.Timing.{columns_of, cycles_of, entries, length_of};
 
 use isa::Instruction;
 
-// The entries of document 01's list: the length in the high nibble, the cycles in the low one.
-const NO_PATTERN: u8 = 0x00;
+// The columns of document 01's list.
+#[derive(Clone, Copy, Debug, PartialEq, Eq)]
+pub struct Timing {
+    pub bytes: u8,
+    pub cycles: u8,
+}
 
-const ONE_BYTE: u8 = 0x11;
+const NO_PATTERN: Timing = Timing {
+    bytes: 0,
+    cycles: 0,
+};
 
-const READ: u8 = 0x12;
+const ONE_BYTE: Timing = Timing {
+    bytes: 1,
+    cycles: 1,
+};
 
-const TWO_BYTES: u8 = 0x22;
+const READ: Timing = Timing {
+    bytes: 1,
+    cycles: 2,
+};
+
+const TWO_BYTES: Timing = Timing {
+    bytes: 2,
+    cycles: 2,
+};
 
 // The list's entry for a first byte: the two long runs first, then upwards. Comparisons, since a `match` can be compiled to a list.
-pub fn entry(first: u8) -> u8
-    ensures { result ≡ get_or entries first 0 }
+pub fn entry(first: u8) -> Timing
+    ensures bytes { result.bytes ≡ length_of first }
+    ensures cycles { result.cycles ≡ cycles_of first }
+    ensures listed { 16 * result.bytes + result.cycles ≡ get_or entries first 0 }
 {
     if 0x7f < first {
         return TWO_BYTES; // branches, JMP, CALL
@@ -55,58 +75,46 @@ pub fn entry(first: u8) -> u8
 pub fn length(first: u8) -> u8
     ensures { result ≡ length_of first }
 {
-    entry(first) / 16
+    entry(first).bytes
 }
 
 // How many cycles it takes.
 pub fn cycles(first: u8) -> u8
     ensures { result ≡ cycles_of first }
 {
-    entry(first) % 16
+    entry(first).cycles
 }
 
 // How many bytes an instruction has.
+#[tactic(auto, unfolding(isa::specs::Timing::columns_of))]
 pub fn length_of(instruction: Instruction) -> u8
     ensures { result ≡ (columns_of instruction).bytes }
 {
     match instruction {
-        Instruction::AddAX(_) => 2,
-        Instruction::SubAX(_) => 2,
-        Instruction::AndAX(_) => 2,
-        Instruction::OrAX(_) => 2,
-        Instruction::XorAX(_) => 2,
-        Instruction::MovPairXX(_, _, _) => 2,
-        Instruction::MovR4X(_) => 2,
-        Instruction::Jmp(_) => 2,
-        Instruction::Branch(_, _) => 2,
-        Instruction::Call(_) => 2,
-        Instruction::TimerXX(_) => 2,
-        Instruction::SoundN(_) => 2,
-        Instruction::Halt => 2, // 37h, then 3Eh
-        _ => 1, // READ and READF too
+        Instruction::AddAX(_)
+        | Instruction::SubAX(_)
+        | Instruction::AndAX(_)
+        | Instruction::OrAX(_)
+        | Instruction::XorAX(_)
+        | Instruction::MovPairXX(_, _, _)
+        | Instruction::MovR4X(_)
+        | Instruction::Jmp(_)
+        | Instruction::Branch(_, _)
+        | Instruction::Call(_)
+        | Instruction::TimerXX(_)
+        | Instruction::SoundN(_)
+        | Instruction::Halt => 2,
+        _ => 1,
     }
 }
 
-// How many cycles it takes: the table reads take two with one byte.
+// How many cycles it takes: a cycle for each byte, and the table reads one more.
+#[tactic(auto, unfolding(isa::specs::Timing::columns_of))]
 pub fn cycles_of(instruction: Instruction) -> u8
     ensures { result ≡ (columns_of instruction).cycles }
 {
     match instruction {
-        Instruction::AddAX(_) => 2,
-        Instruction::SubAX(_) => 2,
-        Instruction::AndAX(_) => 2,
-        Instruction::OrAX(_) => 2,
-        Instruction::XorAX(_) => 2,
-        Instruction::MovPairXX(_, _, _) => 2,
-        Instruction::MovR4X(_) => 2,
-        Instruction::Jmp(_) => 2,
-        Instruction::Branch(_, _) => 2,
-        Instruction::Call(_) => 2,
-        Instruction::TimerXX(_) => 2,
-        Instruction::SoundN(_) => 2,
-        Instruction::ReadR4A(_) => 2,
-        Instruction::ReadMr0A(_) => 2,
-        Instruction::Halt => 2,
-        _ => 1,
+        Instruction::ReadR4A(_) | Instruction::ReadMr0A(_) => 2,
+        _ => length_of(instruction),
     }
 }

@@ -8,6 +8,7 @@ use mathlib.Core.List.{List, [], ◌∷◌, map}
 use lib.Dec.{eqb}
 use lib.ListN.{length}
 use borrow.Author.Tests.{eq-eqb, eqb-true, eqb-false}
+use Rattle.std.specs.Prelude.{Option, Some, None}
 use Rattle.isa.specs.Choice.{pick}
 use Rattle.cpu.specs.Range.{nibbles, options_ok, valid}
 use Rattle.rom.specs.Fetching.{Bytes, sized}
@@ -16,17 +17,13 @@ use Rattle.machine.specs.Power.{blank, powered, power_refusal, power_on}
 use Rattle.machine.specs.Events.{Input, power, named, event_of, mask_ok, values_ok, refusal_of, applied, answer_to}
 use Rattle.machine.specs.declared.events.Event.{Event}
 use Rattle.machine.specs.declared.events.Event.TheVariants.{Run, Pins, Int, Tmclk, Res}
-use Rattle.machine.specs.declared.events.Named.{Named}
-use Rattle.machine.specs.declared.events.Named.TheVariants.{Known, Unknown}
 use Rattle.machine.proofs.Lists.{powered-valid, input-valid}
 use Rattle.cpu.specs.declared.Options.{Options}
 use Rattle.machine.specs.declared.Machine.{Machine}
 use Rattle.records.specs.Records.{size_at, kind_at, payload_at, offsets_from}
-use Rattle.records.specs.declared.Size.TheVariants.{Of}
 use Rattle.script.specs.Format.{options_at, filled, size_of, input_at, inputs}
-use Rattle.script.specs.Check.{format_at, first, ruled, value_of, choice_of, checked}
+use Rattle.script.specs.Check.{format_at, first, value_of, choice_of, checked, value_at, choice_at}
 use Rattle.script.specs.Reports.{next}
-use Rattle.script.specs.declared.check.Rule.TheVariants.{Format, Values, Choices}
 use Rattle.records.proofs.Offsets.{from_next, each}
 use Rattle.records.proofs.Formats.{unknown-size, whole}
 use Rattle.script.proofs.Checks.{accepted, first-bad, first_good}
@@ -75,8 +72,8 @@ module _ (mask s : List ℕ) (room : ℕ) (e : (checked mask s room).number ≡ 
       let n = not-empty s a.start in
       let i = first-power s a.start in
       power-accepted (options_at s 0) (filled (payload_at s 0 5)) refl
-      (sym (ap value_of i) ∙ good-here (ruled Values s) s 0 n a.values)
-      (sym (ap choice_of i) ∙ good-here (ruled Choices s) s 0 n a.choices)
+      (sym (ap value_of i) ∙ good-here (value_at s) s 0 n a.values)
+      (sym (ap choice_of i) ∙ good-here (choice_at s) s 0 n a.choices)
 
   pub first-valid : valid (state_of (next mask (input_at s 0) blank)) ≡ true
   first-valid =
@@ -108,39 +105,39 @@ fine true e = refl
 fine false e = absurd (omega arith)
 
 -- an event whose values pass the check is refused by nothing
-event-accepted : (mask : List ℕ) → sized mask ≡ true → (e : Event) (m : Machine) → value_of (named (Known e)) ≡ 0 → valid (state_of m) ≡ true → (applied mask e m).refusal ≡ 0
+event-accepted : (mask : List ℕ) → sized mask ≡ true → (e : Event) (m : Machine) → value_of (named (Some e)) ≡ 0 → valid (state_of m) ≡ true → (applied mask e m).refusal ≡ 0
 unfolding value_of applied refusal_of
 event-accepted mask l e m v w = rw (masked mask l e, fine (values_ok e) v, w) refl
 
 -- what a record's check has shown of its input: the image of a power-on has its 166 nibbles, and another kind is known
 abbrev Formed : Input → Type 0
 Formed (power o image) = length image ≡ 166
-Formed (named (Known e)) = Unit {0}
-Formed (named Unknown) = ⊥
+Formed (named (Some e)) = Unit {0}
+Formed (named None) = ⊥
 
 formed-at : (s : List ℕ) (at : ℕ) → format_at s at ≡ 0 → Formed (input_at s at)
 unfolding format_at input_at
 formed-at s at f = go (eqb (kind_at s at) 1) (event_of _ _ _ _ _) (whole (size_of (input_at s at)) s at f).right-size
   where
-    go : (t : Bool) (n : Named) {m : ℕ} → size_of (pick t (power (options_at s at) (filled (payload_at s at 5))) (named n)) ≡ Of m
+    go : (t : Bool) (n : Option Event) {m : ℕ} → size_of (pick t (power (options_at s at) (filled (payload_at s at 5))) (named n)) ≡ Some m
         → Formed (pick t (power (options_at s at) (filled (payload_at s at 5))) (named n))
     go true n e = refl
-    go false (Known e) q = tt
-    go false Unknown q = absurd (unknown-size q)
+    go false (Some e) q = tt
+    go false None q = absurd (unknown-size q)
 
 input-accepted : (mask : List ℕ) → sized mask ≡ true → (i : Input) (m : Machine) → Formed i → value_of i ≡ 0 → choice_of i ≡ 0
     → valid (state_of m) ≡ true → (answer_to mask i m).refusal ≡ 0
 unfolding power_on
 input-accepted mask l (power o image) m z v k w = power-accepted o image z v k
-input-accepted mask l (named (Known e)) m z v k w = event-accepted mask l e m v w
-input-accepted mask l (named Unknown) m z v k w = absurd z
+input-accepted mask l (named (Some e)) m z v k w = event-accepted mask l e m v w
+input-accepted mask l (named None) m z v k w = absurd z
 
 module _ (mask s : List ℕ) (b : Bytes mask) where
   -- from an offset on, where neither values nor options are refused
   abbrev Rest : ℕ → List ℕ → Type 0
   Rest at l =
-      (m : Machine) → valid (state_of m) ≡ true → (first (ruled Format s) (offsets_from s at)).number ≡ 0
-      → (first (ruled Values s) (offsets_from s at)).number ≡ 0 → (first (ruled Choices s) (offsets_from s at)).number ≡ 0
+      (m : Machine) → valid (state_of m) ≡ true → (first (format_at s) (offsets_from s at)).number ≡ 0
+      → (first (value_at s) (offsets_from s at)).number ≡ 0 → (first (choice_at s) (offsets_from s at)).number ≡ 0
       → Taken mask (map (input_at s) l) m
 
   rest-taken : sized mask ≡ true → (at : ℕ) → Rest at (offsets_from s at)
@@ -149,8 +146,8 @@ module _ (mask s : List ℕ) (b : Bytes mask) where
       (λ at h m v f p q. none)
       (λ at h back m v f p q.
       more (input_at s at)
-      (input-accepted mask l (input_at s at) m (formed-at s at (good-here (ruled Format s) s at h f)) (good-here (ruled Values s) s at h p) (good-here (ruled Choices s) s at h q) v)
-      (back (next mask (input_at s at) m) (input-valid mask b (input_at s at) m v) (good-after (ruled Format s) s at h f) (good-after (ruled Values s) s at h p) (good-after (ruled Choices s) s at h q)))
+      (input-accepted mask l (input_at s at) m (formed-at s at (good-here (format_at s) s at h f)) (good-here (value_at s) s at h p) (good-here (choice_at s) s at h q) v)
+      (back (next mask (input_at s at) m) (input-valid mask b (input_at s at) m v) (good-after (format_at s) s at h f) (good-after (value_at s) s at h p) (good-after (choice_at s) s at h q)))
 
   -- no record of an accepted script is refused
   pub all-taken : (room : ℕ) → (checked mask s room).number ≡ 0 → Taken mask (inputs s) blank
@@ -161,4 +158,4 @@ module _ (mask s : List ℕ) (b : Bytes mask) where
       subst (λ (k : List ℕ). Taken mask (map (input_at s) k) blank) (sym (from_next s 0 h))
       (more (input_at s 0) (first_taken mask s room e)
       (rest-taken a.mask_size (0 + 4 + size_at s 0) (next mask (input_at s 0) blank) (first-valid mask s room e)
-      (good-after (ruled Format s) s 0 h a.format) (good-after (ruled Values s) s 0 h a.values) (good-after (ruled Choices s) s 0 h a.choices)))
+      (good-after (format_at s) s 0 h a.format) (good-after (value_at s) s 0 h a.values) (good-after (choice_at s) s 0 h a.choices)))

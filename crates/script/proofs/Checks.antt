@@ -1,5 +1,5 @@
--- The whole check, one test after the other: what each stage gives where its test fails, and that the next stage decides where it
--- holds. A script that is not refused has passed every test. Assumes nothing.
+-- The whole check, one test after the other: a stage whose test fails gives the answer, and the next one decides where it holds. A script
+-- that is not refused has passed every test. Assumes nothing.
 use Prim.Native.Nat.{ℕ, ◌+◌, ◌*◌, ◌<◌, ◌≤◌}
 use native.Mathlib.Omega.{arith}
 use mathlib.Core.Path.{◌≡◌, refl, sym, ap, ◌∙◌}
@@ -7,13 +7,14 @@ use mathlib.Core.Bool.{Bool, true, false}
 use mathlib.Core.List.{List}
 use lib.Dec.{leb, eqb}
 use lib.ListN.{length}
-use borrow.Author.Tests.{eq-eqb, ne_eqb, le-leb, lt-leb, eqb-true, eqb-false, leb-true}
+use borrow.Author.Tests.{eq-eqb, ne_eqb, le-leb, eqb-true, eqb-false, leb-true}
 use Rattle.rom.specs.Fetching.{sized}
 use Rattle.isa.specs.Choice.{pick}
 use Rattle.records.specs.Records.{size_at, kind_at, offsets_from, offsets}
-use Rattle.script.specs.Check.{refused, fine, unless, first_refused, first, ruled, checked}
-use Rattle.script.specs.declared.Checked.{Checked}
-use Rattle.script.specs.declared.check.Rule.TheVariants.{Format, Values, Choices}
+use Rattle.std.specs.Prelude.{Result, Err}
+use Rattle.refusals.proofs.Numbers.{not_zero}
+use Rattle.script.specs.declared.Refused.{Refused}
+use Rattle.script.specs.Check.{told, refused, fine, unless, first_refused, first, checked, format_at, value_at, choice_at, Checked}
 use Rattle.records.proofs.Offsets.{from_end, from_next}
 
 -- ---- the first offset at which a rule gives a number
@@ -40,65 +41,31 @@ stop a b h = rw (ne_eqb a.number 0 h) refl
 pass : (a b : Checked) → a.number ≡ 0 → first_refused a b ≡ b
 pass a b h = rw (eq-eqb a.number 0 h) refl
 
+-- an error is the answer, and after an `Ok` the stages that follow give it
+pub stopped : {r : Result Unit Refused} {a : Checked} (e : Refused) (b : Checked) → r ≡ Err e → told (Err e) ≡ a → told r ≡ first_refused a b
+stopped {a = a} e b p q = ap told p ∙ q ∙ sym (stop a b (λ z. not_zero e.refusal (number q ∙ z)))
+
+pub thens : {k a b : Checked} → fine ≡ a → k ≡ b → k ≡ first_refused a b
+thens {a = a} {b = b} p q = q ∙ sym (pass a b (sym (number p)))
+
 module _ (mask s : List ℕ) (room : ℕ) where
   abbrev pub after4 : Checked
   after4 = unless (leb (48 * length (offsets s)) room) 9
 
   abbrev pub after3 : Checked
-  after3 = first_refused (first (ruled Choices s) (offsets s)) after4
+  after3 = first_refused (first (choice_at s) (offsets s)) after4
 
   abbrev pub after8 : Checked
-  after8 = first_refused (first (ruled Values s) (offsets s)) after3
+  after8 = first_refused (first (value_at s) (offsets s)) after3
 
   abbrev pub after7 : Checked
   after7 = first_refused (unless (eqb (kind_at s 0) 1) 8) after8
 
   abbrev pub after6 : Checked
-  after6 = first_refused (first (ruled Format s) (offsets s)) after7
+  after6 = first_refused (first (format_at s) (offsets s)) after7
 
   abbrev pub after1 : Checked
   after1 = first_refused (unless (leb (length s) 65535) 6) after6
-
-  pub stop1 : sized mask ≡ false → checked mask s room ≡ refused 1 0
-  unfolding checked
-  stop1 h = rw h refl
-
-  pub pass1 : sized mask ≡ true → checked mask s room ≡ after1
-  unfolding checked
-  pass1 h = rw h refl
-
-  pub stop6 : 65535 < length s → after1 ≡ refused 6 0
-  stop6 h = rw (lt-leb (length s) 65535 h) refl
-
-  pub pass6 : length s ≤ 65535 → after1 ≡ after6
-  pass6 h = rw (le-leb (length s) 65535 h) refl
-
-  pub stop7 : {k : Checked} → k ≡ first (ruled Format s) (offsets s) → (k.number ≡ 0 → ⊥) → after6 ≡ k
-  stop7 e h = stop (first (ruled Format s) (offsets s)) after7 (λ z. h (number e ∙ z)) ∙ sym e
-
-  pub pass7 : {k : Checked} → k ≡ first (ruled Format s) (offsets s) → k.number ≡ 0 → after6 ≡ after7
-  pass7 e h = pass (first (ruled Format s) (offsets s)) after7 (sym (number e) ∙ h)
-
-  pub stop8 : (kind_at s 0 ≡ 1 → ⊥) → after7 ≡ refused 8 0
-  stop8 h = rw (ne_eqb (kind_at s 0) 1 h) refl
-
-  pub pass8 : kind_at s 0 ≡ 1 → after7 ≡ after8
-  pass8 h = rw (eq-eqb (kind_at s 0) 1 h) refl
-
-  pub stop3 : {k : Checked} → k ≡ first (ruled Values s) (offsets s) → (k.number ≡ 0 → ⊥) → after8 ≡ k
-  stop3 e h = stop (first (ruled Values s) (offsets s)) after3 (λ z. h (number e ∙ z)) ∙ sym e
-
-  pub pass3 : {k : Checked} → k ≡ first (ruled Values s) (offsets s) → k.number ≡ 0 → after8 ≡ after3
-  pass3 e h = pass (first (ruled Values s) (offsets s)) after3 (sym (number e) ∙ h)
-
-  pub stop4 : {k : Checked} → k ≡ first (ruled Choices s) (offsets s) → (k.number ≡ 0 → ⊥) → after3 ≡ k
-  stop4 e h = stop (first (ruled Choices s) (offsets s)) after4 (λ z. h (number e ∙ z)) ∙ sym e
-
-  pub pass4 : {k : Checked} → k ≡ first (ruled Choices s) (offsets s) → k.number ≡ 0 → after3 ≡ after4
-  pass4 e h = pass (first (ruled Choices s) (offsets s)) after4 (sym (number e) ∙ h)
-
-  pub stop9 : room < 48 * length (offsets s) → after4 ≡ refused 9 0
-  stop9 h = rw (lt-leb (48 * length (offsets s)) room h) refl
 
   pub pass9 : 48 * length (offsets s) ≤ room → after4 ≡ fine
   pass9 h = rw (le-leb (48 * length (offsets s)) room h) refl
@@ -107,10 +74,10 @@ module _ (mask s : List ℕ) (room : ℕ) where
 pub record Accepted (mask s : List ℕ) (room : ℕ) : Type 0 where
   pub mask_size : sized mask ≡ true
   pub script-size : length s ≤ 65535
-  pub format : (first (ruled Format s) (offsets s)).number ≡ 0
+  pub format : (first (format_at s) (offsets s)).number ≡ 0
   pub start : kind_at s 0 ≡ 1
-  pub values : (first (ruled Values s) (offsets s)).number ≡ 0
-  pub choices : (first (ruled Choices s) (offsets s)).number ≡ 0
+  pub values : (first (value_at s) (offsets s)).number ≡ 0
+  pub choices : (first (choice_at s) (offsets s)).number ≡ 0
   pub fits : 48 * length (offsets s) ≤ room
 
 both : (a b : Checked) → (first_refused a b).number ≡ 0 → (a.number ≡ 0) × (b.number ≡ 0)
@@ -129,10 +96,10 @@ unfolding checked
 accepted mask s room e =
     let p1 = both (unless (sized mask) 1) (after1 mask s room) e in
     let p6 = both (unless (leb (length s) 65535) 6) (after6 mask s room) p1.1 in
-    let p7 = both (first (ruled Format s) (offsets s)) (after7 mask s room) p6.1 in
+    let p7 = both (first (format_at s) (offsets s)) (after7 mask s room) p6.1 in
     let p8 = both (unless (eqb (kind_at s 0) 1) 8) (after8 mask s room) p7.1 in
-    let p3 = both (first (ruled Values s) (offsets s)) (after3 mask s room) p8.1 in
-    let p4 = both (first (ruled Choices s) (offsets s)) (after4 mask s room) p3.1 in
+    let p3 = both (first (value_at s) (offsets s)) (after3 mask s room) p8.1 in
+    let p4 = both (first (choice_at s) (offsets s)) (after4 mask s room) p3.1 in
     record {
       mask_size = met _ 1 (λ z. omega arith) p1.0;
       script-size = leb-true (length s) 65535 (met _ 6 (λ z. omega arith) p6.0);

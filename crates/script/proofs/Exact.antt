@@ -8,16 +8,15 @@ use lib.Dec.{eqb}
 use lib.ListN.{length, drop, drop_of_length-le}
 use lib.Seq.{drop-cons}
 use borrow.Author.Tests.{ne_eqb}
+use Rattle.std.specs.Prelude.{Some, None}
 use Rattle.isa.specs.Choice.{pick}
 use Rattle.rom.specs.Fetching.{Bytes}
 use Rattle.machine.specs.Events.{Input, power, named, event_of}
 use Rattle.machine.specs.Report.{places}
 use Rattle.records.specs.Records.{word_at, size_at, kind_at, payload_at, offsets_from, offsets}
-use Rattle.records.specs.declared.Size.TheVariants.{Of, UnknownKind}
 use Rattle.script.specs.Format.{size_of, options_at, filled, input_at, inputs, written, written_all}
-use Rattle.script.specs.Check.{format_at, first, ruled, checked}
+use Rattle.script.specs.Check.{format_at, first, checked}
 use Rattle.script.specs.Whole.{ParsesBack}
-use Rattle.script.specs.declared.check.Rule.TheVariants.{Format}
 use Rattle.records.proofs.Offsets.{each}
 use Rattle.records.proofs.Formats.{Whole, whole, same_size, unknown-size}
 use Rattle.records.proofs.Written.{byte, load, head, two}
@@ -52,7 +51,7 @@ module _ (s : List ℕ) (at : ℕ) where
         pick (eqb kind 1) (power (options_at s at) (filled (payload_at s at 5)))
         (named (event_of kind (word_at s (at + 4)) (payload_at s at 0) (payload_at s at 1) (payload_at s at 2)))
 
-    over : (kind : ℕ) → 6 < kind → size_of (by_kind kind) ≡ UnknownKind
+    over : (kind : ℕ) → 6 < kind → size_of (by_kind kind) ≡ None
     unfolding event_of
     over kind h =
         rw (
@@ -65,11 +64,11 @@ module _ (s : List ℕ) (at : ℕ) where
         ) refl
 
     -- where a size is the record's, what is written of that size is as long as the record
-    by_size : {l : List ℕ} (n : ℕ) → Of n ≡ Of (size_at s at) → (size_at s at ≡ n → l ≡ places (4 + n) here 0) → l ≡ places (4 + size_at s at) here 0
+    by_size : {l : List ℕ} (n : ℕ) → Some n ≡ Some (size_at s at) → (size_at s at ≡ n → l ≡ places (4 + n) here 0) → l ≡ places (4 + size_at s at) here 0
     by_size n e f = f (sym (same_size e)) ∙ ap (λ (n : ℕ). places (4 + n) here 0) (same_size e)
 
     -- it is written as the bytes that it stands in, if the record has its size
-    back : (kind : ℕ) → kind_at s at ≡ kind → size_of (by_kind kind) ≡ Of (size_at s at) → written (by_kind kind) ≡ places (4 + size_at s at) here 0
+    back : (kind : ℕ) → kind_at s at ≡ kind → size_of (by_kind kind) ≡ Some (size_at s at) → written (by_kind kind) ≡ places (4 + size_at s at) here 0
     unfolding event_of written
     back zero k e = absurd (unknown-size e)
     back (suc zero) k e =
@@ -108,16 +107,16 @@ module _ (s : List ℕ) (at : ℕ) where
 
 -- all records from an offset on
 module _ (s : List ℕ) (b : Bytes s) where
-  rest_back : (at : ℕ) → (first (ruled Format s) (offsets_from s at)).number ≡ 0 → written_all (map (input_at s) (offsets_from s at)) ≡ drop at s
+  rest_back : (at : ℕ) → (first (format_at s) (offsets_from s at)).number ≡ 0 → written_all (map (input_at s) (offsets_from s at)) ≡ drop at s
   unfolding written_all format_at
   rest_back =
-      each s (λ (at : ℕ) (l : List ℕ). (first (ruled Format s) (offsets_from s at)).number ≡ 0 → written_all (map (input_at s) l) ≡ drop at s)
+      each s (λ (at : ℕ) (l : List ℕ). (first (format_at s) (offsets_from s at)).number ≡ 0 → written_all (map (input_at s) l) ≡ drop at s)
       (λ at h e. sym (drop_of_length-le s h))
       (λ at h back e.
-      ap (λ (l : List ℕ). written (input_at s at) ++ l) (back (good-after (ruled Format s) s at h e))
-      ∙ record-back s at b (whole (size_of (input_at s at)) s at (good-here (ruled Format s) s at h e)))
+      ap (λ (l : List ℕ). written (input_at s at) ++ l) (back (good-after (format_at s) s at h e))
+      ∙ record-back s at b (whole (size_of (input_at s at)) s at (good-here (format_at s) s at h e)))
 
-  pub exact : (first (ruled Format s) (offsets s)).number ≡ 0 → written_all (inputs s) ≡ s
+  pub exact : (first (format_at s) (offsets s)).number ≡ 0 → written_all (inputs s) ≡ s
   unfolding inputs
   exact e = rest_back 0 e
 

@@ -1,22 +1,20 @@
 -- The reports from an offset on, one record after the other; and the buffer while they are written: the reports so far, those to come
 -- and the bytes after the last are always the same whole. Assumes nothing.
-use Prim.Native.Nat.{ℕ, ◌+◌, ◌*◌, ◌<◌, ◌≤◌}
+use Prim.Native.Nat.{ℕ, ◌+◌, ◌<◌, ◌≤◌}
 use native.Mathlib.Nat.{zero-add}
 use native.Mathlib.Omega.{arith}
 use mathlib.Core.Path.{◌≡◌, refl, sym, ap, ap₂, ◌∙◌}
 use mathlib.Core.Bool.{Bool, true, false}
-use mathlib.Core.List.{List, [], ◌∷◌, ◌++◌, map, append_assoc}
-use lib.ListN.{length, take, drop, length-append, length-map, length-drop, take-append-drop}
+use mathlib.Core.List.{List, [], ◌++◌, map, append_assoc}
+use lib.ListN.{length, take, drop, length-append, length-drop, take-append-drop}
 use lib.Seq.{take_at, drop_at, drop-drop, length-take-le}
 use lib.Dec.{eqb}
 use borrow.Author.Tests.{eq-eqb, ne_eqb, eqb-true, eqb-false, lt-ltb, le-ltb}
 use Rattle.cpu.specs.Range.{valid}
 use Rattle.machine.specs.Machine.{state_of}
 use Rattle.machine.specs.Power.{blank}
-use Rattle.machine.specs.Events.{Input}
 use Rattle.machine.specs.Report.{reported, reporting, report}
 use Rattle.machine.specs.declared.Machine.{Machine}
-use Rattle.machine.proofs.Reports.{report-length}
 use Rattle.records.specs.Records.{size_at, offsets_from}
 use Rattle.script.specs.Format.{input_at, inputs}
 use Rattle.script.specs.Check.{format_at}
@@ -61,19 +59,6 @@ module _ (mask s : List ℕ) (at : ℕ) (m : Machine) where
       go : (t : Bool) → (t ≡ true → format_at s at ≡ 0) → (t ≡ false → format_at s at ≡ 0 → ⊥) → (stepped mask s at m).at ≡ at + 4 + size_at s at
       go true f g = ap (λ (p : Progress). p.at) (stepped-in h (f refl))
       go false f g = absurd (g refl (ap (λ (p : Progress). p.refusal) (sym (stepped-bad h (g refl))) ∙ z))
-
--- 48 bytes for each record
-pub reports-length : (mask : List ℕ) (is : List Input) (m : Machine) → length (reports mask is m) ≡ 48 * length is
-unfolding reports
-reports-length mask [] m = refl
-reports-length mask (i ∷ is) m =
-    let p = length-append (reported (next mask i m)) (reports mask is (next mask i m)) in
-    let q = report-length (next mask i m) in
-    let r = reports-length mask is (next mask i m) in
-    omega arith
-
-pub rest-length : (mask s : List ℕ) (at : ℕ) (m : Machine) → length (rest mask s at m) ≡ 48 * length (offsets_from s at)
-rest-length mask s at m = reports-length mask (map (input_at s) (offsets_from s at)) m ∙ ap (λ (n : ℕ). 48 * n) (length-map (offsets_from s at) (input_at s))
 
 -- what a query leaves where nothing is refused
 pub report-good : (m : Machine) (out : List ℕ) → length out ≡ 48 → valid (state_of m) ≡ true → report m out ≡ reporting 0 (reported m)

@@ -8,16 +8,14 @@ use mathlib.Core.List.{List, [], ◌∷◌}
 use lib.Dec.{leb, eqb}
 use lib.ListN.{length}
 use borrow.Author.Tests.{leb-true}
+use Rattle.std.specs.Prelude.{Some, None}
 use Rattle.rom.specs.Fetching.{sized}
 use Rattle.isa.specs.Choice.{pick}
 use Rattle.cpu.specs.Range.{nibbles, options_ok}
 use Rattle.machine.specs.Events.{Input, power, named, values_ok}
-use Rattle.machine.specs.declared.events.Named.TheVariants.{Known, Unknown}
 use Rattle.records.specs.Records.{kind_at, offsets}
 use Rattle.script.specs.Format.{size_of, input_at}
-use Rattle.script.specs.Check.{refused, unless, first_refused, first, format_at, value_of, choice_of, ruled, checked}
-use Rattle.script.specs.declared.Checked.{Checked}
-use Rattle.script.specs.declared.check.Rule.TheVariants.{Format, Values, Choices}
+use Rattle.script.specs.Check.{refused, unless, first_refused, first, format_at, value_of, choice_of, checked, value_at, choice_at, Checked}
 use Rattle.script.proofs.Checks.{after1, after3, after4, after6, after7, after8, pass9}
 use Rattle.records.proofs.Formats.{format-numbers}
 use Rattle.records.proofs.Offsets.{few}
@@ -58,8 +56,8 @@ format-other s at = format-numbers Other (λ e. omega arith) (λ e. omega arith)
 value-other : (i : Input) → Other (value_of i)
 unfolding value_of
 value-other (power o image) = either (nibbles image) 0 3 (λ e. omega arith) (λ e. omega arith)
-value-other (named (Known e)) = either (values_ok e) 0 3 (λ e. omega arith) (λ e. omega arith)
-value-other (named Unknown) = λ e. omega arith
+value-other (named (Some e)) = either (values_ok e) 0 3 (λ e. omega arith) (λ e. omega arith)
+value-other (named None) = λ e. omega arith
 
 choice-other : (i : Input) → Other (choice_of i)
 unfolding choice_of
@@ -78,8 +76,8 @@ never-nine mask s room h =
     go : (t : Bool) → leb (length s) 65535 ≡ t → Other (first_refused (unless t 6) (after6 mask s room)).number
     go false e = λ n. omega arith
     go true e =
-        or_else (first (ruled Format s) (offsets s)) (after7 mask s room) (first-other (ruled Format s) (format-other s) (offsets s))
+        or_else (first (format_at s) (offsets s)) (after7 mask s room) (first-other (format_at s) (format-other s) (offsets s))
         (or_else (unless (eqb (kind_at s 0) 1) 8) (after8 mask s room) (unless-other (eqb (kind_at s 0) 1) 8 (λ e. omega arith))
-        (or_else (first (ruled Values s) (offsets s)) (after3 mask s room) (first-other (ruled Values s) (λ at. value-other (input_at s at)) (offsets s))
-        (or_else (first (ruled Choices s) (offsets s)) (after4 mask s room) (first-other (ruled Choices s) (λ at. choice-other (input_at s at)) (offsets s))
+        (or_else (first (value_at s) (offsets s)) (after3 mask s room) (first-other (value_at s) (λ at. value-other (input_at s at)) (offsets s))
+        (or_else (first (choice_at s) (offsets s)) (after4 mask s room) (first-other (choice_at s) (λ at. choice-other (input_at s at)) (offsets s))
         (last e))))

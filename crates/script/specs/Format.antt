@@ -1,14 +1,11 @@
 -- A script's records, over a list of bytes: the inputs that they are, and the payload length of each kind. Where records start and what stands in
 -- one is said of all records (records/specs/Records). Assumes nothing.
-use Rattle.std.specs.Prelude.{ℕ, ◌+◌, List, [], ◌∷◌, ◌++◌, map, eqb, get_or, replicate}
+use Rattle.std.specs.Prelude.{ℕ, ◌+◌, List, [], ◌∷◌, ◌++◌, map, eqb, get_or, replicate, Option, Some, None}
 use Rattle.isa.specs.Choice.{pick}
 use Rattle.cpu.specs.declared.Options.{Options}
 use Rattle.machine.specs.Events.{Input, power, named, event_of}
 use Rattle.machine.specs.declared.events.Event.TheVariants.{Run, Pins, Int, Tmclk, Res}
-use Rattle.machine.specs.declared.events.Named.TheVariants.{Known, Unknown}
 use Rattle.records.specs.Records.{word_at, kind_at, payload_at, offsets, two_bytes}
-use Rattle.records.specs.declared.Size.{Size}
-use Rattle.records.specs.declared.Size.TheVariants.{Of, UnknownKind}
 use Rattle.script.specs.declared.Record.{Record}
 use Rattle.script.specs.declared.Record.TheVariants.{Power, Other}
 
@@ -27,14 +24,14 @@ input_at s at =
 
 -- kinds 1 to 6 by what they name, and the payload length of each: "1 power-on: rate, commons, wake PM, PS, PP, one nibble", "2 Run: two-byte step
 -- count", "3 pins: PM, PS, PP. 4 INT: 0 or 1. 6 RES: empty", "5 TMCLK: two-byte count"
-abbrev pub size_of : Input → Size
-size_of (power o image) = Of 6
-size_of (named (Known (Run n))) = Of 2
-size_of (named (Known (Pins pm ps pp))) = Of 3
-size_of (named (Known (Int level))) = Of 1
-size_of (named (Known (Tmclk n))) = Of 2
-size_of (named (Known Res)) = Of 0
-size_of (named Unknown) = UnknownKind
+abbrev pub size_of : Input → Option ℕ
+size_of (power o image) = Some 6
+size_of (named (Some (Run n))) = Some 2
+size_of (named (Some (Pins pm ps pp))) = Some 3
+size_of (named (Some (Int level))) = Some 1
+size_of (named (Some (Tmclk n))) = Some 2
+size_of (named (Some Res)) = Some 0
+size_of (named None) = None
 
 unfoldable pub inputs : List ℕ → List Input
 inputs s = map (input_at s) (offsets s)
@@ -48,12 +45,12 @@ input_of (Other n) = named n
 -- an input as a record's bytes; an unknown kind has no record
 unfoldable pub written : Input → List ℕ
 written (power o image) = two_bytes 6 ++ (two_bytes 1 ++ (o.rate ∷ o.commons ∷ o.pm ∷ o.ps ∷ o.pp ∷ get_or image 0 0 ∷ []))
-written (named (Known (Run n))) = two_bytes 2 ++ (two_bytes 2 ++ two_bytes n)
-written (named (Known (Pins pm ps pp))) = two_bytes 3 ++ (two_bytes 3 ++ (pm ∷ ps ∷ pp ∷ []))
-written (named (Known (Int level))) = two_bytes 1 ++ (two_bytes 4 ++ (level ∷ []))
-written (named (Known (Tmclk n))) = two_bytes 2 ++ (two_bytes 5 ++ two_bytes n)
-written (named (Known Res)) = two_bytes 0 ++ two_bytes 6
-written (named Unknown) = []
+written (named (Some (Run n))) = two_bytes 2 ++ (two_bytes 2 ++ two_bytes n)
+written (named (Some (Pins pm ps pp))) = two_bytes 3 ++ (two_bytes 3 ++ (pm ∷ ps ∷ pp ∷ []))
+written (named (Some (Int level))) = two_bytes 1 ++ (two_bytes 4 ++ (level ∷ []))
+written (named (Some (Tmclk n))) = two_bytes 2 ++ (two_bytes 5 ++ two_bytes n)
+written (named (Some Res)) = two_bytes 0 ++ two_bytes 6
+written (named None) = []
 
 unfoldable pub written_all : List Input → List ℕ
 written_all [] = []

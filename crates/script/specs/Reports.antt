@@ -8,8 +8,7 @@ use Rattle.machine.specs.declared.Machine.{Machine}
 use Rattle.machine.specs.declared.Answer.{Answer}
 use Rattle.records.specs.Records.{end_at}
 use Rattle.script.specs.Format.{input_at, inputs}
-use Rattle.script.specs.Check.{format_at, checked}
-use Rattle.script.specs.declared.Checked.{Checked}
+use Rattle.script.specs.Check.{format_at, checked, Checked}
 use Rattle.script.specs.declared.Progress.{Progress}
 
 -- the machine after an input, which is "as handed in" where the input is refused

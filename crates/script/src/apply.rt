@@ -5,30 +5,27 @@ ghost use Rattle.machine.specs.Machine.{machine_of, trace_of};
 ghost use Rattle.machine.specs.declared.Trace.{Trace};
 ghost use Rattle.machine.specs.Events.{answer_to, named_answer};
 ghost use Rattle.machine.specs.Report.{reported};
-ghost use Rattle.script.specs.Check.{checked};
+ghost use Rattle.script.specs.Check.{checked, told};
 ghost use Rattle.script.specs.Format.{input_of};
 ghost use Rattle.script.specs.Reports.{applied, fronted, leaving, next, reports_of, stepped};
 
 use crate::check::check_script;
-use crate::format::{format_at, record_at};
-use crate::{Checked, Progress, Record};
+use crate::format::{format, read};
+use crate::{Progress, Record, Refused};
 use cpu::Cpu;
 use datapath::memory::MEMORY;
-use machine::events::{Named, happened};
+use machine::events::{Event, happened};
 use machine::power::filled;
 use machine::report::write_report;
 use machine::{Answer, Machine};
-use records::size_at;
+use records::{RawRecord, Records};
 
 // What a machine answers to a record.
 fn answer_to(input: Record, mask: &[u8], machine: Machine) -> Answer
     ensures { result ≡ answer_to mask.now (input_of input) machine }
 {
     match input {
-        Record::Power(options, fill) => {
-            let image = [fill; 166];
-            machine.power_on(options, &image)
-        }
+        Record::Power(options, fill) => machine.power_on(options, &[fill; 166]),
         Record::Other(named) => machine.apply_named(named, mask),
     }
 }
@@ -38,40 +35,42 @@ fn answer_to(input: Record, mask: &[u8], machine: Machine) -> Answer
 pub fn step_record(mask: &[u8], script: &[u8], at: usize, machine: Machine) -> Progress
     ensures { result ≡ stepped mask.now script.now at machine }
 {
-    if script.len() <= at {
+    let Some(raw) = RawRecord::new(script, at) else {
         return Progress {
             refusal: 0,
             at,
             machine,
         };
-    }
-    let refusal = format_at(script, at);
-    if refusal != 0 {
+    };
+    if let Err(refusal) = format(&raw) {
         return Progress {
-            refusal,
+            refusal: refusal.into(),
             at,
             machine,
         };
     }
-    let input = record_at(script, at);
-    let answer = answer_to(input, mask, machine);
-    let after = answer.machine;
-    let size = size_at(script, at);
+    let answer = answer_to(read(&raw), mask, machine);
     Progress {
         refusal: answer.refusal,
-        at: at + 4 + size,
-        machine: after,
+        at: raw.end(),
+        machine: answer.machine,
     }
 }
 
 // What a kind's name makes of a machine whose parts are lent, where nothing is refused.
-fn pass_named(named: Named, cpu: Cpu, mask: &[u8], memory: &mut [u8; MEMORY], gap: &mut u16) -> Cpu
+fn pass_named(
+    named: Option<Event>,
+    cpu: Cpu,
+    mask: &[u8],
+    memory: &mut [u8; MEMORY],
+    gap: &mut u16,
+) -> Cpu
     requires { (named_answer mask.now named (machine_of (state cpu memory.old) (trace_of gap.old))).refusal ≡ 0 }
     ensures { machine_of (state result memory.new) (trace_of gap.new) ≡ (named_answer mask.now named (machine_of (state cpu memory.old) (trace_of gap.old))).machine }
 {
     match named {
-        Named::Known(event) => happened(cpu, event, mask, memory, gap),
-        Named::Unknown => cpu,
+        Some(event) => happened(cpu, event, mask, memory, gap),
+        None => cpu,
     }
 }
 
@@ -100,29 +99,23 @@ fn put_reports(mask: &[u8], script: &[u8], out: &mut [u8])
     requires { (checked mask.now script.now (length out.old)).number ≡ 0 }
     ensures { out.new ≡ fronted (reports_of mask.now script.now) out.old }
 {
-    let mut at = 0;
     let mut done = 0;
     let blank = Machine::blank();
     let mut cpu = blank.cpu;
     let mut memory = blank.memory;
     let mut gap = blank.trace.gap;
-    while at < script.len() {
-        let input = record_at(script, at);
-        cpu = pass(input, cpu, mask, &mut memory, &mut gap);
-        at = at + 4 + size_at(script, at);
+    for raw in Records::new(script) {
+        cpu = pass(read(&raw), cpu, mask, &mut memory, &mut gap);
         put_report(cpu, &memory, out, done);
         done += 48;
     }
 }
 
 // A whole script under a mask: a report for each record, or the refusal, which writes nothing.
-pub fn apply_script(mask: &[u8], script: &[u8], out: &mut [u8]) -> Checked
-    ensures { leaving result out.new ≡ applied mask.now script.now out.old }
+pub fn apply_script(mask: &[u8], script: &[u8], out: &mut [u8]) -> Result<(), Refused>
+    ensures { leaving (told result) out.new ≡ applied mask.now script.now out.old }
 {
-    let answer = check_script(mask, script, out.len());
-    if answer.number != 0 {
-        return answer;
-    }
+    check_script(mask, script, out.len())?;
     put_reports(mask, script, out);
-    answer
+    Ok(())
 }

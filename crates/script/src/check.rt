@@ -1,141 +1,87 @@
 // The whole check of a script, before anything runs.
-ghost use Rattle.std.specs.Prelude.{◌≡◌};
-ghost use Rattle.records.specs.Records.{offsets};
+ghost use Rattle.std.specs.Prelude.{◌≡◌, ℕ, Result, eqb};
+ghost use Rattle.refusals.specs.Numbers.{number_of, refusal_of};
+ghost use Rattle.records.specs.Records.{kind_at, offsets};
 ghost use Rattle.script.specs.Format.{input_of};
-ghost use Rattle.script.specs.Check.{checked, choice_of, first, ruled, value_of};
+ghost use Rattle.script.specs.Check.{Tells, checked, choice_of, first, told, unless, value_of};
 
-use crate::format::{POWER_ON, format_at, record_at};
-use crate::{Checked, Record};
-use machine::events::{Named, values_ok};
+use crate::format::{POWER_ON, format, read};
+use crate::{Record, Refused};
+use machine::events::values_ok;
 use machine::ranges::options_ok;
-use records::{count, kind_at, size_at};
+use records::{RawRecord, Records, count};
+use refusals::Refusal;
 use rom::reader::mask_ok;
 
-// What is judged record by record: 6 and 7, then 3, then 4.
-#[derive(Clone, Copy)]
-pub enum Rule {
-    Format,
-    Values,
-    Choices,
-}
-
-// Refusal 3 of what a kind names, 0 for none.
-fn named_value(named: Named) -> u8
-    ensures { result ≡ value_of (input_of (Record.Other named)) }
-{
-    match named {
-        Named::Known(event) => {
-            if values_ok(event) {
-                return 0;
-            }
-            3
-        }
-        Named::Unknown => 0,
-    }
-}
-
-// Refusal 3 of a record, 0 for none.
-fn value(input: Record) -> u8
-    ensures { result ≡ value_of (input_of input) }
+fn values(input: Record) -> Result<(), Refusal>
+    ensures { refusal_of result ≡ value_of (input_of input) }
 {
     match input {
-        Record::Power(_, fill) => {
-            if 15 < fill {
-                return 3;
-            }
-            0
-        }
-        Record::Other(named) => named_value(named),
+        Record::Power(_, fill) if 15 < fill => Err(Refusal::Value),
+        Record::Other(Some(event)) if !values_ok(event) => Err(Refusal::Value),
+        _ => Ok(()),
     }
 }
 
-// Refusal 4 of a record, 0 for none.
-fn choice(input: Record) -> u8
-    ensures { result ≡ choice_of (input_of input) }
+// Only a power-on has options.
+fn choices(input: Record) -> Result<(), Refusal>
+    ensures { refusal_of result ≡ choice_of (input_of input) }
 {
     match input {
-        Record::Power(options, _) => {
-            if options_ok(options) {
-                return 0;
-            }
-            4
-        }
-        Record::Other(_) => 0,
-    }
-}
-
-// What a rule says of the record at an offset.
-fn judged(rule: Rule, s: &[u8], at: usize) -> u8
-    ensures { result ≡ ruled rule s.now at }
-{
-    match rule {
-        Rule::Format => format_at(s, at),
-        Rule::Values => value(record_at(s, at)),
-        Rule::Choices => choice(record_at(s, at)),
+        Record::Power(options, _) if !options_ok(options) => Err(Refusal::Choice),
+        _ => Ok(()),
     }
 }
 
 // The first record that a rule refuses.
-fn first(rule: Rule, s: &[u8]) -> Checked
-    ensures { result ≡ first (ruled rule s.now) (offsets s.now) }
+fn first<'a, F: Fn(RawRecord<'a>) -> Result<(), Refusal>>(
+    script: &'a [u8],
+    rule: F,
+) -> Result<(), Refused>
+    requires { F.IsAlwaysCallable rule }
+    ensures { (number : ℕ → ℕ) → Tells (F.post rule) script.now number → told result ≡ first number (offsets script.now) }
 {
-    let mut at = 0;
-    while at < s.len() {
-        let number = judged(rule, s, at);
-        if number != 0 {
-            return Checked { number, offset: at };
+    for record in Records::new(script) {
+        if let Err(refusal) = rule(record) {
+            return Err(Refused {
+                refusal,
+                offset: record.at,
+            });
         }
-        at = at + 4 + size_at(s, at);
     }
-    Checked {
-        number: 0,
-        offset: 0,
+    Ok(())
+}
+
+// A refusal of the whole script, unless the test holds.
+fn unless(holds: bool, refusal: Refusal) -> Result<(), Refused>
+    ensures { told result ≡ unless holds (number_of refusal) }
+{
+    if holds {
+        return Ok(());
+    }
+    Err(Refused { refusal, offset: 0 })
+}
+
+// Whether the first record is a power-on.
+fn starts(script: &[u8]) -> bool
+    ensures { result ≡ eqb (kind_at script.now 0) 1 }
+{
+    match RawRecord::new(script, 0) {
+        Some(raw) => raw.kind() == POWER_ON,
+        None => false,
     }
 }
 
+#[tactic(auto, using(crate::proofs::Checks::stopped, crate::proofs::Checks::thens, records::proofs::Offsets::few), unfolding(crate::specs::Check::checked))]
 // The check: `room` is the length of the report buffer.
-pub fn check_script(mask: &[u8], script: &[u8], room: usize) -> Checked
-    ensures { result ≡ checked mask.now script.now room }
+pub fn check_script(mask: &[u8], script: &[u8], room: usize) -> Result<(), Refused>
+    ensures { told result ≡ checked mask.now script.now room }
 {
-    if !mask_ok(mask) {
-        return Checked {
-            number: 1,
-            offset: 0,
-        };
-    }
-    if 65535 < script.len() {
-        return Checked {
-            number: 6,
-            offset: 0,
-        };
-    }
-    let format = first(Rule::Format, script);
-    if format.number != 0 {
-        return format;
-    }
-    if kind_at(script, 0) != POWER_ON {
-        return Checked {
-            number: 8,
-            offset: 0,
-        };
-    }
-    let values = first(Rule::Values, script);
-    if values.number != 0 {
-        return values;
-    }
-    let choices = first(Rule::Choices, script);
-    if choices.number != 0 {
-        return choices;
-    }
-    let n = count(script);
-    if room < 48 * n {
-        return Checked {
-            number: 9,
-            offset: 0,
-        };
-    }
-    Checked {
-        number: 0,
-        offset: 0,
-    }
+    unless(mask_ok(mask), Refusal::Mask)?;
+    unless(script.len() <= 65535, Refusal::Format)?;
+    first(script, |raw| format(&raw))?;
+    unless(starts(script), Refusal::Start)?;
+    first(script, |raw| values(read(&raw)))?;
+    first(script, |raw| choices(read(&raw)))?;
+    unless(48 * count(script) <= room, Refusal::Room)
 }

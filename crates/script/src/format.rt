@@ -1,90 +1,74 @@
-// A script's records: the input at an offset, and the payload length of each kind.
-ghost use Rattle.std.specs.Prelude.{◌≡◌, List, ℕ};
+// A script's records: what each is, and the payload length of each kind.
+ghost use Rattle.std.specs.Prelude.{◌≡◌, List, ℕ, Some};
+ghost use Rattle.refusals.specs.Numbers.{refusal_of};
 ghost use Rattle.records.specs.Records.{kind_at};
 ghost use Rattle.script.specs.Check.{format_at};
 ghost use Rattle.script.specs.Format.{input_at, input_of, options_at, size_of};
 
 use crate::Record;
 use cpu::Options;
-use machine::events::{Event, Named, event_of};
-use records::{Size, cut_off, kind_at, payload_at, size_at, size_refusal};
+use machine::events::{Event, event_of};
+use records::{RawRecord, size_refusal};
+use refusals::Refusal;
 
 // The kind of a power-on. The others are the machine's events.
 pub(crate) const POWER_ON: u16 = 1;
 
-fn options_at(s: &[u8], at: usize) -> Options
-    ensures { result ≡ options_at s.now at }
+fn options_of(raw: &RawRecord) -> Options
+    ensures { result ≡ options_at raw.now.bytes.now raw.now.at }
 {
-    let rate = payload_at(s, at, 0);
-    let commons = payload_at(s, at, 1);
-    let pm = payload_at(s, at, 2);
-    let ps = payload_at(s, at, 3);
-    let pp = payload_at(s, at, 4);
     Options {
-        rate,
-        commons,
-        pm,
-        ps,
-        pp,
+        rate: raw.payload(0),
+        commons: raw.payload(1),
+        pm: raw.payload(2),
+        ps: raw.payload(3),
+        pp: raw.payload(4),
     }
 }
 
-// The record at an offset.
-pub(crate) fn record_at(s: &[u8], at: usize) -> Record
-    ensures { input_of result ≡ input_at s.now at }
+pub(crate) fn read(raw: &RawRecord) -> Record
+    ensures { input_of result ≡ input_at raw.now.bytes.now raw.now.at }
 {
-    let kind = kind_at(s, at);
+    let kind = raw.kind();
     if kind == POWER_ON {
-        let options = options_at(s, at);
-        let fill = payload_at(s, at, 5);
-        return Record::Power(options, fill);
+        return Record::Power(options_of(raw), raw.payload(5));
     }
-    let a = payload_at(s, at, 0);
-    let b = payload_at(s, at, 1);
-    let c = payload_at(s, at, 2);
-    let count = a as u16 + 256 * b as u16; // of the bytes at hand: read as a word a record takes 18 instructions more
+    let a = raw.payload(0);
+    let b = raw.payload(1);
+    let c = raw.payload(2);
+    let count = u16::from_le_bytes([a, b]); // of the bytes at hand: read as a word a record takes 18 instructions more
     Record::Other(event_of(kind, count, a, b, c))
 }
 
 // The payload length that an event has.
-fn event_size(event: Event) -> Size
-    ensures { result ≡ size_of (input_of (Record.Other (Named.Known event))) }
+fn event_size(event: Event) -> u16
+    ensures { Some result ≡ size_of (input_of (Record.Other (Some event))) }
 {
     match event {
-        Event::Run(_) => Size::Of(2),
-        Event::Pins(_, _, _) => Size::Of(3),
-        Event::Int(_) => Size::Of(1),
-        Event::Tmclk(_) => Size::Of(2),
-        Event::Res => Size::Of(0),
+        Event::Run(_) => 2,
+        Event::Pins(_, _, _) => 3,
+        Event::Int(_) => 1,
+        Event::Tmclk(_) => 2,
+        Event::Res => 0,
     }
 }
 
-fn named_size(named: Named) -> Size
-    ensures { result ≡ size_of (input_of (Record.Other named)) }
-{
-    match named {
-        Named::Known(event) => event_size(event),
-        Named::Unknown => Size::UnknownKind,
-    }
-}
-
-// The payload length that a kind has, whatever stands in the payload.
-fn size_of(kind: u16) -> Size
+// The payload length that a kind has, whatever stands in the payload; none of an unknown kind.
+fn size_of(kind: u16) -> Option<u16>
     ensures { (s : List ℕ) (at : ℕ) → kind ≡ kind_at s at → result ≡ size_of (input_at s at) }
 {
     if kind == POWER_ON {
-        return Size::Of(6);
+        return Some(6);
     }
-    named_size(event_of(kind, 0, 0, 0, 0))
+    Some(event_size(event_of(kind, 0, 0, 0, 0)?))
 }
 
-// Refusal 6 or 7 of the record at an offset, 0 for none.
-pub(crate) fn format_at(s: &[u8], at: usize) -> u8
-    ensures { result ≡ format_at s.now at }
+// Whether a record's bytes are there, and as many as its kind has.
+pub(crate) fn format(raw: &RawRecord) -> Result<(), Refusal>
+    ensures { refusal_of result ≡ format_at raw.now.bytes.now raw.now.at }
 {
-    if cut_off(s, at) {
-        return 6;
+    if raw.is_cut_off() {
+        return Err(Refusal::Format);
     }
-    let size = size_of(kind_at(s, at));
-    size_refusal(size, size_at(s, at))
+    size_refusal(size_of(raw.kind()), raw.size())
 }

@@ -2,14 +2,17 @@
 ghost use Rattle.std.specs.Prelude.{◌≡◌, ◌<◌, get_or, length};
 ghost use Rattle.script.specs.Hex.{digit, hex_line};
 
+use std::array;
+
+// `mnemonic` has one for its lines; no crate of texts stands below a script.
 fn digit(d: u8) -> u8
     requires { d < 16 }
     ensures { result ≡ digit d }
 {
     if d < 10 {
-        return 48 + d;
+        return b'0' + d;
     }
-    55 + d
+    b'A' + (d - 10)
 }
 
 // Character `i` of the line.
@@ -18,7 +21,7 @@ fn line_byte(report: &[u8], i: usize) -> u8
     ensures { result ≡ get_or (hex_line report.now) i 0 }
 {
     if i == 96 {
-        return 10;
+        return b'\n';
     }
     let x = report[i / 2];
     if i % 2 == 0 {
@@ -30,11 +33,5 @@ fn line_byte(report: &[u8], i: usize) -> u8
 pub fn hex_line(report: [u8; 48]) -> [u8; 97]
     ensures { result ≡ hex_line report }
 {
-    let mut line = [0u8; 97];
-    let mut i = 0;
-    while i < 97 {
-        line[i] = line_byte(&report, i);
-        i += 1;
-    }
-    line
+    array::from_fn(|i| line_byte(&report, i))
 }

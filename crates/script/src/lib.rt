@@ -8,23 +8,33 @@ pub mod hex;
 
 use cpu::Options;
 use machine::Machine;
-use machine::events::Named;
+use machine::events::Event;
+use refusals::Refusal;
+use std::fmt;
 
-// A script's record: a power-on with its options and the nibble that fills the image, or what another kind names.
+// A script's record: a power-on with its options and the nibble that fills the image, or the event that another kind names.
 #[derive(Clone, Copy)]
 pub enum Record {
     Power(Options, u8),
-    Other(Named),
+    Other(Option<Event>),
 }
 
-// The check's answer: document 01's refusal number, 0 for none, and the offset that goes with it.
-#[derive(Clone, Copy)]
-pub struct Checked {
-    pub number: u8,
+// Why a script is refused, and the offset that goes with it.
+#[derive(Clone, Copy, Debug, PartialEq, Eq)]
+pub struct Refused {
+    pub refusal: Refusal,
     pub offset: usize,
 }
 
-// The refusal of a record, 0 for none; where the next one starts, and the machine that it gets.
+// As the programs print it.
+impl fmt::Display for Refused {
+    fn fmt<W: fmt::Write>(&self, f: &mut fmt::Formatter<W>) -> fmt::Result {
+        write!(f, "{} at {}", self.refusal, self.offset)
+    }
+}
+
+// The refusal of a record, 0 for none; where the next one starts, and the machine that it gets. A record that its machine refuses is passed
+// all the same, so this is no Result.
 #[derive(Clone, Copy)]
 pub struct Progress {
     pub refusal: u8,

@@ -10,13 +10,13 @@ use Rattle.assembler.proofs.assemble.assemble.Goals as goal
 -- the result is not 4,096 bytes
 pub returns-then-out-ne-MASK : goal.returns-then-out-ne-MASK
 unfolding answered
-returns-then-out-ne-MASK c = refusing 2 0 (answered c.args.text.now c.args.out.now) c.args.out.now
+returns-then-out-ne-MASK c = refusing (answered c.args.text.now c.args.out.now) c.args.out.now _ 2 refl
     (rw (ne_eqb (length c.args.out.now) rom_size c.if-out-ne-MASK.true) refl)
 
 -- the text is too long
 pub returns-then-text-gt65535 : goal.returns-then-text-gt65535
 unfolding answered assembled
-returns-then-text-gt65535 c = refusing 12 1 (answered c.args.text.now c.args.out.now) c.args.out.now
+returns-then-text-gt65535 c = refusing (answered c.args.text.now c.args.out.now) c.args.out.now _ 12 refl
     (rw (eq-eqb (length c.args.out.now) rom_size c.if-out-ne-MASK.false, lt-ltb 65535 (length c.args.text.now) c.if-text-gt65535.true) refl)
 
 pub returns : goal.returns

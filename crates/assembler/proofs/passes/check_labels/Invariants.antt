@@ -4,7 +4,7 @@ use Rattle.assembler.proofs.Checking.{Checking}
 use Rattle.assembler.proofs.passes.check_labels.Given as goal
 
 abbrev pub invariant-loop-l : goal.invariant-loop-l
-invariant-loop-l l = Checking l.text l.at l.number l.count
+invariant-loop-l l = Checking l.labels.text.now l.at l.number l.count
 
 abbrev pub decreases-loop-l : goal.decreases-loop-l
-decreases-loop-l l = length l.text - l.at
+decreases-loop-l l = length l.labels.text.now - l.at

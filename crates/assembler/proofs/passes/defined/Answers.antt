@@ -1,15 +1,14 @@
 -- `assembler::passes::defined` meets its contract. Assumes nothing.
-use Prim.Native.Nat.{ℕ}
-use mathlib.Core.Path.{sym, ap, ◌∙◌}
-use lib.Dec.{ltb}
-use Rattle.operand.specs.Words.{place}
-use Rattle.operand.specs.Read.{names_at, word_at}
-use Rattle.operand.proofs.Places.{names-count}
+use Rattle.std.proofs.Common.{ap, ◌∙◌}
+use Rattle.std.specs.Prelude.{is_some}
+use Rattle.operand.specs.Words.{among}
+use Rattle.operand.specs.Read.{names_of, word_at}
+use Rattle.operand.proofs.Scans.{found, is-found}
 use Rattle.assembler.proofs.passes.defined.Goals as goal
 
-pub returns-then-labelled : goal.returns-then-labelled
-returns-then-labelled c = let names = names_at c.args.text.now c.args.starts.now c.args.count in
-    rw c.if-labelled.true
-    (ap (λ (k : ℕ). ltb k c.args.count) c.find.ensures
-    ∙ ap (λ (n : ℕ). ltb (place names (word_at c.args.text.now c.args.label)) n)
-    (sym (names-count c.args.text.now c.args.starts.now c.args.count c.requires)))
+pub returns-in-Some : goal.returns-in-Some
+returns-in-Some c =
+    let names = names_of c.args.text.now c.args.above.now in
+    let w = c.word.result.now in
+    rw c.in-Some.is (c.is_some.ensures ∙ ap is_some (c.find.ensures ∙ found (word_at c.args.text.now) w c.args.above.now)
+    ∙ is-found names w ∙ ap (among names) c.word.ensures)

@@ -5,9 +5,9 @@ use Rattle.assembler.specs.Program.{end, program, put, start}
 use Rattle.assembler.proofs.Settling.{Writing}
 use Rattle.assembler.proofs.passes.write_lines.Given as goal
 
-abbrev pub invariant-loop-all : goal.invariant-loop-all
-invariant-loop-all l =
-    Writing l.text l.out l.at l.count l.address (put (end start (program l.text)) start (program l.text) l.initial.out) × (length l.out ≡ length l.initial.out)
+abbrev pub invariant-loop-l : goal.invariant-loop-l
+invariant-loop-l l =
+    Writing l.labels.text.now l.out l.at l.count l.address (put (end start (program l.labels.text.now)) start (program l.labels.text.now) l.initial.out) × (length l.out ≡ length l.initial.out)
 
-abbrev pub decreases-loop-all : goal.decreases-loop-all
-decreases-loop-all l = length l.text - l.at
+abbrev pub decreases-loop-l : goal.decreases-loop-l
+decreases-loop-l l = length l.labels.text.now - l.at

@@ -1,7 +1,5 @@
-use Prim.Native.Nat.{◌-◌}
 use mathlib.Core.Path.{◌≡◌}
 use mathlib.Core.Bool.{true}
-use Rattle.isa.specs.Code.{addresses}
 use Rattle.rom.specs.Fetching.{Bytes, sized}
 use Rattle.checker.specs.Verdicts.{Marked, Safe}
 use Rattle.bound.proofs.Filling.{Filling}
@@ -10,6 +8,3 @@ use Rattle.bound.proofs.bounds.fill.Given as goal
 abbrev pub invariant-loop-address : goal.invariant-loop-address
 invariant-loop-address l =
     (bytes : Bytes l.mask) (size : sized l.mask ≡ true) (marked : Marked l.mask l.marks) (safe : Safe l.mask) → Filling l.mask l.marks bytes size marked safe l.list l.found l.address
-
-abbrev pub decreases-loop-address : goal.decreases-loop-address
-decreases-loop-address l = addresses - l.address

@@ -19,11 +19,5 @@ loop-place-init c = best-start c.args.list.now
 pub bounds-list-best : goal.bounds-list-best
 bounds-list-best c = omega (arith, c.loop-place.invariant.start, c.loop-place-test.true)
 
-pub overflow_add-place : goal.overflow_add-place
-overflow_add-place c = omega (arith, c.loop-place-test.true)
-
-pub loop-place-smaller : goal.loop-place-smaller
-loop-place-smaller c = omega (arith, c.loop-place-test.true)
-
 pub returns : goal.returns
 returns c = best-end c.args.list.now c.loop-place.best c.loop-place.place c.loop-place.invariant c.loop-place-test.false

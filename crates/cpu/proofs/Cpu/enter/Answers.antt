@@ -1,18 +1,13 @@
--- `cpu::Cpu::enter` meets its contract: the cycles go by on the processor that the code makes. Assumes nothing.
-use Rattle.std.proofs.Common.{◌≡◌, ℕ, Bool, true, false, eqb, refl, ap, ◌∙◌, ap₂}
-use Rattle.isa.specs.Choice.{pick}
-use Rattle.cpu.specs.State.{with_held, with_tf}
-use Rattle.cpu.specs.Step.{entered}
-use Rattle.cpu.specs.declared.Cpu.{Cpu}
+-- `cpu::Cpu::enter` meets its contract: by the vector, one flag or the other is cleared. Assumes nothing.
+use Rattle.std.proofs.Common.{refl, ap, ◌∙◌, eq-eqb, ne_eqb}
+use Rattle.cpu.specs.Step.{entered, ticked}
 use Rattle.cpu.proofs.Cpu.enter.Goals as goal
-
--- what is not cleared is as it was
-cleared : (c : Cpu) (edge : Bool) → with_held (pick edge 0 c.interrupts.held) (with_tf (pick edge c.control.tf 0) c) ≡ pick edge (with_held 0 c) (with_tf 0 c)
-cleared c true = refl
-cleared c false = refl
+use Rattle.cpu.proofs.Cpu.enter.Goals.{then-vector-eq8, else-vector-eq8}
 
 pub returns : goal.returns
 unfolding entered
 returns c =
-    c.tick.ensures
-    ∙ ap (entered c.args.vector) (ap₂ (λ (h t : ℕ). with_held h (with_tf t c.args.self)) c.chosen-held.ensures c.chosen-tf.ensures ∙ cleared c.args.self (eqb c.args.vector 8))
+    elim c.if-vector-eq8.branch [
+      | then-vector-eq8 w ↦ c.tick.ensures ∙ ap (ticked 2) w.self-is ∙ rw (eq-eqb _ 8 w.if-vector-eq8.true) refl
+      | else-vector-eq8 w ↦ c.tick.ensures ∙ ap (ticked 2) w.self-is ∙ rw (ne_eqb _ 8 w.if-vector-eq8.false) refl
+    ]

@@ -1,23 +1,19 @@
--- `glass::draw::row` meets its contract: the nibbles of a digit are its halves. Assumes nothing.
-use Prim.Native.Nat.{ℕ, ◌/◌, ◌%◌, ◌<◌}
-use mathlib.Core.Path.{◌≡◌, refl, ap, ap₂, ◌∙◌}
-use mathlib.Core.Bool.{Bool}
-use mathlib.Core.List.{List, [], ◌∷◌}
+-- `glass::draw::row` meets its contract: the nibbles of a digit are its halves.
+use Rattle.std.proofs.Common.{ℕ, ◌≡◌, ◌/◌, ◌%◌, ◌<◌, List, [], ◌∷◌, ap, ◌∙◌, refl}
 use Rattle.glass.specs.Shapes.{Cell}
-use Rattle.glass.specs.Walk.{byte_of, placed}
+use Rattle.glass.specs.Walk.{byte_of}
 use Rattle.glass.proofs.Cells.{low, high, placed-small}
 use Rattle.glass.proofs.draw.row.Goals as goal
 
--- a digit, and what follows it
-more : (minus : Bool) (size count n after x : ℕ) (rest others : List ℕ) → x ≡ byte_of (placed minus size count n after) → rest ≡ others → x % 16 ∷ x / 16 ∷ rest ≡ (placed minus size count n after).abcd ∷ (placed minus size count n after).efgp ∷ others
-more minus size count n after x rest others e r =
-    let k : Cell = placed minus size count n after in
-    let s : k.abcd < 16 = placed-small minus size count n after in
-    ap₂ {C = List ℕ} (λ (a b : ℕ). a ∷ b ∷ rest) (ap (λ (y : ℕ). y % 16) e ∙ low k s) (ap (λ (y : ℕ). y / 16) e ∙ high k s)
-    ∙ ap {B = List ℕ} (λ (t : List ℕ). k.abcd ∷ k.efgp ∷ t) r
+more : (k : Cell) (x : ℕ) (rest others : List ℕ) → k.abcd < 16 → x ≡ byte_of k → rest ≡ others → x % 16 ∷ x / 16 ∷ rest ≡ k.abcd ∷ k.efgp ∷ others
+more k x rest others h e r =
+    let low : x % 16 ≡ k.abcd = ap (λ y. y % 16) e ∙ low k h in
+    let high : x / 16 ≡ k.efgp = ap (λ y. y / 16) e ∙ high k h in
+    cc
 
 pub returns : goal.returns
-returns c = more c.args.minus c.args.size c.args.places c.args.n 3 c.place-first.result _ _ c.place-first.ensures
-    (more c.args.minus c.args.size c.args.places c.args.n 2 c.place-second.result _ _ c.place-second.ensures
-    (more c.args.minus c.args.size c.args.places c.args.n 1 c.place-third.result _ _ c.place-third.ensures
-    (more c.args.minus c.args.size c.args.places c.args.n 0 c.place-last.result [] [] c.place-last.ensures refl)))
+returns c =
+    more _ _ _ _ (placed-small c.args.figure 3) c.place-first.ensures
+    (more _ _ _ _ (placed-small c.args.figure 2) c.place-second.ensures
+    (more _ _ _ _ (placed-small c.args.figure 1) c.place-third.ensures
+    (more _ _ [] [] (placed-small c.args.figure 0) c.place-last.ensures refl)))

@@ -18,12 +18,12 @@ unmasked mask (Int level) quiet = refl
 unmasked mask (Tmclk n) quiet = refl
 unmasked mask Res quiet = refl
 
-pub returns-then-refusal-ne0 : goal.returns-then-refusal-ne0
+pub returns-in-Err : goal.returns-in-Err
 unfolding applied
-returns-then-refusal-ne0 c mask no_run no-res =
-    refused c.refusal-refusal.result {k = refusal_of mask c.args.event c.args.self} (happened mask c.args.event c.args.self) c.args.self c.if-refusal-ne0.true (c.refusal-refusal.ensures mask c.args.self.trace (unmasked mask c.args.event no_run))
+returns-in-Err c mask no_run no-res =
+    refused c.in-Err.refusal {k = refusal_of mask c.args.event c.args.self} (happened mask c.args.event c.args.self) c.args.self c.from.ensures (c.in-Err.ensures mask c.args.self.trace (unmasked mask c.args.event no_run))
 
 pub returns : goal.returns
 unfolding applied
 returns c mask no_run no-res =
-    done c.refusal-refusal.result {k = refusal_of mask c.args.event c.args.self} (happened mask c.args.event c.args.self) c.args.self c.if-refusal-ne0.false (c.refusal-refusal.ensures mask c.args.self.trace (unmasked mask c.args.event no_run)) (c.changed-next.ensures mask c.args.self.memory c.args.self.trace no_run no-res)
+    done {k = refusal_of mask c.args.event c.args.self} (happened mask c.args.event c.args.self) c.args.self (c.in_default.ensures mask c.args.self.trace (unmasked mask c.args.event no_run)) (c.changed-next.ensures mask c.args.self.memory c.args.self.trace no_run no-res)

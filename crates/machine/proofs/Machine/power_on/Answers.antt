@@ -26,17 +26,17 @@ whole o image e = go (eqb (length image) 166) (eqb-true (length image) 166) e
     go true f z = f refl
     go false f z = absurd (omega arith)
 
-pub returns-then-refusal-ne0 : goal.returns-then-refusal-ne0
+pub returns-in-Err : goal.returns-in-Err
 unfolding power_on
-returns-then-refusal-ne0 c =
-    refused c.power_refusal-refusal.result (powered c.args.options c.args.image.now) c.args.self c.if-refusal-ne0.true c.power_refusal-refusal.ensures
+returns-in-Err c =
+    refused c.in-Err.refusal (powered c.args.options c.args.image.now) c.args.self c.from.ensures c.in-Err.ensures
 
 pub powered-next-requires : goal.powered-next-requires
 powered-next-requires c =
-    whole c.args.options c.args.image.now (sym c.power_refusal-refusal.ensures ∙ c.if-refusal-ne0.false)
+    whole c.args.options c.args.image.now (sym c.in_default.ensures)
 
 pub returns : goal.returns
 unfolding power_on
 returns c =
-    done c.power_refusal-refusal.result (powered c.args.options c.args.image.now) c.args.self c.if-refusal-ne0.false c.power_refusal-refusal.ensures
+    done (powered c.args.options c.args.image.now) c.args.self c.in_default.ensures
     (ap (λ (t : Trace). machine_of (state c.powered-next.result c.powered-next.new.memory) t) c.no_trace-self.ensures ∙ c.powered-next.ensures)

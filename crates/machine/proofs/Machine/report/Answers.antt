@@ -9,11 +9,11 @@ pub returns-then-out-ne48 : goal.returns-then-out-ne48
 unfolding report
 returns-then-out-ne48 c = rw (ne_eqb _ 48 c.if-out-ne48.true) refl
 
-pub returns-then-sound : goal.returns-then-sound
+pub returns-then-not-sound : goal.returns-then-not-sound
 unfolding report
-returns-then-sound c =
-    ap (reporting 0) (c.write_report.ensures no_trace) ∙ rw (eq-eqb _ 48 c.if-out-ne48.false, sym c.sound.ensures ∙ c.if-sound.true) refl
+returns-then-not-sound c = rw (eq-eqb _ 48 c.if-out-ne48.false, sym c.sound.ensures ∙ c.if-not-sound.true) refl
 
 pub returns : goal.returns
 unfolding report
-returns c = rw (eq-eqb _ 48 c.if-out-ne48.false, sym c.sound.ensures ∙ c.if-sound.false) refl
+returns c =
+    ap (reporting 0) (c.write_report.ensures no_trace) ∙ rw (eq-eqb _ 48 c.if-out-ne48.false, sym c.sound.ensures ∙ c.if-not-sound.false) refl

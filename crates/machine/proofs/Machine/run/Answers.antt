@@ -8,12 +8,12 @@ use Rattle.machine.specs.declared.events.Event.TheVariants.{Run}
 use Rattle.machine.proofs.Answers.{refused, done}
 use Rattle.machine.proofs.Machine.run.Goals as goal
 
-pub returns-then-judged-ne0 : goal.returns-then-judged-ne0
+pub returns-in-Err : goal.returns-in-Err
 unfolding applied
-returns-then-judged-ne0 c =
-    refused c.run_refusal-judged.result {k = refusal_of c.args.mask.now (Run c.args.n) c.args.self} (happened c.args.mask.now (Run c.args.n) c.args.self) c.args.self c.if-judged-ne0.true (c.run_refusal-judged.ensures c.args.n c.args.self.trace)
+returns-in-Err c =
+    refused c.in-Err.judged {k = refusal_of c.args.mask.now (Run c.args.n) c.args.self} (happened c.args.mask.now (Run c.args.n) c.args.self) c.args.self c.from.ensures (c.in-Err.ensures c.args.n c.args.self.trace)
 
 pub returns : goal.returns
 unfolding applied happened
 returns c =
-    done c.run_refusal-judged.result {k = refusal_of c.args.mask.now (Run c.args.n) c.args.self} (happened c.args.mask.now (Run c.args.n) c.args.self) c.args.self c.if-judged-ne0.false (c.run_refusal-judged.ensures c.args.n c.args.self.trace) (ap₂ (λ (s : State) (n : ℕ). machine_of s (trace_of n)) c.run-cpu.ensures.memory_after c.run-cpu.ensures.gap_after)
+    done {k = refusal_of c.args.mask.now (Run c.args.n) c.args.self} (happened c.args.mask.now (Run c.args.n) c.args.self) c.args.self (c.in_default.ensures c.args.n c.args.self.trace) (ap₂ (λ (s : State) (n : ℕ). machine_of s (trace_of n)) c.run-cpu.ensures.memory_after c.run-cpu.ensures.gap_after)

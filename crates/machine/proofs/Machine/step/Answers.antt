@@ -18,12 +18,12 @@ once : (mask : List ℕ) (s : State) → strays_by mask s ≡ strays_in mask 1 s
 unfolding yielded
 once mask s = sym (add-zero (strays_by mask s))
 
-pub returns-then-refusal-ne0 : goal.returns-then-refusal-ne0
+pub returns-in-Err : goal.returns-in-Err
 unfolding applied happened ran
-returns-then-refusal-ne0 c =
-    refused c.run_refusal-refusal.result {k = refusal_of c.args.mask.now (Run 1) c.args.self} (happened c.args.mask.now (Run 1) c.args.self) c.args.self c.if-refusal-ne0.true (c.run_refusal-refusal.ensures 1 c.args.self.trace)
+returns-in-Err c =
+    refused c.in-Err.refusal {k = refusal_of c.args.mask.now (Run 1) c.args.self} (happened c.args.mask.now (Run 1) c.args.self) c.args.self c.from.ensures (c.in-Err.ensures 1 c.args.self.trace)
 
 pub returns : goal.returns
 unfolding applied happened ran
 returns c =
-    done c.run_refusal-refusal.result {k = refusal_of c.args.mask.now (Run 1) c.args.self} (happened c.args.mask.now (Run 1) c.args.self) c.args.self c.if-refusal-ne0.false (c.run_refusal-refusal.ensures 1 c.args.self.trace) (ap₂ (λ (s : State) (n : ℕ). machine_of s (trace_of n)) c.step-next.ensures.memory_after (c.step-next.ensures.gap_after ∙ ap (tallied c.args.self.trace.gap) (once c.args.mask.now (state_of c.args.self))))
+    done {k = refusal_of c.args.mask.now (Run 1) c.args.self} (happened c.args.mask.now (Run 1) c.args.self) c.args.self (c.in_default.ensures 1 c.args.self.trace) (ap₂ (λ (s : State) (n : ℕ). machine_of s (trace_of n)) c.step-next.ensures.memory_after (c.step-next.ensures.gap_after ∙ ap (tallied c.args.self.trace.gap) (once c.args.mask.now (state_of c.args.self))))

@@ -31,12 +31,12 @@ end : (s : List ℕ) (i top : ℕ) → length s ≤ i → nibbles s ≡ ltb top 
 unfolding nibbles
 end s i top h p = sym (p ∙ rw (drop_of_length-le s h) (alone (ltb top 16)))
 
-pub loop-i-init : goal.loop-i-init
-loop-i-init c = (omega arith, refl)
+pub loop-x-init : goal.loop-x-init
+loop-x-init c = refl
 
-pub loop-i-preserved : goal.loop-i-preserved
-loop-i-preserved c =
-    (omega arith, more c.args.s.now c.loop-i.i c.loop-i.top c.larger-top.result c.loop-i-test.true c.loop-i.invariant.1 c.larger-top.ensures)
+pub loop-x-preserved : goal.loop-x-preserved
+loop-x-preserved c =
+    more c.args.s.now c.loop-x.x-index c.loop-x.top c.larger-top.result (omega arith) c.loop-x.invariant c.larger-top.ensures
 
 pub returns : goal.returns
-returns c = end c.args.s.now c.loop-i.i c.loop-i.top c.loop-i-test.false c.loop-i.invariant.1
+returns c = end c.args.s.now c.loop-x.x-index c.loop-x.top (omega arith) c.loop-x.invariant

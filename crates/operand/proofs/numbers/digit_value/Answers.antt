@@ -1,38 +1,26 @@
 -- `operand::numbers::digit_value` meets its contract. Assumes nothing.
-use mathlib.Core.Path.{refl, sym, ◌∙◌}
-use borrow.Author.Tests.{le-leb, lt-leb}
-use Rattle.operand.specs.Words.{digit_value}
-use Rattle.operand.proofs.Digits.{digit-over}
+use Rattle.std.proofs.Common.{arith, sym, ◌∙◌}
+use Rattle.operand.proofs.Digits.{a_digit, above_digits, below_digits, between_digits, decimal-digit, letter-digit, no-digit}
+use Rattle.operand.proofs.numbers.digit_value.Goals.{in-48-to-57, in-65-to-70}
 use Rattle.operand.proofs.numbers.digit_value.Goals as goal
 
-pub overflow_sub-result : goal.overflow_sub-result
-overflow_sub-result c = digit-over c.args.c (sym c.is_digit.ensures ∙ c.if-is_digit.true)
+pub returns-in_default : goal.returns-in_default
+returns-in_default c = below_digits c.args.c c.args.base c.requires (omega arith)
 
-pub returns-then-is_digit : goal.returns-then-is_digit
-unfolding digit_value
-returns-then-is_digit c = rw (sym c.is_digit.ensures ∙ c.if-is_digit.true) refl
+pub returns-in_default-2 : goal.returns-in_default-2
+returns-in_default-2 c = between_digits c.args.c c.args.base c.requires (omega arith) (omega arith)
 
-pub returns-then-c-lt65 : goal.returns-then-c-lt65
-unfolding digit_value
-returns-then-c-lt65 c =
-    rw (sym c.is_digit.ensures ∙ c.if-is_digit.false, lt-leb 65 c.args.c c.if-c-lt65.true) refl
+pub returns-in_default-3 : goal.returns-in_default-3
+returns-in_default-3 c = above_digits c.args.c c.args.base c.requires (omega arith)
 
-pub returns-then-c-gt70 : goal.returns-then-c-gt70
-unfolding digit_value
-returns-then-c-gt70 c =
-    rw (
-      sym c.is_digit.ensures ∙ c.if-is_digit.false,
-      le-leb 65 c.args.c c.if-c-lt65.false,
-      lt-leb c.args.c 70
-          c.if-c-gt70.true,
-    ) refl
+pub returns-then-value-base : goal.returns-then-value-base
+returns-then-value-base c = elim c.if-c-lt58.branch [
+  | in-48-to-57 w ↦ a_digit c.args.c c.args.base _ (decimal-digit c.args.c (omega arith) (omega arith) ∙ sym w.value-is) (omega arith)
+  | in-65-to-70 w ↦ a_digit c.args.c c.args.base _ (letter-digit c.args.c (omega arith) (omega arith) ∙ sym w.value-is) (omega arith)
+]
 
-pub returns : goal.returns
-unfolding digit_value
-returns c =
-    rw (
-      sym c.is_digit.ensures ∙ c.if-is_digit.false,
-      le-leb 65 c.args.c c.if-c-lt65.false,
-      le-leb c.args.c 70
-          c.if-c-gt70.false,
-    ) refl
+pub returns-else-value-base : goal.returns-else-value-base
+returns-else-value-base c = elim c.if-c-lt58.branch [
+  | in-48-to-57 w ↦ no-digit c.args.c c.args.base _ (decimal-digit c.args.c (omega arith) (omega arith) ∙ sym w.value-is) (omega arith)
+  | in-65-to-70 w ↦ no-digit c.args.c c.args.base _ (letter-digit c.args.c (omega arith) (omega arith) ∙ sym w.value-is) (omega arith)
+]

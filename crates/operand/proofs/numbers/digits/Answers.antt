@@ -1,53 +1,28 @@
 -- `operand::numbers::digits` meets its contract. The invariant: the value so far, gone on from with the digits left, is the value of all. Assumes
 -- nothing.
-use Prim.Native.Nat.{ℕ, suc, ◌+◌, ◌*◌}
-use mathlib.Core.Path.{◌≡◌, refl, sym, ap, ◌∙◌}
-use native.Mathlib.Numerals.{add-one}
-use native.Mathlib.Omega.{arith}
-use borrow.Author.Tests.{le-leb}
-use lib.ListN.{get_or}
-use lib.Seq.{slice}
-use Rattle.operand.specs.Words.{digit_value, in_base}
-use Rattle.operand.specs.Read.{counted}
-use Rattle.operand.proofs.Digits.{digit-on, digits-end, no_digit, over, small}
+use Rattle.std.proofs.Common.{◌≡◌, ℕ, List, arith, ap, drop_of_length-le, le-leb, refl, sym, ◌+◌, ◌*◌, ◌<◌, ◌∙◌}
+use Rattle.std.proofs.Math.Option.{some}
+use Rattle.operand.specs.Words.{at_most, in_base}
+use Rattle.operand.specs.Read.{given}
+use Rattle.operand.proofs.Digits.{over-there, over-with}
 use Rattle.operand.proofs.numbers.digits.Goals as goal
 
-pub returns-then-d-base : goal.returns-then-d-base
-returns-then-d-base c =
-    sym (ap counted (no_digit c.args.text.now c.args.base c.loop-i.value c.loop-i.i c.args.to (omega arith) (omega arith)
-    (omega (arith, c.digit_value-d.ensures)))) ∙ c.loop-i.invariant.3
+pub returns-in_err-checked_mul : goal.returns-in_err-checked_mul
+returns-in_err-checked_mul c =
+    let over : 65535 < c.loop-c.value * c.args.base = omega (arith, c.in_err-checked_mul.ensures) in
+    c.from_residual.ensures ∙ sym (ap given (sym c.loop-c.invariant.1
+    ∙ over-there c.args.word.now c.loop-c.c-index c.args.base c.loop-c.value (omega arith) over))
 
-pub overflow_mul-value : goal.overflow_mul-value
-overflow_mul-value c =
-    omega (arith, small c.loop-i.value c.args.base (omega arith) (omega arith))
-
-pub overflow_add-value : goal.overflow_add-value
-overflow_add-value c =
-    omega (arith, small c.loop-i.value c.args.base (omega arith) (omega arith))
-
-pub returns-then-value-gt65535 : goal.returns-then-value-gt65535
-returns-then-value-gt65535 c =
-    let v = c.loop-i.value * c.args.base + digit_value (get_or c.args.text.now c.loop-i.i 0) in
-    sym (over c.args.base v (slice (suc c.loop-i.i) c.args.to c.args.text.now) (omega arith) (omega (arith, c.digit_value-d.ensures)))
-    ∙ sym (ap counted (digit-on c.args.text.now c.args.base c.loop-i.value c.loop-i.i c.args.to (omega arith) (omega arith) (omega (arith, c.digit_value-d.ensures))))
-    ∙ c.loop-i.invariant.3
-
-pub loop-i-preserved : goal.loop-i-preserved
-loop-i-preserved c = (
-  omega arith,
-  omega arith,
-  omega arith,
-  rw (add-one, c.digit_value-d.ensures) (sym (ap counted
-      (digit-on c.args.text.now c.args.base c.loop-i.value c.loop-i.i c.args.to (omega arith) (omega arith) (omega (arith, c.digit_value-d.ensures))))
-      ∙ c.loop-i.invariant.3),
-)
+pub returns-in_err-value : goal.returns-in_err-value
+returns-in_err-value c =
+    let mul = c.in_ok-checked_mul.ensures in
+    let over : 65535 < c.loop-c.value * c.args.base + c.in_ok-digit_value.field-0 = omega (arith, c.in_err-value.ensures, c.in_ok-checked_mul.ensures) in
+    c.from_residual-in_err-value.ensures ∙ sym (ap given (sym c.loop-c.invariant.1
+    ∙ over-with c.args.word.now c.loop-c.c-index c.args.base c.loop-c.value (omega arith) c.in_ok-digit_value.field-0 (sym c.in_ok-digit_value.ensures) over))
 
 pub returns : goal.returns
 returns c =
-    let e : c.loop-i.i ≡ c.args.to = omega arith in
-    sym (ap counted (ap (λ (n : ℕ). in_base c.args.base c.loop-i.value (slice n c.args.to c.args.text.now)) e ∙ digits-end c.args.text.now c.args.base
-    c.loop-i.value c.args.to)
-    ∙ rw (le-leb c.loop-i.value 65535 (omega arith)) refl) ∙ c.loop-i.invariant.3
-
-pub loop-i-init : goal.loop-i-init
-loop-i-init c = (omega arith, omega arith, omega arith, refl)
+    let all : at_most 65535 (in_base c.args.base 0 c.args.word.now) ≡ some c.loop-c.value = sym c.loop-c.invariant.1
+    ∙ ap (λ (s : List ℕ). at_most 65535 (in_base c.args.base c.loop-c.value s)) (drop_of_length-le c.args.word.now {i = c.loop-c.c-index} (omega arith))
+    ∙ rw (le-leb c.loop-c.value 65535 (omega arith)) refl in
+    sym (ap given all)

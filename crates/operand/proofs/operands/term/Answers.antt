@@ -1,49 +1,54 @@
 -- `operand::operands::term` meets its contract: by the word's kind it is a label, a number, or nothing that an operand can have. Assumes nothing.
-use mathlib.Core.Path.{refl, sym}
-use mathlib.Core.List.{[], ◌∷◌}
-use native.Mathlib.Omega.{arith}
-use borrow.Author.Rules.{rules}
+use Rattle.std.proofs.Common.{[], ◌∷◌, arith, refl, sym, ◌∙◌}
 use Rattle.operand.specs.Operand.{label, number, part_of}
-use Rattle.operand.specs.Read.{bad, good, names_at, word_at}
-use Rattle.operand.proofs.Terms.{label_small, no_number, single-counts, some_number}
-use Rattle.operand.proofs.TokenKinds.{as-label, as_none, as-number}
+use Rattle.operand.specs.Read.{names_of, word_at}
+use Rattle.operand.proofs.Terms.{label-counts, no_number, number-counts, number-read}
+use Rattle.operand.proofs.TokenKinds.{apart, as-label, as_none, as-number}
 use Rattle.operand.proofs.operands.term.Goals as goal
 
--- LABEL
-pub returns-then-kind-eq-LABEL : goal.returns-then-kind-eq-LABEL
+pub number-requires : goal.number-requires
+number-requires c = rw c.word.ensures (as-number c.requires.lexed.next c.in-Number.is).2
+
+pub returns-in_err-n-in-Number : goal.returns-in_err-n-in-Number
+returns-in_err-n-in-Number c =
+    let is = as-number c.requires.lexed.next c.in-Number.is in
+    let none = no_number (word_at c.args.labels.text.now c.args.lexeme.start) (rw c.word.ensures at c.in_err-n-in-Number.ensures) in
+    rw c.from_residual.ensures (λ here outer h. rw (is.0, is.1, none) refl)
+
+pub returns-in-Label : goal.returns-in-Label
 unfolding part_of
-returns-then-kind-eq-LABEL c = let names = names_at c.args.text.now c.args.starts.now c.args.count in
-    let w = word_at c.args.text.now c.args.word.start in
-    let is = as-label c.requires.lexed.next c.if-kind-eq-LABEL.true in
-    let moved = c.requires.lexed.moves (λ e. omega (arith, c.if-kind-eq-LABEL.true)) in
-    good (record { taken = c.args.taken; part = label w } ∷ []) c.named.ensures.readable
-    (single-counts names c.args.addresses.now c.args.at c.args.word.next c.args.taken (label w) c.named.result
-    (label_small names c.args.addresses.now w (λ k. search rules)) (omega (arith, c.requires.lexed.from))
-    c.named.ensures)
-    (omega (arith, c.requires.lexed.from, c.requires.lexed.starts, c.named.ensures.next)) (omega (arith, c.requires.lexed.within, c.named.ensures.next))
-    (λ here outer h. rw (is.0, is.1, c.named.ensures.next) refl)
+returns-in-Label c =
+    let names = names_of c.args.labels.text.now c.args.labels.starts.now in
+    let w = word_at c.args.labels.text.now c.args.lexeme.start in
+    let is = as-label c.requires.lexed.next c.in-Label.is in
+    let moved = c.requires.lexed.moves (λ e. apart (λ z. omega arith) (sym c.in-Label.is ∙ e)) in
+    let l = c.requires.lexed in
+    record {
+      terms = record { taken = c.args.taken; part = label w } ∷ [];
+      counts = rw (c.single.ensures, c.address.ensures.value)
+          (label-counts names c.args.labels.addresses.now c.args.at c.args.lexeme.next (omega (arith, l.from)) c.args.taken w (rw c.address.ensures.value at c.address.ensures.small));
+      from = omega (arith, l.from, l.starts);
+      within = l.within;
+      reads = λ here outer h. rw (is.0, is.1) refl;
+    }
 
--- neither a label nor a number
-pub returns-then-kind-ne-NUMBER : goal.returns-then-kind-ne-NUMBER
-returns-then-kind-ne-NUMBER c = bad c.unreadable.ensures
-    (λ here outer h. as_none c.requires.lexed.next c.if-kind-eq-LABEL.false c.if-kind-ne-NUMBER.true c.requires.not_opening c.args.taken here outer)
+pub returns-in_ok-n-in-Number : goal.returns-in_ok-n-in-Number
+returns-in_ok-n-in-Number c =
+    let names = names_of c.args.labels.text.now c.args.labels.starts.now in
+    let w = word_at c.args.labels.text.now c.args.lexeme.start in
+    let is = as-number c.requires.lexed.next c.in-Number.is in
+    let moved = c.requires.lexed.moves (λ e. apart (λ z. omega arith) (sym c.in-Number.is ∙ e)) in
+    let l = c.requires.lexed in
+    let n = number-read w c.in_ok-n-in-Number.n (rw c.word.ensures at c.in_ok-n-in-Number.ensures) in
+    record {
+      terms = record { taken = c.args.taken; part = number c.in_ok-n-in-Number.n } ∷ [];
+      counts = rw c.single-in-Number.ensures
+          (number-counts names c.args.labels.addresses.now c.args.at c.args.lexeme.next (omega (arith, l.from)) c.args.taken c.in_ok-n-in-Number.n (omega arith));
+      from = omega (arith, l.from, l.starts);
+      within = l.within;
+      reads = λ here outer h. rw (is.0, is.1, n) refl;
+    }
 
--- a number over 65,535, or none
-pub returns-then-n-gt65535 : goal.returns-then-n-gt65535
-returns-then-n-gt65535 c = let w = word_at c.args.text.now c.args.word.start in
-    let is = as-number c.requires.lexed.next c.if-kind-ne-NUMBER.false in
-    bad c.unreadable-then-n-gt65535.ensures (λ here outer h. rw (is.0, is.1, no_number w (omega arith)) refl)
-
-pub returns : goal.returns
-returns c = let names = names_at c.args.text.now c.args.starts.now c.args.count in
-    let w = word_at c.args.text.now c.args.word.start in
-    let is = as-number c.requires.lexed.next c.if-kind-ne-NUMBER.false in
-    let moved = c.requires.lexed.moves (λ q. omega (arith, c.if-kind-ne-NUMBER.false)) in
-    good (record { taken = c.args.taken; part = number c.number-n.result } ∷ []) c.single.ensures.readable
-    (single-counts names c.args.addresses.now c.args.at c.args.word.next c.args.taken (number c.number-n.result) c.single.result (omega arith)
-    (omega (arith, c.requires.lexed.from)) c.single.ensures)
-    (omega (arith, c.requires.lexed.from, c.requires.lexed.starts, c.single.ensures.next)) (omega (arith, c.requires.lexed.within, c.single.ensures.next))
-    (λ here outer h. rw (is.0, is.1, some_number w (omega arith), sym c.number-n.ensures, c.single.ensures.next) refl)
-
-pub number-n-requires : goal.number-n-requires
-number-n-requires c = let is = as-number c.requires.lexed.next c.if-kind-ne-NUMBER.false in record { word_ends = (is.3, is.4); word_begins = is.2 }
+pub returns-in_default : goal.returns-in_default
+returns-in_default c here outer h =
+    as_none c.requires.lexed.next c.in_default.not-Label c.in_default.not-Number c.requires.not_opening c.args.taken here outer

@@ -1,49 +1,29 @@
 -- `operand::tokens::word_kind` meets its contract. Assumes nothing.
-use Prim.Native.Nat.{ℕ, ◌+◌}
-use mathlib.Core.Path.{◌≡◌, refl, sym, ap, ◌∙◌}
-use mathlib.Core.Bool.{true}
-use mathlib.Core.List.{List}
-use native.Mathlib.Omega.{arith}
-use borrow.Author.Tests.{le-ltb, lt-ltb}
-use lib.ListN.{get_or, length}
-use Rattle.operand.specs.Text.{in_word, is_digit}
+use Rattle.std.proofs.Common.{◌≡◌, arith, refl, sym, rules, ltb-true, ◌∙◌, length}
+use Rattle.operand.specs.Text.{is_digit}
 use Rattle.operand.specs.Words.{first, fixed_words, is_fixed, place}
-use Rattle.operand.specs.Read.{packed_words, place_of, word_at, word_kind}
-use Rattle.operand.proofs.Places.{fixed-count, fixed-place}
-use Rattle.operand.proofs.Texts.{word-characters, word_on}
+use Rattle.operand.specs.Read.{word_kind}
+use Rattle.operand.proofs.Places.{fixed-count}
+use Rattle.operand.proofs.Scans.{found-none, found-some}
 use Rattle.operand.proofs.tokens.word_kind.Goals as goal
 
--- a word's first character is the text's
-head_of : (text : List ℕ) (at : ℕ) → in_word (get_or text at 0) ≡ true → is_digit (first (word_at text at)) ≡ is_digit (get_or text at 0)
-head_of text at e = rw (word_on text at e) refl
-
-pub returns-then-is_digit : goal.returns-then-is_digit
+pub returns-then-is_some_and : goal.returns-then-is_some_and
 unfolding word_kind
-returns-then-is_digit c = rw (head_of c.args.text.now c.args.start c.requires.word_begins
-    ∙ sym (c.is_digit.ensures ∙ ap is_digit c.character.ensures) ∙ c.if-is_digit.true) refl
+returns-then-is_some_and c = let e : c.is_some_and.result ≡ is_digit (first c.args.word.now) = search rules in
+    rw (sym e ∙ c.if-is_some_and.true) refl
 
--- the place found is that among the fixed words
-pub returns-then-at-lt61 : goal.returns-then-at-lt61
+pub overflow_cast-result : goal.overflow_cast-result
+overflow_cast-result c = let f = found-some fixed_words c.args.word.now (sym c.fixed.ensures ∙ c.in-Some.is) in
+    omega (arith, fixed-count, f.1, ltb-true (place fixed_words c.args.word.now) (length fixed_words) f.0)
+
+pub returns-in-Some : goal.returns-in-Some
 unfolding word_kind is_fixed
-returns-then-at-lt61 c = let w = word_at c.args.text.now c.args.start in
-    let found : c.fixed-at.result ≡ place fixed_words w = c.fixed-at.ensures
-    ∙ ap (place_of packed_words) c.packed.ensures ∙ fixed-place w (word-characters c.args.text.now c.args.start) in
-    rw (
-      head_of c.args.text.now c.args.start c.requires.word_begins
-          ∙ sym (c.is_digit.ensures ∙ ap is_digit c.character.ensures) ∙ c.if-is_digit.false,
-      lt-ltb (place fixed_words w) (length fixed_words) (omega (arith, fixed-count, found)),
-    ) (ap (λ (k : ℕ). 128 + k) found)
+returns-in-Some c = let e : c.is_some_and.result ≡ is_digit (first c.args.word.now) = search rules in
+    let f = found-some fixed_words c.args.word.now (sym c.fixed.ensures ∙ c.in-Some.is) in
+    rw (sym e ∙ c.if-is_some_and.false, f.0, f.1) refl
 
-pub returns : goal.returns
+pub returns-in-None : goal.returns-in-None
 unfolding word_kind is_fixed
-returns c = let w = word_at c.args.text.now c.args.start in
-    let found : c.fixed-at.result ≡ place fixed_words w = c.fixed-at.ensures
-    ∙ ap (place_of packed_words) c.packed.ensures ∙ fixed-place w (word-characters c.args.text.now c.args.start) in
-    rw (
-      head_of c.args.text.now c.args.start c.requires.word_begins
-          ∙ sym (c.is_digit.ensures ∙ ap is_digit c.character.ensures) ∙ c.if-is_digit.false,
-      le-ltb (place fixed_words w) (length fixed_words) (omega (arith, fixed-count, found)),
-    ) refl
-
-pub packed-requires : goal.packed-requires
-packed-requires c = (c.requires.word_ends.0, omega arith)
+returns-in-None c = let e : c.is_some_and.result ≡ is_digit (first c.args.word.now) = search rules in
+    let f = found-none fixed_words c.args.word.now (sym c.fixed.ensures ∙ c.in-None.is) in
+    rw (sym e ∙ c.if-is_some_and.false, f) refl

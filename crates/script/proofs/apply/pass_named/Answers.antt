@@ -5,14 +5,13 @@ use mathlib.Core.Bool.{Bool, true, false}
 use mathlib.Core.List.{List}
 use lib.Dec.{eqb}
 use borrow.Author.Tests.{eq-eqb}
+use Rattle.std.specs.Prelude.{Option, Some, None}
 use Rattle.isa.specs.Choice.{pick}
 use Rattle.cpu.specs.State.{state}
 use Rattle.machine.specs.Machine.{machine_of, trace_of}
 use Rattle.machine.specs.Events.{applied, happened, named_answer, refusal_of}
 use Rattle.machine.specs.declared.Machine.{Machine}
 use Rattle.machine.specs.declared.events.Event.{Event}
-use Rattle.machine.specs.declared.events.Named.{Named}
-use Rattle.machine.specs.declared.events.Named.TheVariants.{Known, Unknown}
 use Rattle.script.proofs.apply.pass_named.Goals as goal
 
 module _ (mask : List ℕ) (m : Machine) where
@@ -20,20 +19,20 @@ module _ (mask : List ℕ) (m : Machine) where
   unfolding applied
   made e z = rw (eq-eqb (refusal_of mask e m) 0 z) refl
 
-  known : (e : Event) {n : Named} {r : Machine} → (named_answer mask n m).refusal ≡ 0 → r ≡ happened mask e m → n ≡ Known e → r ≡ (named_answer mask n m).machine
-  known e z p q = p ∙ made e (subst (λ (n : Named). (named_answer mask n m).refusal ≡ 0) q z) ∙ sym (ap (λ (n : Named). (named_answer mask n m).machine) q)
+  known : (e : Event) {n : Option Event} {r : Machine} → (named_answer mask n m).refusal ≡ 0 → r ≡ happened mask e m → n ≡ Some e → r ≡ (named_answer mask n m).machine
+  known e z p q = p ∙ made e (subst (λ (n : Option Event). (named_answer mask n m).refusal ≡ 0) q z) ∙ sym (ap (λ (n : Option Event). (named_answer mask n m).machine) q)
 
-  unknown : {n : Named} → n ≡ Unknown → m ≡ (named_answer mask n m).machine
-  unknown q = same (eqb (named_answer mask Unknown m).refusal 0) ∙ sym (ap (λ (n : Named). (named_answer mask n m).machine) q)
+  unknown : {n : Option Event} → n ≡ None → m ≡ (named_answer mask n m).machine
+  unknown q = same (eqb (named_answer mask None m).refusal 0) ∙ sym (ap (λ (n : Option Event). (named_answer mask n m).machine) q)
     where
       same : (t : Bool) → m ≡ pick t m m
       same true = refl
       same false = refl
 
-pub returns-in-Known : goal.returns-in-Known
-returns-in-Known c =
-    known c.args.mask.now (machine_of (state c.args.cpu c.args.memory.now) (trace_of c.args.gap.now)) _ c.requires c.happened.ensures c.in-Known.is
+pub returns-in-Some : goal.returns-in-Some
+returns-in-Some c =
+    known c.args.mask.now (machine_of (state c.args.cpu c.args.memory.now) (trace_of c.args.gap.now)) _ c.requires c.happened.ensures c.in-Some.is
 
-pub returns-in-Unknown : goal.returns-in-Unknown
-returns-in-Unknown c =
-    unknown c.args.mask.now (machine_of (state c.args.cpu c.args.memory.now) (trace_of c.args.gap.now)) c.in-Unknown.is
+pub returns-in-None : goal.returns-in-None
+returns-in-None c =
+    unknown c.args.mask.now (machine_of (state c.args.cpu c.args.memory.now) (trace_of c.args.gap.now)) c.in-None.is

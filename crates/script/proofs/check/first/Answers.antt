@@ -1,22 +1,38 @@
--- `script::check::first` meets its contract. The loop's invariant: the first bad record from `at` on is the first of all. Assumes nothing.
-use Prim.Native.Nat.{ℕ, ◌+◌}
-use mathlib.Core.Path.{sym, ap, ◌∙◌}
-use Rattle.records.specs.Records.{offsets_from}
-use Rattle.script.specs.Check.{refused, first, ruled}
+-- `script::check::first` meets its contract. The loop's invariant: the records to come are those from an offset on, and the first bad record
+-- from it on is the first of all. Assumes nothing.
+use Prim.Native.Nat.{ℕ}
+use mathlib.Core.Path.{sym, ap, ap₂, ◌∙◌}
+use mathlib.Core.List.{List}
+use Rattle.refusals.proofs.Numbers.{not_zero}
+use Rattle.script.specs.Check.{refused}
+use Rattle.records.specs.Records.{end_at}
+use Rattle.std.specs.Prelude.{Err}
+use Rattle.records.specs.Places.{place}
+use Rattle.records.proofs.Offsets.{turned, ended}
 use Rattle.script.proofs.Checks.{first-end, first-bad, first_good}
 use Rattle.script.proofs.check.first.Goals as goal
 
-pub returns-then-number-ne0 : goal.returns-then-number-ne0
-returns-then-number-ne0 c =
-    ap (λ (n : ℕ). refused n c.loop-at.at) c.judged-number.ensures
-    ∙ sym (c.loop-at.invariant ∙ first-bad (ruled c.args.rule c.args.s.now) c.args.s.now c.loop-at.at c.loop-at-test.true (λ z. c.if-number-ne0.true (c.judged-number.ensures ∙ z)))
+pub returns-in-Err : goal.returns-in-Err
+returns-in-Err g c number tells =
+    let i = c.loop-record.invariant in
+    let t = turned c.args.script.now i.0 (place c.in-Some.record) _ (sym i.1 ∙ c.in-Some.ensures.steps) in
+    let at = ap (λ (p : List ℕ × ℕ). p.1) t.1 in
+    let e = tells c.in-Some.record (Err c.in-Err.refusal) c.in-Err.ensures (ap (λ (p : List ℕ × ℕ). p.0) t.1) ∙ ap number at in
+    ap₂ refused e at ∙ sym (i.2 number tells ∙ first-bad number c.args.script.now i.0 t.0 (λ z. not_zero c.in-Err.refusal (e ∙ z)))
 
-pub loop-at-preserved : goal.loop-at-preserved
-loop-at-preserved c =
-    c.loop-at.invariant
-    ∙ first_good (ruled c.args.rule c.args.s.now) c.args.s.now c.loop-at.at c.loop-at-test.true (sym c.judged-number.ensures ∙ c.if-number-ne0.false)
-    ∙ ap (λ (n : ℕ). first (ruled c.args.rule c.args.s.now) (offsets_from c.args.s.now (c.loop-at.at + 4 + n))) (sym c.size_at.ensures.0)
+pub loop-record-preserved : goal.loop-record-preserved
+loop-record-preserved g c =
+    let i = c.loop-record.invariant in
+    let t = turned c.args.script.now i.0 (place c.in-Some.record) _ (sym i.1 ∙ c.in-Some.ensures.steps) in (
+      end_at c.args.script.now i.0,
+      t.2,
+      λ number tells.
+          i.2 number tells
+          ∙ first_good number c.args.script.now i.0 t.0
+          (sym (tells c.in-Some.record _ c.in_default.ensures (ap (λ (p : List ℕ × ℕ). p.0) t.1) ∙ ap number (ap (λ (p : List ℕ × ℕ). p.1) t.1))),
+    )
 
 pub returns : goal.returns
-returns c =
-    sym (c.loop-at.invariant ∙ first-end (ruled c.args.rule c.args.s.now) c.args.s.now c.loop-at.at c.loop-at-test.false)
+returns g c number tells =
+    let i = c.loop-record.invariant in
+    sym (i.2 number tells ∙ first-end number c.args.script.now i.0 (ended c.args.script.now i.0 (sym i.1 ∙ c.in-None.ensures.steps.0)))

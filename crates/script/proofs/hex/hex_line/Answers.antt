@@ -1,30 +1,15 @@
--- `script::hex::hex_line` meets its contract. The loop's invariant: the first `i` characters are the line's. Assumes nothing.
+-- `script::hex::hex_line` meets its contract: each character is the line's. Assumes nothing.
 use Prim.Native.Nat.{ℕ}
-use mathlib.Core.Path.{◌≡◌, refl, ◌∙◌}
+use mathlib.Core.Path.{◌≡◌, refl}
 use native.Mathlib.Omega.{arith}
-use lib.ListN.{length, length-set, length-replicate}
+use lib.ListN.{length, get_or}
 use borrow.Author.Rules.{rules}
-use Rattle.machine.proofs.Fill.{fill_more, fill-all}
 use Rattle.script.specs.Hex.{hex_line}
-use Rattle.script.proofs.Hexes.{line-length}
+use Rattle.script.proofs.Hexes.{line-length, all_called}
 use Rattle.script.proofs.hex.hex_line.Goals as goal
-
-pub loop-i-init : goal.loop-i-init
-loop-i-init c = (omega arith, length-replicate {A = ℕ} 97 0, refl)
-
-pub line_byte-requires : goal.line_byte-requires
-line_byte-requires c = (search rules, omega arith)
-
-pub loop-i-preserved : goal.loop-i-preserved
-loop-i-preserved c =
-    let n : length c.args.report ≡ 48 = search rules in (
-      omega arith,
-      length-set c.loop-i.line c.loop-i.i c.line_byte.result ∙ c.loop-i.invariant.1,
-      fill_more (hex_line c.args.report) c.loop-i.line c.loop-i.i c.line_byte.result (omega arith) (omega (arith, line-length c.args.report))
-          c.line_byte.ensures c.loop-i.invariant.2,
-    )
 
 pub returns : goal.returns
 returns c =
     let n : length c.args.report ≡ 48 = search rules in
-    fill-all (hex_line c.args.report) c.loop-i.line c.loop-i.i (omega arith) (omega (arith, line-length c.args.report)) c.loop-i.invariant.2
+    all_called _ (λ f. f.0.now ≡ c.args.report) (λ (i : ℕ). get_or (hex_line c.args.report) i 0) (λ p i y q e h. search (rules, e)) c.from_fn.result 97 _ refl
+    c.from_fn.ensures.items (hex_line c.args.report) (omega (arith, line-length c.args.report)) (λ i. refl)

@@ -1,0 +1,73 @@
+// A number as it is drawn and written: with the fewest digits, at least one, and one before any point.
+ghost use Rattle.std.specs.Prelude.{◌≡◌, ◌≤◌, ◌/◌, ◌%◌, ◌^◌, IfSome};
+ghost use Rattle.glass.specs.Drawing.{enough, fewest, fits, point_at};
+ghost use Rattle.glass.specs.Walk.{figure_of};
+
+#[derive(Clone, Copy, Debug, PartialEq, Eq)]
+pub(crate) struct Figure {
+    pub(crate) minus: bool,
+    pub(crate) size: u32,
+    // How many digits follow the point.
+    pub(crate) places: u8,
+    pub(crate) digits: u8,
+}
+
+// Whether `n` digits hold a number, with one before the point.
+fn enough(size: u32, places: u8, n: u8) -> bool
+    requires { n ≤ 4 }
+    ensures { result ≡ enough size places n }
+{
+    size < 10u32.pow(u32::from(n)) && places < n
+}
+
+// The fewest digits; 5 where four are not enough.
+fn fewest(size: u32, places: u8) -> u8
+    ensures { result ≡ fewest size places }
+{
+    for n in 1..5 {
+        if enough(size, places, n) {
+            return n;
+        }
+    }
+    5
+}
+
+// Whether `n` digits, with a minus or not, have room on the glass.
+fn fits(minus: bool, n: u8) -> bool
+    ensures { result ≡ fits minus n }
+{
+    if minus { n < 4 } else { n < 5 }
+}
+
+impl Figure {
+    // None where the number does not fit the glass.
+    pub(crate) fn of(value: i32, places: u8) -> Option<Figure>
+        ensures same { result ≡ figure_of value places }
+        ensures at_most { IfSome result (λ x. x.digits ≤ 4) }
+    {
+        let minus = value.is_negative();
+        let size = value.unsigned_abs();
+        let digits = fewest(size, places);
+        fits(minus, digits).then_some(Figure {
+            minus,
+            size,
+            places,
+            digits,
+        })
+    }
+
+    // The numeral that has `after` places to its right.
+    pub(crate) fn numeral(self, after: u8) -> u8
+        requires { after ≤ 3 }
+        ensures { result ≡ self.size / 10 ^ after % 10 }
+    {
+        (self.size / 10u32.pow(u32::from(after)) % 10) as u8
+    }
+
+    // Whether the point is lit on it.
+    pub(crate) fn pointed(self, after: u8) -> bool
+        ensures { result ≡ point_at after self.places }
+    {
+        after == self.places && after != 0
+    }
+}

@@ -1,8 +1,0 @@
--- `operand::operands::element` meets its contract. Assumes nothing.
-use mathlib.Core.Path.{sym}
-use native.Mathlib.Omega.{arith}
-use lib.ListN.{get_or-eq_default}
-use Rattle.operand.proofs.operands.element.Goals as goal
-
-pub returns : goal.returns
-returns c = sym (get_or-eq_default c.args.list.now 0 (omega arith))
