@@ -2,6 +2,8 @@
 #![tactic(auto)]
 
 ghost use Rattle.refusals.specs.Numbers.{Numbered};
+ghost use Rattle.refusals.specs.Text.{refusal_text};
+ghost use Rattle.std.specs.Prelude.{Some};
 
 use std::fmt;
 
@@ -70,6 +72,8 @@ impl From<Refusal> for u8 {
 
 // As the programs print it.
 impl fmt::Display for Refusal {
+    ghost output = { λ r. Some (refusal_text r) };
+
     fn fmt<W: fmt::Write>(&self, f: &mut fmt::Formatter<W>) -> fmt::Result {
         write!(f, "refused {}", u8::from(*self))
     }
