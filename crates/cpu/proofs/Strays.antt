@@ -1,8 +1,7 @@
 -- What an instruction, a step and a Run count of the gap, on definitions alone: one that faults makes no access, one that does not makes those of
 -- what was read, and a step counts where it runs one. Assumes nothing.
 use Rattle.std.specs.Prelude.{Option, Some}
-use Rattle.std.proofs.Common.{◌≡◌, ℕ, zero, suc, ◌+◌, ◌-◌, ◌<◌, Bool, true, false, ◌&&◌, eqb, List, [], ◌∷◌, map, sym, refl, ap, ◌∙◌, subst, ap₂, arith, eq-eqb, ne_eqb}
-use Rattle.isa.specs.Choice.{pick}
+use Rattle.std.proofs.Common.{◌≡◌, ℕ, zero, suc, ◌+◌, ◌-◌, ◌<◌, true, List, [], ◌∷◌, map, sym, refl, ap, ◌∙◌, subst, ap₂, arith, eq-eqb, ne_eqb}
 use Rattle.isa.specs.Views.{View, on, jmp, branch, call, ret, reti, ei, view}
 use Rattle.isa.specs.declared.DataAddress.{DataAddress}
 use Rattle.isa.specs.declared.ProgramAddress.{ProgramAddress}
@@ -70,20 +69,6 @@ module _ (mask : List ℕ) (s : State) (count : ℕ) where
     pub instruction-counts : vector_of s.cpu ≡ 0 → tallied count (strays_at mask s) ≡ tallied count (strays_by mask s)
     unfolding strays_by
     instruction-counts v = rw (eq-eqb s.cpu.status.halted 0 h, eq-eqb s.cpu.status.fault 0 f, eq-eqb (vector_of s.cpu) 0 v) refl
-
--- a step takes one interrupt, the other, or none
-pub no-vector : (c : Cpu) → (vector_of c ≡ 8 → ⊥) → (vector_of c ≡ 4 → ⊥) → vector_of c ≡ 0
-unfolding vector_of
-no-vector c = go (eqb c.interrupts.level 0 && eqb c.interrupts.enabled 1) (eqb c.interrupts.held 1) (eqb c.control.tf 1)
-  where
-    chosen : Bool → Bool → Bool → ℕ
-    chosen a b d = pick a (pick b 8 (pick d 4 0)) 0
-
-    go : (a b d : Bool) → (chosen a b d ≡ 8 → ⊥) → (chosen a b d ≡ 4 → ⊥) → chosen a b d ≡ 0
-    go true true d f g = absurd (f refl)
-    go true false true f g = absurd (g refl)
-    go true false false f g = refl
-    go false b d f g = refl
 
 -- ---- n steps: a state that a step neither changes nor counts, and one step of those left
 module _ (mask : List ℕ) (s : State) (count : ℕ) where

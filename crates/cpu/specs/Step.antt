@@ -9,6 +9,8 @@ use Rattle.datapath.specs.declared.timer.Count.{Count}
 use Rattle.cpu.specs.State.{State, on_cpu, address, with_pc, with_tf, with_count, with_held, with_level, with_stack, with_fault, with_cycles}
 use Rattle.cpu.specs.Effect.{effect}
 use Rattle.cpu.specs.declared.Cpu.{Cpu}
+use Rattle.cpu.specs.declared.step.Interrupt.{Interrupt}
+use Rattle.cpu.specs.declared.step.Interrupt.TheVariants.{Edge, Timer}
 
 -- the timer's new count in the processor: "passing 255 to 0 sets TF"
 abbrev pub timed : Count → Cpu → Cpu
@@ -52,6 +54,17 @@ vector_of c =
     pick (c.interrupts.level == 0 && c.interrupts.enabled == 1)
     (pick (c.interrupts.held == 1) 8 (pick (c.control.tf == 1) 4 0))
     0
+
+-- the same of what the code takes
+abbrev pub vector : Option Interrupt → ℕ
+vector (Some Edge) = 8
+vector (Some Timer) = 4
+vector None = 0
+
+-- what called for it, cleared
+abbrev pub cleared : Interrupt → Cpu → Cpu
+cleared Edge c = with_held 0 c
+cleared Timer c = with_tf 0 c
 
 unfoldable pub stepped : List ℕ → State → State
 stepped mask s =

@@ -73,7 +73,7 @@ impl Cpu {
         self
     }
 
-    // RETI: CF comes back too.
+    // RETI: CF comes back too. No `ret` and then the carry: where `ret` faults the carry stays, and the level would be asked for twice.
     #[tactic(auto, unfolding(crate::specs::Effect::returned_with_carry))]
     pub(crate) fn reti(mut self) -> Cpu
         ensures { result ≡ returned_with_carry self }

@@ -1,10 +1,9 @@
 // One step: an interrupt taken, or one instruction, and the cycles that it spends.
-ghost use Rattle.std.specs.Prelude.{◌≡◌, ◌==◌, Some, None};
-ghost use Rattle.isa.specs.Choice.{pick};
+ghost use Rattle.std.specs.Prelude.{◌≡◌, Some};
 ghost use Rattle.datapath.specs.Memory.{tallied};
 ghost use Rattle.cpu.specs.Gap.{strays_at, strays_by};
-ghost use Rattle.cpu.specs.State.{state, with_held, with_tf};
-ghost use Rattle.cpu.specs.Step.{entered, executed, step, ticked, timed, vector_of};
+ghost use Rattle.cpu.specs.State.{state};
+ghost use Rattle.cpu.specs.Step.{cleared, entered, executed, step, ticked, timed, vector, vector_of};
 
 use crate::Cpu;
 use datapath::memory::MEMORY;
@@ -13,6 +12,15 @@ use isa::decoder::decode;
 use rom::reader::{code_at, moved_by};
 use rom::timing::{cycles_of, length_of};
 use std::num::wrapping_add_u32;
+
+// What calls for an interrupt.
+#[derive(Clone, Copy)]
+pub(crate) enum Interrupt {
+    // The held edge.
+    Edge,
+    // TF.
+    Timer,
+}
 
 impl Cpu {
     // The timer's new count; passing 255 to 0 sets TF.
@@ -44,38 +52,42 @@ impl Cpu {
         self
     }
 
-    // An interrupt is taken: PC and CF go to the stack, and what called for it is cleared, the held edge for 8 and TF for 4.
+    // An interrupt is taken: PC and CF go to the stack, and what called for it is cleared.
     #[tactic(auto, unfolding(crate::specs::Step::entered))]
-    pub(crate) fn enter(mut self, vector: u16) -> Cpu
-        ensures { result ≡ entered vector (pick (vector == 8) (with_held 0 self) (with_tf 0 self)) }
+    pub(crate) fn enter(mut self, interrupt: Interrupt) -> Cpu
+        ensures { result ≡ entered (vector (Some interrupt)) (cleared interrupt self) }
     {
         let pc = self.control.pc.0;
         let cf = self.control.cf;
         self.stack.address.0 = pc;
         self.stack.carry = cf;
         self.interrupts.level = 2;
-        self.control.pc.0 = vector;
-        if vector == 8 {
-            self.interrupts.held = 0;
-        } else {
-            self.control.tf = 0;
+        match interrupt {
+            Interrupt::Edge => {
+                self.control.pc.0 = 8;
+                self.interrupts.held = 0;
+            }
+            Interrupt::Timer => {
+                self.control.pc.0 = 4;
+                self.control.tf = 0;
+            }
         }
         self.tick(2)
     }
 
-    // The vector of the interrupt to take: a held edge goes before TF.
+    // The interrupt to take: a held edge goes before TF.
     #[tactic(auto, unfolding(crate::specs::Step::vector_of))]
-    pub(crate) fn pending(self) -> Option<u16>
-        ensures { result ≡ pick (vector_of self == 0) None (Some (vector_of self)) }
+    pub(crate) fn pending(self) -> Option<Interrupt>
+        ensures { vector result ≡ vector_of self }
     {
         if self.interrupts.enabled != 1 || self.interrupts.level != 0 {
             return None;
         }
         if self.interrupts.held == 1 {
-            return Some(8);
+            return Some(Interrupt::Edge);
         }
         if self.control.tf == 1 {
-            return Some(4);
+            return Some(Interrupt::Timer);
         }
         None
     }
@@ -111,8 +123,8 @@ impl Cpu {
         ensures memory_after { state result memory.new ≡ step mask.now (state self memory.old) }
         ensures gap_after { gap.new ≡ tallied gap.old (strays_by mask.now (state self memory.old)) }
     {
-        if let Some(vector) = self.pending() {
-            return self.enter(vector);
+        if let Some(interrupt) = self.pending() {
+            return self.enter(interrupt);
         }
         self.execute(mask, memory, gap)
     }

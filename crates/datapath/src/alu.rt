@@ -91,6 +91,7 @@ pub fn decrement(a: u8) -> u8
     ((a as u16 + 15) % 16) as u8
 }
 
+// AND, OR and XOR, one operator each: one function for the three would say which by one word more.
 pub fn and(a: u8, b: u8) -> u8
     ensures { result ≡ bit_and a b }
 {

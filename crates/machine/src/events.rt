@@ -1,11 +1,10 @@
 // The events other than power-on: methods that take the machine and hand it back with their answer.
-ghost use Rattle.std.specs.Prelude.{◌≡◌, ℕ, length, true, [], List, None};
-ghost use Rattle.datapath.specs.Memory.{memory_size};
+ghost use Rattle.std.specs.Prelude.{◌≡◌, ℕ, true, [], List, None};
 ghost use Rattle.cpu.specs.State.{state};
 ghost use Rattle.refusals.specs.Numbers.{refusal_of as number_given};
 ghost use Rattle.machine.specs.Machine.{machine_of, trace_of};
 ghost use Rattle.machine.specs.declared.Trace.{Trace};
-ghost use Rattle.machine.specs.Events.{applied, clocked, counting, event_of, fallen, happened, interrupted, mask_ok, named_answer, pinned, refusal_of, stepping, values_ok, wakes, with_int, with_ports, woken};
+ghost use Rattle.machine.specs.Events.{applied, clocked, counting, event_of, fallen, happened, interrupted, mask_ok, named_answer, pinned, refusal_of, stepping, values_ok, wakes, woken};
 
 use crate::power::reset_cpu;
 use crate::ranges::sound;
@@ -32,6 +31,7 @@ pub enum Event {
 }
 
 // The event of a kind, if it names one. What the kind does not name is not looked at.
+#[tactic(auto, unfolding(crate::specs::Events::event_of))]
 pub fn event_of(kind: u16, count: u16, a: u8, b: u8, c: u8) -> Option<Event>
     ensures { result ≡ event_of kind count a b c }
 {
@@ -78,44 +78,34 @@ fn clocked(c: Cpu) -> bool
     c.options.rate == 255 && c.timer.running == 1
 }
 
-fn set_ports(mut c: Cpu, pm: u8, ps: u8, pp: u8) -> Cpu
-    ensures { result ≡ with_ports pm ps pp c }
+// New levels of the ports: a falling wake bit wakes a halted processor.
+#[tactic(auto, unfolding(crate::specs::Events::pinned))]
+fn pinned(mut c: Cpu, pm: u8, ps: u8, pp: u8) -> Cpu
+    ensures { result ≡ pinned pm ps pp c }
 {
+    if wakes(pm, ps, pp, c) {
+        c = woken(c);
+    }
     c.pins.pm = pm;
     c.pins.ps = ps;
     c.pins.pp = pp;
     c
 }
 
-fn set_int(mut c: Cpu, level: u8) -> Cpu
-    ensures { result ≡ with_int level c }
+// A new level of INT: a falling edge is always held and wakes.
+#[tactic(auto, unfolding(crate::specs::Events::interrupted))]
+fn interrupted(mut c: Cpu, level: u8) -> Cpu
+    ensures { result ≡ interrupted level c }
 {
+    if c.pins.int == 1 && level == 0 {
+        c = woken(c);
+    }
     c.pins.int = level;
     c
 }
 
-// New levels of the ports: a falling wake bit wakes a halted processor.
-fn pinned(c: Cpu, pm: u8, ps: u8, pp: u8) -> Cpu
-    ensures { result ≡ pinned pm ps pp c }
-{
-    if wakes(pm, ps, pp, c) {
-        return set_ports(woken(c), pm, ps, pp);
-    }
-    set_ports(c, pm, ps, pp)
-}
-
-// A new level of INT: a falling edge is always held and wakes.
-#[tactic(auto, unfolding(crate::specs::Events::interrupted))]
-fn interrupted(c: Cpu, level: u8) -> Cpu
-    ensures { result ≡ interrupted level c }
-{
-    if c.pins.int == 1 && level == 0 {
-        return set_int(woken(c), level);
-    }
-    set_int(c, level)
-}
-
 // Rising edges of TMCLK.
+#[tactic(auto, unfolding(crate::specs::Events::counting))]
 fn counting(c: Cpu, n: u16) -> Cpu
     ensures { result ≡ counting n c }
 {
@@ -139,8 +129,8 @@ pub fn values_ok(event: Event) -> bool
 }
 
 // The refusal of a Run: the lowest number wins. It does not look at the trace.
+#[tactic(auto, unfolding(crate::specs::Events::refusal_of, crate::specs::Events::mask_ok, crate::specs::Events::values_ok))]
 fn check_run(cpu: Cpu, memory: &[u8; MEMORY], mask: &[u8]) -> Result<(), Refusal>
-    requires { length memory.now ≡ memory_size }
     ensures { (n : ℕ) (trace : Trace) → number_given result ≡ refusal_of mask.now (Event.Run n) (machine_of (state cpu memory.now) trace) }
 {
     if !mask_ok(mask) {
@@ -153,8 +143,8 @@ fn check_run(cpu: Cpu, memory: &[u8; MEMORY], mask: &[u8]) -> Result<(), Refusal
 }
 
 // The refusal of an event whose mask is as it should be: Run alone has one.
+#[tactic(auto, unfolding(crate::specs::Events::refusal_of))]
 fn check_event(cpu: Cpu, memory: &[u8; MEMORY], event: Event) -> Result<(), Refusal>
-    requires { length memory.now ≡ memory_size }
     ensures { (mask : List ℕ) (trace : Trace) → mask_ok mask event ≡ true → number_given result ≡ refusal_of mask event (machine_of (state cpu memory.now) trace) }
 {
     if !values_ok(event) {
@@ -168,6 +158,7 @@ fn check_event(cpu: Cpu, memory: &[u8; MEMORY], event: Event) -> Result<(), Refu
 
 // What pins, INT and TMCLK make of the processor, all that they change. An arm for RES here would cost each step of a Run two instructions
 // (docs/PERFORMANCE.md).
+#[tactic(auto, unfolding(crate::specs::Events::happened))]
 fn changed(cpu: Cpu, event: Event) -> Cpu
     ensures { (mask memory : List ℕ) (trace : Trace) → ((n : ℕ) → event ≡ Event.Run n → ⊥) → (event ≡ Event.Res → ⊥) → machine_of (state result memory) trace ≡ happened mask event (machine_of (state cpu memory) trace) }
 {
@@ -180,6 +171,7 @@ fn changed(cpu: Cpu, event: Event) -> Cpu
 }
 
 // What an event makes of the processor, and of the data memory and the trace's fields where they are lent.
+#[tactic(auto, unfolding(crate::specs::Events::happened))]
 pub fn happened(
     cpu: Cpu,
     event: Event,
@@ -199,6 +191,7 @@ pub fn happened(
 impl Machine {
     // Run, on the machine's own memory. The machine is put together anew behind it: a store to each field makes the loop a third longer
     // (docs/PERFORMANCE.md).
+    #[tactic(auto, unfolding(crate::specs::Events::applied, crate::specs::Events::happened))]
     fn run(mut self, n: u16, mask: &[u8]) -> Answer
         ensures { result ≡ applied mask.now (Event.Run n) self }
     {
@@ -236,6 +229,7 @@ impl Machine {
     }
 
     // An event. A refused one leaves the machine as it was.
+    #[tactic(auto, unfolding(crate::specs::Events::applied, crate::specs::Events::refusal_of, crate::specs::Events::mask_ok, crate::specs::Events::happened))]
     pub fn apply(mut self, event: Event, mask: &[u8]) -> Answer
         ensures { result ≡ applied mask.now event self }
     {
@@ -273,6 +267,7 @@ impl Machine {
     }
 
     // One step alone, which answers as a Run of one step does.
+    #[tactic(auto, unfolding(cpu::specs::Run::yielded, crate::specs::Events::applied, crate::specs::Events::happened, cpu::specs::Run::ran))]
     pub fn step(mut self, mask: &[u8]) -> Answer
         ensures { result ≡ stepping mask.now self }
     {

@@ -14,6 +14,7 @@ use isa::ProgramAddress;
 use refusals::Refusal;
 
 // The refusal of a power-on.
+#[tactic(auto, unfolding(crate::specs::Power::power_refusal))]
 fn check_power(options: Options, image: &[u8]) -> Result<(), Refusal>
     ensures { number_given result ≡ power_refusal options image.now }
 {
@@ -114,25 +115,16 @@ fn powered(options: Options, image: &[u8], memory: &mut [u8; MEMORY]) -> Cpu
 }
 
 // The machine that a power-on makes of options and one nibble that fills the image, where data memory and the trace's fields are lent.
-#[tactic(auto, unfolding(crate::specs::Power::powered))]
 pub fn filled(options: Options, x: u8, memory: &mut [u8; MEMORY], gap: &mut u16) -> Cpu
     ensures { machine_of (state result memory.new) (trace_of gap.new) ≡ powered options (replicate 166 x) }
 {
-    *memory = [x; MEMORY];
     *gap = no_trace().gap;
-    let registers = Registers {
-        acc: x,
-        r0: x,
-        r1: x,
-        r2: x,
-        r3: x,
-        r4: x,
-    };
-    started(registers, options)
+    powered(options, &[x; 166], memory)
 }
 
 impl Machine {
     // A machine before its first power-on: 0 but for what RES sets. Its options are out of range, so every event on it is refused.
+    #[tactic(auto, unfolding(crate::specs::Power::blank))]
     pub fn blank() -> Machine
         ensures { result ≡ blank }
     {
@@ -166,6 +158,7 @@ impl Machine {
     }
 
     // Power-on. A refused one leaves the machine as it was.
+    #[tactic(auto, unfolding(crate::specs::Power::power_refusal, crate::specs::Power::power_on))]
     pub fn power_on(mut self, options: Options, image: &[u8]) -> Answer
         ensures { result ≡ power_on options image.now self }
     {
@@ -185,6 +178,7 @@ impl Machine {
     }
 
     // RES. A refused one leaves the machine as it was.
+    #[tactic(auto, unfolding(crate::specs::Events::happened, crate::specs::Events::mask_ok, crate::specs::Events::values_ok, crate::specs::Events::refusal_of, crate::specs::Events::applied))]
     pub fn reset(mut self) -> Answer
         ensures { result ≡ resetting self }
     {

@@ -1,7 +1,6 @@
 // Whether each field is in its range: refusals 3, 4 and 5.
-ghost use Rattle.std.specs.Prelude.{◌≡◌, not, ◌&&◌, ◌||◌, eqb, ltb, length};
+ghost use Rattle.std.specs.Prelude.{◌≡◌, not, ◌&&◌, ◌||◌, eqb, ltb};
 ghost use Rattle.isa.specs.Code.{addresses};
-ghost use Rattle.datapath.specs.Memory.{memory_size};
 ghost use Rattle.cpu.specs.Range.{bit, cpu_ok, nibble, nibbles, options_ok, registers_ok, valid};
 ghost use Rattle.cpu.specs.State.{state};
 
@@ -136,7 +135,6 @@ fn cpu_ok(c: Cpu) -> bool
 // Whether a machine is in range, from its two parts: the memory is lent, not copied. Refusal 5 is the answer where this is false.
 #[tactic(auto, unfolding(cpu::specs::Range::valid, cpu::specs::Range::memory_ok))]
 pub(crate) fn sound(cpu: Cpu, memory: &[u8; MEMORY]) -> bool
-    requires { length memory.now ≡ memory_size }
     ensures { result ≡ valid (state cpu memory.now) }
 {
     cpu_ok(cpu) && all_nibbles(memory)

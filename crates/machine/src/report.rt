@@ -32,19 +32,19 @@ fn lit(cpu: Cpu) -> u8
 fn heading(cpu: Cpu) -> [u8; 16]
     ensures { result ≡ heading cpu }
 {
-    let pc = cpu.control.pc.0;
-    let cycles = cpu.cycles;
+    let pc = cpu.control.pc.0.to_le_bytes();
+    let cycles = cpu.cycles.to_le_bytes();
     [
         44,
         0,
         16,
         0,
-        (pc % 256) as u8,
-        (pc / 256) as u8,
-        (cycles % 256) as u8,
-        (cycles / 256 % 256) as u8,
-        (cycles / 65536 % 256) as u8,
-        (cycles / 16777216 % 256) as u8,
+        pc[0],
+        pc[1],
+        cycles[0],
+        cycles[1],
+        cycles[2],
+        cycles[3],
         cpu.interrupts.level,
         cpu.status.halted,
         cpu.status.fault,
