@@ -1,5 +1,5 @@
 -- How the code goes from digit to digit. No promise of an exported function cites it. Assumes nothing.
-use Rattle.std.specs.Prelude.{ℕ, suc, ◌+◌, ◌*◌, ◌/◌, ◌%◌, ◌^◌, Bool, true, false, cond, List, [], ◌∷◌, ◌++◌, map, eqb, ltb, ℤ, nat_abs, Option, Some, None}
+use Rattle.std.specs.Prelude.{ℕ, suc, ◌≡◌, ◌+◌, ◌*◌, ◌/◌, ◌%◌, ◌^◌, Bool, true, false, cond, List, [], ◌∷◌, ◌++◌, map, eqb, ltb, ℤ, nat_abs, Option, Some, None}
 use Rattle.glass.specs.Shapes.{Cell, shapes, blank, hyphen}
 use Rattle.glass.specs.Pictures.{digit, lit, signed}
 use Rattle.glass.specs.Drawing.{fewest, fits, is_negative, point_at}
@@ -78,10 +78,11 @@ abbrev pub byte_of : Cell → ℕ
 byte_of k = k.abcd + k.efgp * 16
 
 -- a number as it is drawn and written, where it fits
-abbrev pub figure_of : ℤ → ℕ → Option Figure
-figure_of value count =
-    cond (fits (is_negative value) (fewest (nat_abs value) count))
-    (Some (record { minus = is_negative value; size = nat_abs value; places = count; digits = fewest (nat_abs value) count })) None
+abbrev pub FigureOf : ℤ → ℕ → Option Figure → Type 0
+FigureOf value count None = fits (is_negative value) (fewest (nat_abs value) count) ≡ false
+FigureOf value count (Some x) =
+    (fits x.minus x.digits ≡ true) × (x.minus ≡ is_negative value) × (x.size ≡ nat_abs value) × (x.places ≡ count)
+    × (x.digits ≡ fewest (nat_abs value) count)
 
 -- what is drawn where so many places stand to the right
 abbrev pub placed : Figure → ℕ → Cell

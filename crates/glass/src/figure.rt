@@ -1,7 +1,6 @@
 // A number as it is drawn and written: with the fewest digits, at least one, and one before any point.
-ghost use Rattle.std.specs.Prelude.{◌≡◌, ◌≤◌, ◌/◌, ◌%◌, ◌^◌, IfSome};
+ghost use Rattle.std.specs.Prelude.{◌≡◌, ◌≤◌, ◌/◌, ◌%◌, ◌^◌};
 ghost use Rattle.glass.specs.Drawing.{enough, fewest, fits, point_at};
-ghost use Rattle.glass.specs.Walk.{figure_of};
 
 #[derive(Clone, Copy, Debug, PartialEq, Eq)]
 pub(crate) struct Figure {
@@ -10,6 +9,7 @@ pub(crate) struct Figure {
     // How many digits follow the point.
     pub(crate) places: u8,
     pub(crate) digits: u8,
+    ghost few: { digits ≤ 4 },
 }
 
 // Whether `n` digits hold a number, with one before the point.
@@ -20,7 +20,7 @@ fn enough(size: u32, places: u8, n: u8) -> bool
     size < 10u32.pow(u32::from(n)) && places < n
 }
 
-// The fewest digits; 5 where four are not enough.
+// The fewest digits; 5 where four are not enough, and no Option, since `fewest` of the definitions says so.
 fn fewest(size: u32, places: u8) -> u8
     ensures { result ≡ fewest size places }
 {
@@ -40,15 +40,19 @@ fn fits(minus: bool, n: u8) -> bool
 }
 
 impl Figure {
+    ghost use Rattle.glass.specs.Walk.{FigureOf};
+
     // None where the number does not fit the glass.
     pub(crate) fn of(value: i32, places: u8) -> Option<Figure>
-        ensures same { result ≡ figure_of value places }
-        ensures at_most { IfSome result (λ x. x.digits ≤ 4) }
+        ensures { FigureOf value places result }
     {
         let minus = value.is_negative();
         let size = value.unsigned_abs();
         let digits = fewest(size, places);
-        fits(minus, digits).then_some(Figure {
+        if !fits(minus, digits) {
+            return None;
+        }
+        Some(Figure {
             minus,
             size,
             places,

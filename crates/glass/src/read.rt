@@ -88,10 +88,9 @@ fn walk(picture: &[u8]) -> Result<Reading, Unseen>
         minus: false,
         places: 0,
     };
-    for k in 0..4u8 {
-        let at = k as usize * 2;
-        let Some(next) = step(front, picture[at], picture[at + 1], k == 3) else {
-            return Err(Unseen::Unreadable(k));
+    for (k, digit) in picture.chunks_exact(2).enumerate() {
+        let Some(next) = step(front, digit[0], digit[1], k == 3) else {
+            return Err(Unseen::Unreadable(k as u8));
         };
         front = next;
     }

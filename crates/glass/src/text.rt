@@ -1,5 +1,5 @@
 // A reading as a person writes it: `dark`, 12.34, -0.50.
-ghost use Rattle.std.specs.Prelude.{◌+◌, ◌<◌, ◌≤◌, [], ◌∷◌, ◌++◌, cond, Some};
+ghost use Rattle.std.specs.Prelude.{◌+◌, ◌<◌, [], ◌∷◌, ◌++◌, cond, Some};
 ghost use Rattle.std.specs.Fmt.{WritesOnOk};
 ghost use Rattle.glass.specs.Drawing.{digits_of};
 ghost use Rattle.glass.specs.Text.{spelt, text_of};
@@ -31,7 +31,6 @@ fn write_number<W: fmt::Write>(f: &mut fmt::Formatter<W>, value: i32, places: u8
 }
 
 fn write_figure<W: fmt::Write>(f: &mut fmt::Formatter<W>, figure: Figure) -> fmt::Result
-    requires { figure.digits ≤ 4 }
     ensures { WritesOnOk W.write_str_gives f.old result (cond figure.minus (45 ∷ []) [] ++ spelt (digits_of figure.digits figure.size figure.places)) f.new }
 {
     if figure.minus {
@@ -42,7 +41,6 @@ fn write_figure<W: fmt::Write>(f: &mut fmt::Formatter<W>, figure: Figure) -> fmt
 
 // The point among them.
 fn write_digits<W: fmt::Write>(f: &mut fmt::Formatter<W>, figure: Figure) -> fmt::Result
-    requires { figure.digits ≤ 4 }
     ensures { WritesOnOk W.write_str_gives f.old result (spelt (digits_of figure.digits figure.size figure.places)) f.new }
 {
     for after in (0..figure.digits).rev() {

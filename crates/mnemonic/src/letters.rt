@@ -1,7 +1,7 @@
 // A line put together: its front, the fixed letters up to its operand, and the operand.
 ghost use Rattle.std.specs.Prelude.{ℕ, List, ◌≡◌, [], ◌∷◌, ◌++◌, ◌+◌, ◌≤◌, ◌<◌, ◌%◌, length};
 ghost use Rattle.mnemonic.specs.Held.{Holds};
-ghost use Rattle.mnemonic.specs.Spelling.{codes, digit, led, number};
+ghost use Rattle.mnemonic.specs.Spelling.{codes, digit, hex_digits, led};
 
 use crate::Text;
 
@@ -38,7 +38,7 @@ pub fn digit(x: u16) -> u8
 }
 
 // A number by its digits: a 0 in front where the first is a letter, an H behind.
-fn number(front: &[u8], digits: &[u8]) -> Text
+pub(crate) fn number(front: &[u8], digits: &[u8]) -> Text
     requires not_empty { 0 < length digits.now }
     requires room { length front.now + length digits.now ≤ 14 }
     ensures { Holds result (front.now ++ (led digits.now ++ codes "H")) }
@@ -50,25 +50,22 @@ fn number(front: &[u8], digits: &[u8]) -> Text
     joined(joined(front, b"0").as_slice(), ended.as_slice())
 }
 
-pub(crate) fn nibble(front: &[u8], x: u8) -> Text
-    requires { length front.now ≤ 10 }
-    ensures { Holds result (front.now ++ number 1 x) }
+pub(crate) fn nibble(x: u8) -> [u8; 1]
+    ensures { result ≡ hex_digits 1 x }
 {
-    number(front, &[digit(x as u16)])
+    [digit(x as u16)]
 }
 
-pub(crate) fn byte(front: &[u8], x: u16) -> Text
-    requires { length front.now ≤ 10 }
-    ensures { Holds result (front.now ++ number 2 x) }
+pub(crate) fn byte(x: u16) -> [u8; 2]
+    ensures { result ≡ hex_digits 2 x }
 {
-    number(front, &[digit(x / 16), digit(x)])
+    [digit(x / 16), digit(x)]
 }
 
-pub(crate) fn address(front: &[u8], x: u16) -> Text
-    requires { length front.now ≤ 10 }
-    ensures { Holds result (front.now ++ number 3 x) }
+pub(crate) fn address(x: u16) -> [u8; 3]
+    ensures { result ≡ hex_digits 3 x }
 {
-    number(front, &[digit(x / 16 / 16), digit(x / 16), digit(x)])
+    [digit(x / 16 / 16), digit(x / 16), digit(x)]
 }
 
 // A line with no operand.
@@ -81,7 +78,7 @@ pub(crate) fn plain(line: &[u8]) -> Text
 
 // A line that ends in a register's number.
 pub(crate) fn register(front: &[u8], n: u8) -> Text
-    requires { length front.now ≤ 10 }
+    requires { length front.now < 16 }
     ensures { Holds result (front.now ++ (digit (n % 16) ∷ [])) }
 {
     joined(front, &[digit(n as u16)])

@@ -5,7 +5,7 @@ ghost use Rattle.mnemonic.specs.Line.{text_of};
 ghost use Rattle.mnemonic.specs.Placing.{placed_at};
 
 use crate::Text;
-use crate::letters::{address, byte, digit, joined, nibble, plain, register};
+use crate::letters::{address, byte, digit, joined, nibble, number, plain, register};
 use isa::{Condition, Instruction, Page, Pointer, Port, ProgramAddress};
 
 // JAn: the bit's number is a digit of the first word.
@@ -13,7 +13,7 @@ use isa::{Condition, Instruction, Page, Pointer, Port, ProgramAddress};
 fn bit_branch(n: u8, target: ProgramAddress) -> Text
     ensures { Holds result (text_of (Instruction.Branch target (Condition.Ja n))) }
 {
-    address(&[b'J', b'A', digit(n as u16), b' '], target.0)
+    number(&[b'J', b'A', digit(n as u16), b' '], &address(target.0))
 }
 
 // A conditional branch.
@@ -21,17 +21,17 @@ fn bit_branch(n: u8, target: ProgramAddress) -> Text
 fn branch(condition: Condition, target: ProgramAddress) -> Text
     ensures { Holds result (text_of (Instruction.Branch target condition)) }
 {
-    let at = target.0;
+    let at = address(target.0);
     match condition {
         Condition::Ja(n) => bit_branch(n, target),
-        Condition::JnzR0 => address(b"JNZ R0,", at),
-        Condition::JnzR1 => address(b"JNZ R1,", at),
-        Condition::JnzR4 => address(b"JNZ R4,", at),
-        Condition::Jz => address(b"JZ A,", at),
-        Condition::JnzA => address(b"JNZ A,", at),
-        Condition::Jc => address(b"JC ", at),
-        Condition::Jnc => address(b"JNC ", at),
-        Condition::Jtmr => address(b"JTMR ", at),
+        Condition::JnzR0 => number(b"JNZ R0,", &at),
+        Condition::JnzR1 => number(b"JNZ R1,", &at),
+        Condition::JnzR4 => number(b"JNZ R4,", &at),
+        Condition::Jz => number(b"JZ A,", &at),
+        Condition::JnzA => number(b"JNZ A,", &at),
+        Condition::Jc => number(b"JC ", &at),
+        Condition::Jnc => number(b"JNC ", &at),
+        Condition::Jtmr => number(b"JTMR ", &at),
     }
 }
 
@@ -52,8 +52,8 @@ pub fn text_of(instruction: Instruction) -> Text
         Instruction::AdcAM => plain(b"ADC A,[R1R0]"),
         Instruction::SubAM => plain(b"SUB A,[R1R0]"),
         Instruction::SbcAM => plain(b"SBC A,[R1R0]"),
-        Instruction::AddAX(d) => nibble(b"ADD A,", d),
-        Instruction::SubAX(d) => nibble(b"SUB A,", d),
+        Instruction::AddAX(d) => number(b"ADD A,", &nibble(d)),
+        Instruction::SubAX(d) => number(b"SUB A,", &nibble(d)),
         Instruction::Daa => plain(b"DAA"),
         Instruction::AndAM => plain(b"AND A,[R1R0]"),
         Instruction::OrAM => plain(b"OR A,[R1R0]"),
@@ -61,9 +61,9 @@ pub fn text_of(instruction: Instruction) -> Text
         Instruction::AndMA => plain(b"AND [R1R0],A"),
         Instruction::OrMA => plain(b"OR [R1R0],A"),
         Instruction::XorMA => plain(b"XOR [R1R0],A"),
-        Instruction::AndAX(d) => nibble(b"AND A,", d),
-        Instruction::OrAX(d) => nibble(b"OR A,", d),
-        Instruction::XorAX(d) => nibble(b"XOR A,", d),
+        Instruction::AndAX(d) => number(b"AND A,", &nibble(d)),
+        Instruction::OrAX(d) => number(b"OR A,", &nibble(d)),
+        Instruction::XorAX(d) => number(b"XOR A,", &nibble(d)),
         Instruction::IncA => plain(b"INC A"),
         Instruction::IncR(n) => register(b"INC R", n),
         Instruction::IncM(Pointer::R1R0) => plain(b"INC [R1R0]"),
@@ -78,10 +78,16 @@ pub fn text_of(instruction: Instruction) -> Text
         Instruction::MovAM(Pointer::R3R2) => plain(b"MOV A,[R3R2]"),
         Instruction::MovMA(Pointer::R1R0) => plain(b"MOV [R1R0],A"),
         Instruction::MovMA(Pointer::R3R2) => plain(b"MOV [R3R2],A"),
-        Instruction::MovAX(d) => nibble(b"MOV A,", d),
-        Instruction::MovPairXX(Pointer::R1R0, low, high) => byte(b"MOV R1R0,", xx(low, high)),
-        Instruction::MovPairXX(Pointer::R3R2, low, high) => byte(b"MOV R3R2,", xx(low, high)),
-        Instruction::MovR4X(d) => nibble(b"MOV R4,", d),
+        Instruction::MovAX(d) => number(b"MOV A,", &nibble(d)),
+        Instruction::MovPairXX(Pointer::R1R0, low, high) => number(
+            b"MOV R1R0,",
+            &byte(xx(low, high)),
+        ),
+        Instruction::MovPairXX(Pointer::R3R2, low, high) => number(
+            b"MOV R3R2,",
+            &byte(xx(low, high)),
+        ),
+        Instruction::MovR4X(d) => number(b"MOV R4,", &nibble(d)),
         Instruction::RlA => plain(b"RL A"),
         Instruction::RlcA => plain(b"RLC A"),
         Instruction::RrA => plain(b"RR A"),
@@ -90,9 +96,9 @@ pub fn text_of(instruction: Instruction) -> Text
         Instruction::InA(Port::Ps) => plain(b"IN A,PS"),
         Instruction::InA(Port::Pp) => plain(b"IN A,PP"),
         Instruction::OutPaA => plain(b"OUT PA,A"),
-        Instruction::Jmp(t) => address(b"JMP ", t.0),
+        Instruction::Jmp(t) => number(b"JMP ", &address(t.0)),
         Instruction::Branch(t, k) => branch(k, t),
-        Instruction::Call(t) => address(b"CALL ", t.0),
+        Instruction::Call(t) => number(b"CALL ", &address(t.0)),
         Instruction::Ret => plain(b"RET"),
         Instruction::Reti => plain(b"RETI"),
         Instruction::Clc => plain(b"CLC"),
@@ -100,7 +106,7 @@ pub fn text_of(instruction: Instruction) -> Text
         Instruction::Ei => plain(b"EI"),
         Instruction::Di => plain(b"DI"),
         Instruction::Nop => plain(b"NOP"),
-        Instruction::TimerXX(x) => byte(b"TIMER ", x as u16),
+        Instruction::TimerXX(x) => number(b"TIMER ", &byte(x as u16)),
         Instruction::TimerOn => plain(b"TIMER ON"),
         Instruction::TimerOff => plain(b"TIMER OFF"),
         Instruction::MovATmrl => plain(b"MOV A,TMRL"),
@@ -111,7 +117,7 @@ pub fn text_of(instruction: Instruction) -> Text
         Instruction::ReadR4A(Page::F) => plain(b"READF R4A"),
         Instruction::ReadMr0A(Page::Current) => plain(b"READ MR0A"),
         Instruction::ReadMr0A(Page::F) => plain(b"READF MR0A"),
-        Instruction::SoundN(d) => nibble(b"SOUND ", d),
+        Instruction::SoundN(d) => number(b"SOUND ", &nibble(d)),
         Instruction::SoundA => plain(b"SOUND A"),
         Instruction::SoundOne => plain(b"SOUND ONE"),
         Instruction::SoundLoop => plain(b"SOUND LOOP"),

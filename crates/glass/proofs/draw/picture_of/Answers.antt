@@ -1,12 +1,12 @@
 -- `glass::draw::picture_of` meets its contract.
-use Rattle.std.proofs.Common.{ℤ, ◌≡◌, cond, Option, Some, None, Ok, Err, ap, sym, ◌∙◌, rules, w32}
+use Rattle.std.proofs.Common.{ℤ, ◌≡◌, cond, Option, Some, None, Ok, Err, ap, sym, subst, ◌∙◌, rules, w32}
 use mir.Val.{SFits}
 use mir.ValLaws.{to_z-of_z}
 use Rattle.std.specs.Option.{ok_or}
 use Rattle.refusals.specs.declared.Refusal.TheVariants.{Glass}
 use Rattle.glass.specs.Shapes.{nibbles}
 use Rattle.glass.specs.Drawing.{drawn, fitting}
-use Rattle.glass.specs.Walk.{figure_of}
+use Rattle.glass.specs.Walk.{FigureOf}
 use Rattle.glass.specs.declared.Reading.{Reading}
 use Rattle.glass.specs.declared.figure.Figure.{Figure}
 use Rattle.glass.proofs.Rows.{drawn_as}
@@ -20,7 +20,7 @@ pub returns : goal.returns
 returns c =
     let x = c.in_ok-figure.figure in
     let fits : SFits w32 c.in-Number.value = search rules in
-    let back = ap (λ (z : ℤ). figure_of z c.in-Number.places) (to_z-of_z w32 c.in-Number.value fits) in
     let o = some c.of.result x (sym c.ok_or.ensures.value ∙ c.in_ok-figure.was) in
-    ap Ok c.row.ensures ∙ drawn_as c.in-Number.value c.in-Number.places (Some x) (o ∙ c.of.ensures.same ∙ back)
+    let of = subst (λ (z : ℤ). FigureOf z c.in-Number.places (Some x)) (to_z-of_z w32 c.in-Number.value fits) (subst (FigureOf _ c.in-Number.places) (sym o) c.of.ensures) in
+    ap Ok c.row.ensures ∙ drawn_as c.in-Number.value c.in-Number.places (Some x) of
     ∙ ap (λ (r : Reading). cond (fitting r) (Ok (nibbles (drawn r))) (Err Glass)) (sym c.in-Number.is)

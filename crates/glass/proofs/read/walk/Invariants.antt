@@ -1,10 +1,11 @@
-use Rattle.std.proofs.Common.{◌≡◌, drop}
-use Rattle.glass.specs.Shapes.{cells}
-use Rattle.glass.specs.Walk.{start}
-use Rattle.glass.proofs.Walks.{walked, Held}
-use Rattle.glass.proofs.Turns.{laters}
+use Rattle.std.proofs.Common.{◌≡◌}
+use Rattle.std.specs.Iterator.Adapters.{enumerate_source, enumerate_count}
+use Rattle.std.specs.Slice.Iter.{chunks_exact_rest, chunks_exact_size}
+use Rattle.glass.proofs.Turns.{Ahead}
 use Rattle.glass.proofs.read.walk.Given as goal
 
--- the reader ends as it does from here, with what it holds now
+-- the digits that are left are cut in twos
 abbrev pub invariant-loop-k : goal.invariant-loop-k
-invariant-loop-k l = Held l.k l.front × (walked (cells l.picture) start ≡ laters l.k (walked (drop l.k (cells l.picture)) l.front))
+invariant-loop-k l =
+    Ahead l.picture (chunks_exact_rest (enumerate_source l.k-iterator)) (enumerate_count l.k-iterator) l.front
+    × (chunks_exact_size (enumerate_source l.k-iterator) ≡ 2)
