@@ -1,3 +1,4 @@
+pub mod Chunks
 pub mod Flows
 pub mod Lengths
 pub mod Reach

@@ -25,9 +25,9 @@ fn pack(seen: &[u8; PAIRS], marks: &mut [u8])
     requires by_index { (k : ℕ) → get_or seen.now k 0 ≤ 1 }
     ensures { Packed seen.now marks.new }
 {
-    for address in 0..MARKS {
-        let code = address * 3;
-        marks[address] = seen[code] + seen[code + 1] * 2 + seen[code + 2] * 4;
+    let (addresses, _) = seen.as_chunks::<3>();
+    for (address, flags) in addresses.iter().enumerate() {
+        marks[address] = flags[0] + flags[1] * 2 + flags[2] * 4;
     }
 }
 

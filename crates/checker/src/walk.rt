@@ -23,10 +23,7 @@ fn lower(named: Option<Named>, code: u16, fault: u8) -> Named
 {
     match named {
         Some(lowest) if lowest.code <= code => lowest,
-        _ => Named {
-            code: code,
-            fault: fault,
-        },
+        _ => Named { code, fault },
     }
 }
 

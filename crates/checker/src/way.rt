@@ -5,22 +5,18 @@ ghost use Rattle.checker.specs.Trail.{ListedTo, Listings};
 ghost use Rattle.checker.specs.Walk.{pair_of, pairs};
 ghost use Rattle.checker.specs.Ways.{WayAnswers, listed};
 
-use crate::walk::{PAIRS, Walk};
+use crate::walk::Walk;
 use refusals::Refusal;
 use rom::reader::check_mask;
 
-const LAST_PLACE: u16 = PAIRS as u16 - 1;
-
-// A pair's three bytes, the last first.
+// A pair's three bytes.
 fn put(list: &mut [u8], at: usize, code: u16)
     requires { at + 3 ≤ length list.old }
     ensures list_after { drop at list.new ≡ listed (pair_of code ∷ []) ++ drop (at + 3) list.old }
     ensures list_len_unchanged { length list.new ≡ length list.old }
 {
-    let address = code / 3;
-    list[at + 2] = (code % 3) as u8;
-    list[at + 1] = (address / 256) as u8;
-    list[at] = (address % 256) as u8;
+    let [low, high] = (code / 3).to_le_bytes();
+    list[at..at + 3].copy_from_slice(&[low, high, (code % 3) as u8]);
 }
 
 // The way back, over the places of the queue.
@@ -30,12 +26,7 @@ impl Walk {
         requires { Stands pairs self.now.queue code }
         ensures { (result < pairs) × StandsFirst self.now.queue code result }
     {
-        for place in 0..LAST_PLACE {
-            if self.queue[place as usize] == code {
-                return place;
-            }
-        }
-        LAST_PLACE
+        self.queue.iter().position(|c| *c == code).unwrap_or(0) as u16
     }
 
     // The place before a place after the first. Going back from place to place, each place is passed once.
