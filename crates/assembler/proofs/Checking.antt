@@ -39,16 +39,17 @@ module _ {text starts none : List ℕ} {all : ℕ} (settled : Settled text start
   pub is-wrong : (r.missing || defined) ≡ true → number ≡ first (faulty text) start 1 (program text)
   is-wrong e = walk-found g.walk (faulty text) g.found (fault-is ∙ e)
 
-  module _ (right : (r.missing || defined) ≡ false) (e : ℕ) (ends : e ≡ line_end text at) where
+  module _ (right : (r.missing || defined) ≡ false) where
     no-fault : faulty text g.s (statement (tokens_at text at)) ≡ false
     no-fault = fault-is ∙ right
 
-    pub checked : e ≡ length text → 0 ≡ first (faulty text) start 1 (program text)
-    checked h = walk-clear g.walk (faulty text) g.found no-fault e ends h
+    pub checked : line_end text at ≡ length text → 0 ≡ first (faulty text) start 1 (program text)
+    checked = walk-clear g.walk (faulty text) g.found no-fault
 
-    pub check-on : (count' : ℕ) → count' ≡ pick r.labelled (count + 1) count → e < length text → Checking text (e + 1) (number + 1) count'
+    pub check-on : (count' : ℕ) → count' ≡ pick r.labelled (count + 1) count → line_end text at < length text
+        → Checking text (line_end text at + 1) (number + 1) count'
     check-on count' c h = record {
       s = next g.s (statement (tokens_at text at));
-      walk = walk-on g.walk x count' e c ends h;
-      found = walk-past g.walk (faulty text) g.found no-fault e ends h;
+      walk = walk-on g.walk x count' c h;
+      found = walk-past g.walk (faulty text) g.found no-fault h;
     }

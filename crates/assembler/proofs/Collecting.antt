@@ -1,6 +1,6 @@
 -- The first pass, on plain values: every line so far can be read, and the labels' words stand at the places noted. Assumes nothing.
 use Prim.Native.Nat.{ℕ, suc, ◌+◌, ◌*◌, ◌<◌, ◌≤◌}
-use mathlib.Core.Path.{◌≡◌, refl, sym, ap, subst, ◌∙◌}
+use mathlib.Core.Path.{◌≡◌, refl, sym, ap, ◌∙◌}
 use mathlib.Core.Bool.{true, false}
 use mathlib.Core.List.{List, [], ◌∷◌, ◌++◌, append-nil, map, map-append}
 use native.Mathlib.Numerals.{add-one}
@@ -119,21 +119,19 @@ module _ {text starts none : List ℕ} {at number count : ℕ} {r : Parts} (shor
             names = λ _. ap (λ (a : Above). a.names) (g.ends ∙ ap (end g.s) is) ∙ noted.names;
           }
 
-      read_next : line_end text at < length text → Reading text starts' (line_end text at + 1) (number + 1) count'
+      pub read_next : line_end text at < length text → Reading text starts' (line_end text at + 1) (number + 1) count'
       read_next h =
           let is = next-line text at g.within h in
-          rw (add-one, add-one) record {
+          record {
             s = next g.s (statement (tokens_at text at));
             within = omega arith;
             some_number = omega arith;
             few = omega (arith, g.few);
             many = omega (arith, noted.many);
             room = noted.room;
-            found = read-on (program_at text (suc (line_end text at))) is;
+            found = read-on (program_at text (line_end text at + 1)) is
+                ∙ ap (λ (k : ℕ). first unread (next g.s (statement (tokens_at text at))) k (program_at text (line_end text at + 1))) (sym (add-one number));
             ends = g.ends ∙ ap (end g.s) is;
             names = noted.names;
             held = noted.held;
           }
-
-      pub read_more : (e : ℕ) → e ≡ line_end text at → e < length text → Reading text starts' (e + 1) (number + 1) count'
-      read_more e q h = subst (λ (k : ℕ). Reading text starts' (k + 1) (number + 1) count') (sym q) (read_next (omega arith))

@@ -8,4 +8,5 @@ pub mod Placing
 pub mod Settling
 pub mod Shaping
 pub mod Splitting
+pub mod Turning
 pub mod Walking

@@ -118,9 +118,9 @@ module _ {text starts addresses used : List ℕ} {all at number count address : 
           let m : count + 1 ≤ all = rw l at n in
           (omega (arith, g.settled.room), omega (arith, here-most.0))
 
-      module _ (addresses' one two : List ℕ) (count' e : ℕ) (noted : addresses' ≡ pick r.labelled (set addresses count here) addresses)
+      module _ (addresses' one two : List ℕ) (count' : ℕ) (noted : addresses' ≡ pick r.labelled (set addresses count here) addresses)
           (counts : count' ≡ pick r.labelled (count + 1) count) (one-is : one ≡ pick (ltb 0 size) (set used here 1) used)
-          (two_is : two ≡ pick (ltb 1 size) (set one (here + 1) 1) one) (ends : e ≡ line_end text at) where
+          (two_is : two ≡ pick (ltb 1 size) (set one (here + 1) 1) one) where
         pub same-room : length addresses' ≡ length addresses
         same-room = case r.labelled
             (λ l. let a : addresses' ≡ set addresses count here = noted ∙ rw l refl in ap length a ∙ length-set addresses count here)
@@ -147,10 +147,10 @@ module _ {text starts addresses used : List ℕ} {all at number count address : 
             let c : count' ≡ count = counts ∙ rw l refl in
             rw (l, a, c) (append-nil g.s.addresses ∙ g.stored))
 
-        pub placed : e ≡ length text → (0 ≡ first misplaced start 1 (program text)) × (◌≡◌ {A = ℕ} 0 0 → Placed text starts addresses' all)
+        pub placed : line_end text at ≡ length text → (0 ≡ first misplaced start 1 (program text)) × (◌≡◌ {A = ℕ} 0 0 → Placed text starts addresses' all)
         placed h =
-            let clear = walk-clear g.walk misplaced g.found good-place e ends h in
-            let is = last_line text at g.walk.within (sym ends ∙ h) in
+            let clear = walk-clear g.walk misplaced g.found good-place h in
+            let is = last_line text at g.walk.within h in
             let last-names : length (next g.s st).names ≡ count' = next-count g.walk x count' counts in
             let over : end start (program text) ≡ next g.s st = g.walk.ends ∙ ap (end g.s) is in
             let full : count' ≡ all = sym last-names ∙ ap (λ (a : Above). length a.names) (sym over) ∙ ap length g.settled.names
@@ -171,14 +171,15 @@ module _ {text starts addresses used : List ℕ} {all at number count address : 
         unfolding next
         next-flags f = rw (address_is, shows-size x readable, sym size_is) f
 
-        pub place-on : e < length text → Placing text starts addresses' two all (e + 1) (number + 1) count' (here + size)
+        pub place-on : line_end text at < length text
+            → Placing text starts addresses' two all (line_end text at + 1) (number + 1) count' (here + size)
         place-on h =
             let f = flag-span g.s.written used one two here size g.flags g.flag-count here-most.1 end-most one-is two_is in
             record {
               s = next g.s st;
-              walk = walk-on g.walk x count' e counts ends h;
+              walk = walk-on g.walk x count' counts h;
               settled = settled';
-              found = walk-past g.walk misplaced g.found good-place e ends h;
+              found = walk-past g.walk misplaced g.found good-place h;
               at-is = next-at;
               most = end-most;
               flags = next-flags f.0;

@@ -1,9 +1,8 @@
 -- The last two passes, on plain values: every line has its place, and the labels their addresses. Assumes nothing.
-use Prim.Native.Nat.{ℕ, suc, ◌+◌, ◌-◌, ◌%◌, ◌<◌, ◌≤◌}
+use Prim.Native.Nat.{ℕ, ◌+◌, ◌-◌, ◌%◌, ◌<◌, ◌≤◌}
 use mathlib.Core.Path.{◌≡◌, refl, sym, ap, ◌∙◌}
 use mathlib.Core.Bool.{true, false}
 use mathlib.Core.List.{List, [], ◌∷◌}
-use native.Mathlib.Numerals.{add-one}
 use native.Mathlib.Omega.{arith}
 use lib.Dec.{eqb, ltb}
 use lib.ListN.{get_or, length, set, take}
@@ -89,14 +88,14 @@ module _ {text starts addresses : List ℕ} {all : ℕ} (p : Placed text starts 
     unfolding next
     next-at = rw (address_is, shows-size x readable, size_is) refl
 
-    pub going_on : (count' e : ℕ) → count' ≡ pick r.labelled (count + 1) count → e ≡ line_end text at → e < length text
-        → Going text (e + 1) (number + 1) count' (here + size) (next s st)
-    going_on count' e c q h = record {
-      walk = walk-on g.walk x count' e c q h;
+    pub going_on : (count' : ℕ) → count' ≡ pick r.labelled (count + 1) count → line_end text at < length text
+        → Going text (line_end text at + 1) (number + 1) count' (here + size) (next s st)
+    going_on count' c h = record {
+      walk = walk-on g.walk x count' c h;
       at-is = next-at;
       most = going-most.2;
       paired = next-paired s st g.paired;
-      placed = walk-past g.walk misplaced g.placed in_place e q h;
+      placed = walk-past g.walk misplaced g.placed in_place h;
     }
 
     -- the bytes that are stored
@@ -117,13 +116,11 @@ module _ {text starts addresses : List ℕ} {all : ℕ} (p : Placed text starts 
       put-line : (rest : List Statement) → program_at text at ≡ st ∷ rest → put whole s (program_at text at) out ≡ put whole (next s st) rest two
       put-line rest is = ap (λ (ls : List Statement). put whole s ls out) is ∙ ap (put whole (next s st) rest) (sym stores)
 
-      pub put_last : (e : ℕ) → e ≡ line_end text at → e ≡ length text → put whole s (program_at text at) out ≡ two
-      put_last e q h = put-line [] (last_line text at g.walk.within (sym q ∙ h))
+      pub put_last : line_end text at ≡ length text → put whole s (program_at text at) out ≡ two
+      put_last h = put-line [] (last_line text at g.walk.within h)
 
-      pub put_on : (e : ℕ) → e ≡ line_end text at → e < length text → put whole s (program_at text at) out ≡ put whole (next s st)
-          (program_at text (e + 1)) two
-      put_on e q h = put-line (program_at text (e + 1))
-          (next-line text at g.walk.within (omega arith) ∙ ap (λ (k : ℕ). st ∷ program_at text k) (sym (add-one e ∙ ap suc q)))
+      pub put_on : line_end text at < length text → put whole s (program_at text at) out ≡ put whole (next s st) (program_at text (line_end text at + 1)) two
+      put_on h = put-line (program_at text (line_end text at + 1)) (next-line text at g.walk.within h)
 
 -- ---- values that are checked
 pub record Valuing (text : List ℕ) (at number count address : ℕ) : Type 0 where
@@ -133,9 +130,8 @@ pub record Valuing (text : List ℕ) (at number count address : ℕ) : Type 0 wh
       (program_at text at)
 
 -- ---- bytes that are written: what is put from here on makes the whole; no value is a misfit
-pub record Writing (text out : List ℕ) (at count address : ℕ) (result : List ℕ) : Type 0 where
+pub record Writing (text out : List ℕ) (at number count address : ℕ) (result : List ℕ) : Type 0 where
   pub s : Above
-  pub number : ℕ
   pub going : Going text at number count address s
   pub found : first (misfit (end start (program text))) start 1 (program text) ≡ first (misfit (end start (program text))) s number
       (program_at text at)

@@ -1,9 +1,10 @@
 -- A text from a position on as its first line and the rest. Assumes nothing.
-use Prim.Native.Nat.{ℕ, suc, ◌-◌, ◌<◌, ◌≤◌}
-use mathlib.Core.Path.{◌≡◌, refl, ap, ◌∙◌}
+use Prim.Native.Nat.{ℕ, suc, ◌+◌, ◌-◌, ◌<◌, ◌≤◌}
+use mathlib.Core.Path.{◌≡◌, refl, sym, ap, ◌∙◌}
 use mathlib.Core.Bool.{not}
 use mathlib.Core.List.{List, [], ◌∷◌, map}
 use native.Mathlib.Nat.{add-suc}
+use native.Mathlib.Numerals.{add-one}
 use native.Mathlib.Omega.{arith}
 use lib.Dec.{eqb}
 use lib.ListN.{length, drop, length-drop, take}
@@ -47,9 +48,9 @@ module _ (text : List ℕ) (at : ℕ) (within : at ≤ length text) where
   pub last_line : line_end text at ≡ length text → program_at text at ≡ statement (tokens_at text at) ∷ []
   last_line e = ap (λ (ls : List (List ℕ)). map statement (map tokens ls)) (lines-last (drop at text) (omega (arith, length-drop at text)))
 
-  pub next-line : line_end text at < length text → program_at text at ≡ statement (tokens_at text at) ∷ program_at text (suc (line_end text at))
+  pub next-line : line_end text at < length text → program_at text at ≡ statement (tokens_at text at) ∷ program_at text (line_end text at + 1)
   next-line h =
       let n = length (up_to_lf (drop at text)) in
       ap (λ (ls : List (List ℕ)). map statement (map tokens ls)) (lines_more (drop at text) (omega (arith, length-drop at text)))
       ∙ ap (λ (s : List ℕ). statement (tokens_at text at) ∷ map statement (map tokens (lines s)))
-      (drop-drop (suc n) at text ∙ ap (λ (k : ℕ). drop k text) (add-suc at n))
+      (drop-drop (suc n) at text ∙ ap (λ (k : ℕ). drop k text) (add-suc at n ∙ sym (add-one (at + n))))

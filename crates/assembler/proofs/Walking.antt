@@ -46,7 +46,7 @@ pub record Split (text : List ℕ) (at : ℕ) : Type 0 where
 
 pub split : (text : List ℕ) (at : ℕ) → at ≤ length text → Split text at
 split text at h = case (ltb (line_end text at) (length text))
-    (λ e. record { rest = program_at text (suc (line_end text at)); is = next-line text at h (ltb-true (line_end text at) (length text) e) })
+    (λ e. record { rest = program_at text (line_end text at + 1); is = next-line text at h (ltb-true (line_end text at) (length text) e) })
     (λ e. record {
       rest = [];
       is = last_line text at h
@@ -248,19 +248,18 @@ module _ {text : List ℕ} {at number count : ℕ} {s : Above} (w : Walk text at
               (ap (λ (ls : List Statement). (end s ls).names) (sym l.is) ∙ ap (λ (a : Above). a.names) (sym w.ends) ∙ settled.names),
         )
 
-    pub walk-on : (count' e : ℕ) → count' ≡ pick r.labelled (count + 1) count → e ≡ line_end text at → e < length text
-        → Walk text (e + 1) (number + 1) count' (next s here)
-    walk-on count' e c q h =
-        let is : program_at text at ≡ here ∷ program_at text (e + 1)
-        = next-line text at w.within (omega arith) ∙ ap (λ (k : ℕ). here ∷ program_at text k) (sym (add-one e ∙ ap suc q)) in
+    pub walk-on : (count' : ℕ) → count' ≡ pick r.labelled (count + 1) count → line_end text at < length text
+        → Walk text (line_end text at + 1) (number + 1) count' (next s here)
+    walk-on count' c h =
+        let is = next-line text at w.within h in
         record {
           within = omega arith;
           some_number = omega arith;
           few = omega (arith, w.few);
           counted = next-count count' c;
           ends = w.ends ∙ ap (end s) is;
-          read = ap (λ (k : ℕ). first unread (next s here) k (program_at text (e + 1))) (add-one number)
-              ∙ (first-clear unread s number here (program_at text (e + 1)) (ap (first unread s number) (sym is) ∙ w.read) w.some_number).1;
+          read = ap (λ (k : ℕ). first unread (next s here) k (program_at text (line_end text at + 1))) (add-one number)
+              ∙ (first-clear unread s number here (program_at text (line_end text at + 1)) (ap (first unread s number) (sym is) ∙ w.read) w.some_number).1;
         }
 
   -- a fault that is looked for on the way
@@ -268,16 +267,14 @@ module _ {text : List ℕ} {at number count : ℕ} {s : Above} (w : Walk text at
     pub walk-found : bad s here ≡ true → number ≡ first bad start 1 (program text)
     walk-found e = let l = split text at w.within in sym (found ∙ ap (first bad s number) l.is ∙ first_found bad s number here l.rest e)
 
-    pub walk-clear : bad s here ≡ false → (e : ℕ) → e ≡ line_end text at → e ≡ length text → 0 ≡ first bad start 1 (program text)
-    walk-clear b e q h = sym (found ∙ ap (first bad s number) (last_line text at w.within (sym q ∙ h)) ∙ first_on bad s number here [] b)
+    pub walk-clear : bad s here ≡ false → line_end text at ≡ length text → 0 ≡ first bad start 1 (program text)
+    walk-clear b h = sym (found ∙ ap (first bad s number) (last_line text at w.within h) ∙ first_on bad s number here [] b)
 
-    pub walk-past : bad s here ≡ false → (e : ℕ) → e ≡ line_end text at → e < length text
-        → first bad start 1 (program text) ≡ first bad (next s here) (number + 1) (program_at text (e + 1))
-    walk-past b e q h =
-        let is : program_at text at ≡ here ∷ program_at text (e + 1)
-        = next-line text at w.within (omega arith) ∙ ap (λ (k : ℕ). here ∷ program_at text k) (sym (add-one e ∙ ap suc q)) in
-        found ∙ ap (first bad s number) is ∙ first_on bad s number here (program_at text (e + 1)) b
-        ∙ ap (λ (k : ℕ). first bad (next s here) k (program_at text (e + 1))) (sym (add-one number))
+    pub walk-past : bad s here ≡ false → line_end text at < length text
+        → first bad start 1 (program text) ≡ first bad (next s here) (number + 1) (program_at text (line_end text at + 1))
+    walk-past b h =
+        found ∙ ap (first bad s number) (next-line text at w.within h) ∙ first_on bad s number here (program_at text (line_end text at + 1)) b
+        ∙ ap (λ (k : ℕ). first bad (next s here) k (program_at text (line_end text at + 1))) (sym (add-one number))
 
     -- one that no line has
     pub walk_none : first bad start 1 (program text) ≡ 0 → bad s here ≡ false

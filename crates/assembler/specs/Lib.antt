@@ -1,5 +1,6 @@
 pub mod Forms
 pub mod Passing
+pub mod Places
 pub mod Program
 pub mod Read
 pub mod Shapes

@@ -5,4 +5,5 @@ pub mod assemble;
 pub mod forms;
 pub mod lines;
 pub mod passes;
+mod places;
 pub mod refused;

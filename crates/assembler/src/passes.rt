@@ -1,17 +1,17 @@
 // The passes over a text. Each refuses it at the first line that it finds fault with.
-ghost use Rattle.std.specs.Prelude.{◌≡◌, true, false, not, ◌&&◌, ◌||◌, ◌+◌, ◌-◌, ◌%◌, ◌<◌, ◌≤◌, get_or, length, replicate, set, eqb, is_some, unwrap_or};
+ghost use Rattle.std.specs.Prelude.{◌≡◌, true, false, not, ◌&&◌, ◌||◌, ◌+◌, ◌-◌, ◌%◌, ◌<◌, ◌≤◌, get_or, length, replicate, set, eqb, is_some, unwrap_or, IfSome};
 ghost use Rattle.isa.specs.Choice.{pick};
 ghost use Rattle.operand.specs.Words.{among};
 ghost use Rattle.operand.specs.Read.{names_of, word_at};
 ghost use Rattle.assembler.specs.Forms.{rom_size};
 ghost use Rattle.assembler.specs.Program.{end, first, line_of, mislabelled, misfit, misplaced, program, put, start, within};
 ghost use Rattle.assembler.specs.Shapes.{form_number, is_free, is_misfit, shape_number};
-ghost use Rattle.assembler.specs.Passing.{Collected, Placed, Refuses, Settled, line_end};
+ghost use Rattle.assembler.specs.Passing.{Collected, Placed, Refuses, Settled};
 ghost use Rattle.refusals.specs.declared.Refusal.TheVariants as R;
-ghost use Rattle.std.specs.List.{take_while};
 
 use crate::forms::{ORG, Shape, bytes_of, digits_of, first_of, shape_of, size_of, values_of};
 use crate::lines::{Line, read_line};
+use crate::places::Places;
 use crate::refused::Refused;
 use operand::characters::word;
 use operand::labels::{Labels, find};
@@ -21,32 +21,18 @@ use rom::reader::{MASK, moved_by};
 
 const LAST_ADDRESS: u64 = MASK as u64 - 1;
 
-// How many bytes stand before the first LF.
-fn line_length(text: &[u8]) -> usize
-    ensures { result ≡ length (take_while (λ c. not (eqb c 10)) text.now) }
+// Notes a number, if there is one, in the next place of a list, and gives the count then.
+fn note(list: &mut [u16], count: usize, value: Option<usize>) -> usize
+    requires { IfSome value (λ v. (count < length list.old) × (v < 65536)) }
+    ensures { (list.new ≡ pick (is_some value) (set list.old count (unwrap_or value 0)) list.old) × (result ≡ pick (is_some value) (count + 1) count) }
 {
-    text.iter().take_while(|c| **c != b'\n').count()
-}
-
-// Where the line that starts here ends.
-fn line_end(text: &[u8], at: usize) -> usize
-    requires { at ≤ length text.now }
-    ensures { result ≡ line_end text.now at }
-{
-    at + line_length(&text[at..])
-}
-
-// Notes a number in the next place of a list if it is wanted, and gives the count then.
-fn note(list: &mut [u16], count: usize, wanted: bool, value: usize) -> usize
-    requires room { wanted ≡ true → (count < length list.old) × (value < 65536) }
-    requires few { count < 65536 }
-    ensures { (list.new ≡ pick wanted (set list.old count value) list.old) × (result ≡ pick wanted (count + 1) count) }
-{
-    if wanted {
-        list[count] = value as u16;
-        return count + 1;
+    match value {
+        Some(value) => {
+            list[count] = value as u16;
+            count + 1
+        }
+        None => count,
     }
-    count
 }
 
 // Stores a byte if it is wanted and there is a place for it.
@@ -71,25 +57,17 @@ pub(crate) fn read_lines(text: &[u8], starts: &mut [u16]) -> Result<usize, Refus
         starts: &[],
         addresses: &[],
     };
-    let mut at = 0;
-    let mut number: u32 = 1;
     let mut count = 0;
-    // A loop and no `split`: a label is kept as where its word starts in the text, and the line's number and the labels' count go along.
-    loop {
-        let Some(l) = read_line(labels, &[], at) else {
+    for place in Places::new(text) {
+        let Some(l) = read_line(labels, &[], place.at) else {
             return Err(Refused {
                 refusal: Refusal::Line,
-                line: number,
+                line: place.number,
             });
         };
-        count = note(starts, count, l.label.is_some(), l.label.unwrap_or(0));
-        let end = line_end(text, at);
-        if end == text.len() {
-            return Ok(count);
-        }
-        at = end + 1;
-        number += 1;
+        count = note(starts, count, l.label);
     }
+    Ok(count)
 }
 
 // Whether a line's label is among those above.
@@ -109,46 +87,27 @@ fn mislabels(text: &[u8], above: &[u16], l: Line) -> bool
     l.value.missing || defined(text, above, l.label)
 }
 
-// One more where it is wanted.
-fn counted(count: usize, wanted: bool) -> usize
-    requires { count < 65536 }
-    ensures { result ≡ pick wanted (count + 1) count }
-{
-    if wanted {
-        return count + 1;
-    }
-    count
-}
-
 // No label is missing, not above its ORG or defined again. No address is known yet: only what is missing is looked at.
 pub(crate) fn check_labels(labels: Labels) -> Result<(), Refused>
     requires { Settled labels.text.now labels.starts.now labels.addresses.now (length labels.starts.now) }
     ensures line { line_of result ≡ first (mislabelled (end start (program labels.entry.text.now)).names) start 1 (program labels.entry.text.now) }
     ensures refusal { Refuses R.Label result }
 {
-    let mut at = 0;
-    let mut number: u32 = 1;
     let mut count = 0;
-    // A loop and no `split`: a line is read where it starts in the text, and its number and the count of the labels above go along.
-    loop {
+    for place in Places::new(labels.text) {
         let above = &labels.starts[..count];
-        let Some(l) = read_line(labels, above, at) else {
+        let Some(l) = read_line(labels, above, place.at) else {
             unreachable!()
         };
         if mislabels(labels.text, above, l) {
             return Err(Refused {
                 refusal: Refusal::Label,
-                line: number,
+                line: place.number,
             });
         }
-        count = counted(count, l.label.is_some());
-        let end = line_end(labels.text, at);
-        if end == labels.text.len() {
-            return Ok(());
-        }
-        at = end + 1;
-        number += 1;
+        count += usize::from(l.label.is_some());
     }
+    Ok(())
 }
 
 fn is_org(form: Option<usize>) -> bool
@@ -224,12 +183,9 @@ pub(crate) fn place_lines(
     ensures placed { line_of result ≡ 0 → Placed text.now starts.now addresses.new (length starts.now) }
     ensures refusal { Refuses R.Operand result }
 {
-    let mut at = 0;
-    let mut number: u32 = 1;
     let mut count = 0;
     let mut address = 0;
-    // A loop and no `split`: a line is read where it starts in the text, and its number, its address and the count of the labels above go along.
-    loop {
+    for place in Places::new(text) {
         let above = &starts[..count];
         // only an ORG's value is looked at, whose labels stand above
         let labels = Labels {
@@ -237,13 +193,13 @@ pub(crate) fn place_lines(
             starts: &[],
             addresses,
         };
-        let Some(l) = read_line(labels, above, at) else {
+        let Some(l) = read_line(labels, above, place.at) else {
             unreachable!()
         };
         if strays(l.form, l.value) {
             return Err(Refused {
                 refusal: Refusal::Operand,
-                line: number,
+                line: place.number,
             });
         }
         let here = address_of(l.form, l.value, address);
@@ -251,20 +207,15 @@ pub(crate) fn place_lines(
         if !free(used, here, size) {
             return Err(Refused {
                 refusal: Refusal::Operand,
-                line: number,
+                line: place.number,
             });
         }
-        count = note(addresses, count, l.label.is_some(), here);
+        count = note(addresses, count, l.label.and(Some(here)));
         store(used, here, 1, size > 0);
         store(used, here + 1, 1, size > 1);
         address = here + size;
-        let end = line_end(text, at);
-        if end == text.len() {
-            return Ok(());
-        }
-        at = end + 1;
-        number += 1;
     }
+    Ok(())
 }
 
 // Whether a value is outside its field, or a branch does not fit, where a line has bytes at all.
@@ -294,14 +245,11 @@ pub(crate) fn check_values(labels: Labels) -> Result<(), Refused>
     ensures line { line_of result ≡ first (misfit (end start (program labels.entry.text.now))) start 1 (program labels.entry.text.now) }
     ensures refusal { Refuses R.Operand result }
 {
-    let mut at = 0;
-    let mut number: u32 = 1;
     let mut count = 0;
     let mut address = 0;
-    // A loop and no `split`: a line is read where it starts in the text, and its number, its address and the count of the labels above go along.
-    loop {
+    for place in Places::new(labels.text) {
         let above = &labels.starts[..count];
-        let Some(l) = read_line(labels, above, at) else {
+        let Some(l) = read_line(labels, above, place.at) else {
             unreachable!()
         };
         let here = address_of(l.form, l.value, address);
@@ -310,18 +258,13 @@ pub(crate) fn check_values(labels: Labels) -> Result<(), Refused>
         if misfits(size, shape, here, l.value) {
             return Err(Refused {
                 refusal: Refusal::Operand,
-                line: number,
+                line: place.number,
             });
         }
-        count = counted(count, l.label.is_some());
+        count += usize::from(l.label.is_some());
         address = here + size;
-        let end = line_end(labels.text, at);
-        if end == labels.text.len() {
-            return Ok(());
-        }
-        at = end + 1;
-        number += 1;
     }
+    Ok(())
 }
 
 // The low 16 bits of a value.
@@ -337,13 +280,11 @@ pub(crate) fn write_lines(labels: Labels, out: &mut [u8])
     requires fits { first (misfit (end start (program labels.text.now))) start 1 (program labels.text.now) ≡ 0 }
     ensures { out.new ≡ put (end start (program labels.entry.text.now)) start (program labels.entry.text.now) out.old }
 {
-    let mut at = 0;
     let mut count = 0;
     let mut address = 0;
-    // A loop and no `split`: a line is read where it starts in the text, and its address and the count of the labels above go along.
-    loop {
+    for place in Places::new(labels.text) {
         let above = &labels.starts[..count];
-        let Some(l) = read_line(labels, above, at) else {
+        let Some(l) = read_line(labels, above, place.at) else {
             unreachable!()
         };
         let here = address_of(l.form, l.value, address);
@@ -351,12 +292,7 @@ pub(crate) fn write_lines(labels: Labels, out: &mut [u8])
         let size = bytes.size;
         store(out, here, bytes.first, size > 0);
         store(out, here + 1, bytes.second, size > 1);
-        count = counted(count, l.label.is_some());
+        count += usize::from(l.label.is_some());
         address = here + size;
-        let end = line_end(labels.text, at);
-        if end == labels.text.len() {
-            return;
-        }
-        at = end + 1;
     }
 }

@@ -1,41 +1,41 @@
 -- `assembler::passes::check_labels` meets its contract. What a turn does stands in Checking. Assumes nothing.
-use mathlib.Core.Bool.{Bool}
-use Prim.Native.Nat.{◌+◌}
 use lib.Seq.{length-take-le}
-use Rattle.isa.specs.Choice.{pick}
-use Rattle.std.proofs.Common.{ap, arith, sym, ◌∙◌}
+use Rattle.std.proofs.Common.{arith, refl, sym, ◌∙◌}
 use Rattle.operand.proofs.Texts.{differ}
 use Rattle.assembler.proofs.Checking.{check-on, checked, checks, is-wrong}
-use Rattle.assembler.proofs.Splitting.{end-within}
+use Rattle.assembler.proofs.Turning.{counted, on, one-most, turn}
 use Rattle.assembler.proofs.Walking.{shown-all, walk-few, walk-held, walk-readable}
 use Rattle.assembler.proofs.passes.check_labels.Goals as goal
 
+pub loop-place-init : goal.loop-place-init
+loop-place-init c =
+    let n = c.new-place-items.ensures in
+    rw (c.into_iter-place-iterator.ensures.into_iter_gives, n.1) (n.0, turn _ (checks c.args.labels.text.now c.args.labels.starts.now c.args.labels.addresses.now _ c.requires))
+
 pub slice_bounds-above-end : goal.slice_bounds-above-end
-slice_bounds-above-end c = sym (length-take-le c.loop-l.count c.args.labels.starts.now (walk-held c.loop-l.invariant.walk c.requires))
+slice_bounds-above-end c = let g = c.loop-place.invariant.1.here c.in-Some.ensures.steps.0 in
+    sym (length-take-le c.loop-place.count c.args.labels.starts.now (walk-held g.walk c.requires))
 
 -- the first pass has read every line
 pub unreachable-requires : goal.unreachable-requires
-unreachable-requires c = differ (walk-readable c.loop-l.invariant.walk (shown-all c.args.labels.starts.now c.in_default.ensures))
+unreachable-requires c = let g = c.loop-place.invariant.1.here c.in-Some.ensures.steps.0 in
+    differ (walk-readable g.walk (shown-all c.args.labels.starts.now c.in_default.ensures))
 
 pub returns-then-mislabels-clause-line : goal.returns-then-mislabels-clause-line
-returns-then-mislabels-clause-line c = is-wrong c.requires c.loop-l.invariant (shown-all c.args.labels.starts.now c.in-Some.ensures)
-    (sym c.mislabels.ensures ∙ c.if-mislabels.true)
+returns-then-mislabels-clause-line c = let g = c.loop-place.invariant.1.here c.in-Some.ensures.steps.0 in
+    is-wrong c.requires g (shown-all c.args.labels.starts.now c.in-Some-read_line.ensures) (sym c.mislabels.ensures ∙ c.if-mislabels.true)
 
-pub counted-count-requires : goal.counted-count-requires
-counted-count-requires c = omega (arith, c.loop-l.invariant.walk.few, walk-few c.loop-l.invariant.walk c.requires, c.requires.room, c.requires.most)
+pub returns-then-mislabels-clause-refusal : goal.returns-then-mislabels-clause-refusal
+returns-then-mislabels-clause-refusal c = let g = c.loop-place.invariant.1.here c.in-Some.ensures.steps.0 in (refl, g.walk.some_number)
 
-pub returns-then-end-labels-clause-line : goal.returns-then-end-labels-clause-line
-returns-then-end-labels-clause-line c = checked c.requires c.loop-l.invariant (shown-all c.args.labels.starts.now c.in-Some.ensures)
-    (sym c.mislabels.ensures ∙ c.if-mislabels.false) c.line_end-end.result c.line_end-end.ensures c.if-end-labels.true
+pub loop-place-preserved : goal.loop-place-preserved
+loop-place-preserved c =
+    let t = c.in-Some.ensures.steps in
+    let g = c.loop-place.invariant.1.here t.0 in
+    let x = shown-all c.args.labels.starts.now c.in-Some-read_line.ensures in
+    let right = sym c.mislabels.ensures ∙ c.if-mislabels.false in
+    (t.1 ∙ c.loop-place.invariant.0, on c.loop-place.invariant.0 t.0 t.2 g.walk.within (checked c.requires g x right) (check-on c.requires g x right _ (counted c.loop-place.count c.from-count.ensures c.is_some.ensures)))
 
-pub overflow_add-at : goal.overflow_add-at
-overflow_add-at c = omega (arith, c.requires.short, c.line_end-end.ensures, end-within c.args.labels.text.now c.loop-l.at c.loop-l.invariant.walk.within)
-
-pub loop-l-preserved : goal.loop-l-preserved
-loop-l-preserved c =
-    let inside = end-within c.args.labels.text.now c.loop-l.at c.loop-l.invariant.walk.within in
-    check-on c.requires c.loop-l.invariant (shown-all c.args.labels.starts.now c.in-Some.ensures) (sym c.mislabels.ensures ∙ c.if-mislabels.false)
-    c.line_end-end.result c.line_end-end.ensures c.counted-count.result (c.counted-count.ensures ∙ ap (λ (b : Bool). pick b (c.loop-l.count + 1) c.loop-l.count) c.is_some.ensures) (omega (arith, c.line_end-end.ensures))
-
-pub loop-l-init : goal.loop-l-init
-loop-l-init c = checks c.args.labels.text.now c.args.labels.starts.now c.args.labels.addresses.now _ c.requires
+pub overflow_add-count : goal.overflow_add-count
+overflow_add-count c = let g = c.loop-place.invariant.1.here c.in-Some.ensures.steps.0 in
+    omega (arith, walk-few g.walk c.requires, c.requires.room, c.requires.most, one-most c.is_some.result c.from-count.ensures)

@@ -1,10 +1,10 @@
-use Prim.Native.Nat.{◌-◌}
-use lib.ListN.{length}
-use Rattle.assembler.proofs.Checking.{Checking}
+use mathlib.Core.Path.{◌≡◌}
+use Rattle.assembler.specs.Program.{first, program, start}
+use Rattle.assembler.proofs.Checking.{Checking, faulty}
+use Rattle.assembler.proofs.Turning.{Turn}
 use Rattle.assembler.proofs.passes.check_labels.Given as goal
 
-abbrev pub invariant-loop-l : goal.invariant-loop-l
-invariant-loop-l l = Checking l.labels.text.now l.at l.number l.count
-
-abbrev pub decreases-loop-l : goal.decreases-loop-l
-decreases-loop-l l = length l.labels.text.now - l.at
+abbrev pub invariant-loop-place : goal.invariant-loop-place
+invariant-loop-place l =
+    (l.place-iterator.text.now ≡ l.labels.text.now)
+    × Turn (λ at number. Checking l.labels.text.now at number l.count) (0 ≡ first (faulty l.labels.text.now) start 1 (program l.labels.text.now)) l.place-iterator.next

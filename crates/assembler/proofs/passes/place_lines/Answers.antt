@@ -5,71 +5,92 @@ use Rattle.isa.specs.Choice.{pick}
 use Prim.Native.Nat.{◌+◌}
 use mathlib.Core.Path.{refl, sym, ap, ◌∙◌}
 use native.Mathlib.Omega.{arith}
-use lib.ListN.{set}
 use Rattle.assembler.specs.Shapes.{size_in}
 use Rattle.assembler.proofs.Placing.{crowded, end-most, here-most, label-room, place-on, placed, places, same-room, stray}
-use Rattle.assembler.proofs.Splitting.{end-within}
+use Rattle.assembler.proofs.Turning.{noting, on, same_some, turn, where_and}
 use Rattle.operand.proofs.Texts.{differ}
-use Rattle.assembler.proofs.Walking.{walk-few, walk-held, walk-readable}
+use Rattle.assembler.proofs.Walking.{walk-held, walk-readable}
 use Rattle.assembler.proofs.passes.place_lines.Goals as goal
 
-pub loop-l-init : goal.loop-l-init
-loop-l-init c = (places c.args.text.now c.args.starts.now c.args.addresses.now c.args.used.now _ c.requires.settled c.requires.unused, refl)
-
-pub returns-then-strays-clause-line : goal.returns-then-strays-clause-line
-returns-then-strays-clause-line c = stray c.loop-l.invariant.0 c.in-Some.ensures (sym c.strays.ensures ∙ c.if-strays.true)
-
-pub free-requires : goal.free-requires
-free-requires c =
-    here-most c.loop-l.invariant.0
-    c.in-Some.ensures
-    (sym c.strays.ensures ∙ c.if-strays.false)
-    c.address_of-here.result c.size_of-size.result c.address_of-here.ensures
-    (c.size_of-size.ensures ∙ ap size_in c.shape_of.ensures)
-
-pub returns-then-not-free-clause-line : goal.returns-then-not-free-clause-line
-returns-then-not-free-clause-line c = crowded c.loop-l.invariant.0 c.in-Some.ensures (sym c.strays.ensures ∙ c.if-strays.false)
-    c.address_of-here.result c.size_of-size.result c.address_of-here.ensures (c.size_of-size.ensures ∙ ap size_in c.shape_of.ensures)
-    (sym c.free.ensures ∙ c.if-not-free.true)
-
-pub note-count-requires-clause-room : goal.note-count-requires-clause-room
-note-count-requires-clause-room c l = label-room c.loop-l.invariant.0 c.in-Some.ensures (sym c.strays.ensures ∙ c.if-strays.false)
-    c.address_of-here.result c.size_of-size.result c.address_of-here.ensures (c.size_of-size.ensures ∙ ap size_in c.shape_of.ensures)
-    (sym c.free.ensures ∙ c.if-not-free.false) (sym c.is_some.ensures ∙ l)
-
-pub note-count-requires-clause-few : goal.note-count-requires-clause-few
-note-count-requires-clause-few c = omega (arith, walk-few c.loop-l.invariant.0.walk c.loop-l.invariant.0.settled, c.loop-l.invariant.0.settled.room, c.loop-l.invariant.0.settled.most)
-
-pub overflow_add-here : goal.overflow_add-here
-overflow_add-here c = omega (
-  arith,
-  end-most
-      c.loop-l.invariant.0 c.in-Some.ensures (sym c.strays.ensures ∙ c.if-strays.false) c.address_of-here.result c.size_of-size.result c.address_of-here.ensures (c.size_of-size.ensures ∙ ap size_in c.shape_of.ensures) (sym c.free.ensures ∙ c.if-not-free.false),
-)
-
-pub overflow_add-address : goal.overflow_add-address
-overflow_add-address c = omega
-    (arith, end-most c.loop-l.invariant.0 c.in-Some.ensures (sym c.strays.ensures ∙ c.if-strays.false) c.address_of-here.result c.size_of-size.result c.address_of-here.ensures (c.size_of-size.ensures ∙ ap size_in c.shape_of.ensures) (sym c.free.ensures ∙ c.if-not-free.false))
-
-pub returns-then-end-text-clause-line : goal.returns-then-end-text-clause-line
-returns-then-end-text-clause-line c = (placed c.loop-l.invariant.0 c.in-Some.ensures (sym c.strays.ensures ∙ c.if-strays.false) c.address_of-here.result c.size_of-size.result c.address_of-here.ensures (c.size_of-size.ensures ∙ ap size_in c.shape_of.ensures) (sym c.free.ensures ∙ c.if-not-free.false) _ _ _ c.note-count.result c.line_end-end.result (c.note-count.ensures.0 ∙ ap (λ (b : Bool). pick b (set c.loop-l.addresses c.loop-l.count c.address_of-here.result) c.loop-l.addresses) c.is_some.ensures) (c.note-count.ensures.1 ∙ ap (λ (b : Bool). pick b (c.loop-l.count + 1) c.loop-l.count) c.is_some.ensures) c.store.ensures c.store-in-loop-l.ensures c.line_end-end.ensures c.if-end-text.true).0
-
-pub returns-then-end-text-clause-placed : goal.returns-then-end-text-clause-placed
-returns-then-end-text-clause-placed c = (placed c.loop-l.invariant.0 c.in-Some.ensures (sym c.strays.ensures ∙ c.if-strays.false) c.address_of-here.result c.size_of-size.result c.address_of-here.ensures (c.size_of-size.ensures ∙ ap size_in c.shape_of.ensures) (sym c.free.ensures ∙ c.if-not-free.false) _ _ _ c.note-count.result c.line_end-end.result (c.note-count.ensures.0 ∙ ap (λ (b : Bool). pick b (set c.loop-l.addresses c.loop-l.count c.address_of-here.result) c.loop-l.addresses) c.is_some.ensures) (c.note-count.ensures.1 ∙ ap (λ (b : Bool). pick b (c.loop-l.count + 1) c.loop-l.count) c.is_some.ensures) c.store.ensures c.store-in-loop-l.ensures c.line_end-end.ensures c.if-end-text.true).1
-
-pub overflow_add-at : goal.overflow_add-at
-overflow_add-at c = omega (arith, c.loop-l.invariant.0.settled.short, c.line_end-end.ensures, end-within c.args.text.now c.loop-l.at c.loop-l.invariant.0.walk.within)
-
-pub loop-l-preserved : goal.loop-l-preserved
-loop-l-preserved c = let inside = end-within
-    c.args.text.now c.loop-l.at c.loop-l.invariant.0.walk.within in (
-      place-on c.loop-l.invariant.0 c.in-Some.ensures (sym c.strays.ensures ∙ c.if-strays.false) c.address_of-here.result c.size_of-size.result c.address_of-here.ensures (c.size_of-size.ensures ∙ ap size_in c.shape_of.ensures) (sym c.free.ensures ∙ c.if-not-free.false) _ _ _ c.note-count.result c.line_end-end.result (c.note-count.ensures.0 ∙ ap (λ (b : Bool). pick b (set c.loop-l.addresses c.loop-l.count c.address_of-here.result) c.loop-l.addresses) c.is_some.ensures) (c.note-count.ensures.1 ∙ ap (λ (b : Bool). pick b (c.loop-l.count + 1) c.loop-l.count) c.is_some.ensures) c.store.ensures c.store-in-loop-l.ensures c.line_end-end.ensures (omega (arith, c.line_end-end.ensures, c.if-end-text.false)),
-      same-room c.loop-l.invariant.0 c.in-Some.ensures (sym c.strays.ensures ∙ c.if-strays.false) c.address_of-here.result c.size_of-size.result c.address_of-here.ensures (c.size_of-size.ensures ∙ ap size_in c.shape_of.ensures) (sym c.free.ensures ∙ c.if-not-free.false) _ _ _ c.note-count.result c.line_end-end.result (c.note-count.ensures.0 ∙ ap (λ (b : Bool). pick b (set c.loop-l.addresses c.loop-l.count c.address_of-here.result) c.loop-l.addresses) c.is_some.ensures) (c.note-count.ensures.1 ∙ ap (λ (b : Bool). pick b (c.loop-l.count + 1) c.loop-l.count) c.is_some.ensures) c.store.ensures c.store-in-loop-l.ensures c.line_end-end.ensures ∙ c.loop-l.invariant.1,
-    )
+pub loop-place-init : goal.loop-place-init
+loop-place-init c =
+    let n = c.new-place-items.ensures in
+    rw (c.into_iter-place-iterator.ensures.into_iter_gives, n.1)
+    (n.0, turn _ (places c.args.text.now c.args.starts.now c.args.addresses.now c.args.used.now _ c.requires.settled c.requires.unused), refl)
 
 pub slice_bounds-above-end : goal.slice_bounds-above-end
-slice_bounds-above-end c = sym (length-take-le c.loop-l.count c.args.starts.now (walk-held c.loop-l.invariant.0.walk c.loop-l.invariant.0.settled))
+slice_bounds-above-end c = let g = c.loop-place.invariant.1.here c.in-Some.ensures.steps.0 in
+    sym (length-take-le c.loop-place.count c.args.starts.now (walk-held g.walk g.settled))
 
 -- the first pass has read every line
 pub unreachable-requires : goal.unreachable-requires
-unreachable-requires c = differ (walk-readable c.loop-l.invariant.0.walk c.in_default.ensures)
+unreachable-requires c = let g = c.loop-place.invariant.1.here c.in-Some.ensures.steps.0 in differ (walk-readable g.walk c.in_default.ensures)
+
+pub returns-then-strays-clause-line : goal.returns-then-strays-clause-line
+returns-then-strays-clause-line c = let g = c.loop-place.invariant.1.here c.in-Some.ensures.steps.0 in
+    stray g c.in-Some-read_line.ensures (sym c.strays.ensures ∙ c.if-strays.true)
+
+pub returns-then-strays-clause-placed : goal.returns-then-strays-clause-placed
+returns-then-strays-clause-placed c z = let g = c.loop-place.invariant.1.here c.in-Some.ensures.steps.0 in
+    let p = g.walk.some_number in absurd (omega (arith, z))
+
+pub returns-then-strays-clause-refusal : goal.returns-then-strays-clause-refusal
+returns-then-strays-clause-refusal c = let g = c.loop-place.invariant.1.here c.in-Some.ensures.steps.0 in (refl, g.walk.some_number)
+
+pub free-requires : goal.free-requires
+free-requires c = let g = c.loop-place.invariant.1.here c.in-Some.ensures.steps.0 in
+    here-most g c.in-Some-read_line.ensures (sym c.strays.ensures ∙ c.if-strays.false) c.address_of-here.result c.size_of-size.result
+    c.address_of-here.ensures (c.size_of-size.ensures ∙ ap size_in c.shape_of.ensures)
+
+pub returns-then-not-free-clause-line : goal.returns-then-not-free-clause-line
+returns-then-not-free-clause-line c = let g = c.loop-place.invariant.1.here c.in-Some.ensures.steps.0 in
+    crowded g c.in-Some-read_line.ensures (sym c.strays.ensures ∙ c.if-strays.false) c.address_of-here.result c.size_of-size.result
+    c.address_of-here.ensures (c.size_of-size.ensures ∙ ap size_in c.shape_of.ensures) (sym c.free.ensures ∙ c.if-not-free.true)
+
+pub returns-then-not-free-clause-placed : goal.returns-then-not-free-clause-placed
+returns-then-not-free-clause-placed c z = let g = c.loop-place.invariant.1.here c.in-Some.ensures.steps.0 in
+    let p = g.walk.some_number in absurd (omega (arith, z))
+
+pub returns-then-not-free-clause-refusal : goal.returns-then-not-free-clause-refusal
+returns-then-not-free-clause-refusal c = let g = c.loop-place.invariant.1.here c.in-Some.ensures.steps.0 in (refl, g.walk.some_number)
+
+pub note-count-requires : goal.note-count-requires
+note-count-requires c = let g = c.loop-place.invariant.1.here c.in-Some.ensures.steps.0 in
+    where_and _ _ c.in-Some-read_line.l.label c.and.ensures
+    (label-room g c.in-Some-read_line.ensures (sym c.strays.ensures ∙ c.if-strays.false) c.address_of-here.result c.size_of-size.result
+    c.address_of-here.ensures (c.size_of-size.ensures ∙ ap size_in c.shape_of.ensures) (sym c.free.ensures ∙ c.if-not-free.false))
+
+pub overflow_add-here : goal.overflow_add-here
+overflow_add-here c = let g = c.loop-place.invariant.1.here c.in-Some.ensures.steps.0 in
+    omega (
+      arith,
+      end-most g c.in-Some-read_line.ensures (sym c.strays.ensures ∙ c.if-strays.false) c.address_of-here.result c.size_of-size.result
+          c.address_of-here.ensures (c.size_of-size.ensures ∙ ap size_in c.shape_of.ensures) (sym c.free.ensures ∙ c.if-not-free.false),
+    )
+
+pub overflow_add-address : goal.overflow_add-address
+overflow_add-address c = let g = c.loop-place.invariant.1.here c.in-Some.ensures.steps.0 in
+    omega (
+      arith,
+      end-most g c.in-Some-read_line.ensures (sym c.strays.ensures ∙ c.if-strays.false) c.address_of-here.result c.size_of-size.result
+          c.address_of-here.ensures (c.size_of-size.ensures ∙ ap size_in c.shape_of.ensures) (sym c.free.ensures ∙ c.if-not-free.false),
+    )
+
+pub loop-place-preserved : goal.loop-place-preserved
+loop-place-preserved c =
+    let t = c.in-Some.ensures.steps in
+    let g = c.loop-place.invariant.1.here t.0 in
+    let x = c.in-Some-read_line.ensures in
+    let label = c.in-Some-read_line.l.label in
+    let inside = sym c.strays.ensures ∙ c.if-strays.false in
+    let size = c.size_of-size.ensures ∙ ap size_in c.shape_of.ensures in
+    let free = sym c.free.ensures ∙ c.if-not-free.false in
+    let noted = noting _ _ _ label c.and.ensures c.note-count.ensures.0 in
+    let counts = c.note-count.ensures.1 ∙ ap (λ (b : Bool). pick b (c.loop-place.count + 1) c.loop-place.count) (same_some _ label c.and.ensures) in (
+      t.1 ∙ c.loop-place.invariant.0,
+      on c.loop-place.invariant.0 t.0 t.2 g.walk.within
+          (λ e. let p = placed g x inside _ _ c.address_of-here.ensures size free _ _ _ _ noted counts c.store.ensures c.store-in-loop-place.ensures e in (p.0, p.1 refl))
+          (place-on g x inside _ _ c.address_of-here.ensures size free _ _ _ _ noted counts c.store.ensures c.store-in-loop-place.ensures),
+      same-room g x inside _ _ c.address_of-here.ensures size free _ _ _ _ noted counts c.store.ensures c.store-in-loop-place.ensures
+          ∙ c.loop-place.invariant.2,
+    )

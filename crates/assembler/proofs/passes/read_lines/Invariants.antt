@@ -1,10 +1,11 @@
-use Prim.Native.Nat.{◌-◌}
-use lib.ListN.{length}
+use mathlib.Core.Path.{◌≡◌}
+use Rattle.std.specs.Prelude.{Ok}
+use Rattle.assembler.specs.Passing.{Collected}
 use Rattle.assembler.proofs.Collecting.{Reading}
+use Rattle.assembler.proofs.Turning.{Turn}
 use Rattle.assembler.proofs.passes.read_lines.Given as goal
 
-abbrev pub invariant-loop-l : goal.invariant-loop-l
-invariant-loop-l l = Reading l.text l.starts l.at l.number l.count
-
-abbrev pub decreases-loop-l : goal.decreases-loop-l
-decreases-loop-l l = length l.text - l.at
+abbrev pub invariant-loop-place : goal.invariant-loop-place
+invariant-loop-place l =
+    (l.place-iterator.text.now ≡ l.text)
+    × Turn (λ at number. Reading l.text l.starts at number l.count) (Collected l.text l.starts (Ok l.count)) l.place-iterator.next

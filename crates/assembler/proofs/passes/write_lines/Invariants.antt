@@ -1,13 +1,14 @@
-use Prim.Native.Nat.{◌-◌}
 use mathlib.Core.Path.{◌≡◌}
 use lib.ListN.{length}
 use Rattle.assembler.specs.Program.{end, program, put, start}
 use Rattle.assembler.proofs.Settling.{Writing}
+use Rattle.assembler.proofs.Turning.{Turn}
 use Rattle.assembler.proofs.passes.write_lines.Given as goal
 
-abbrev pub invariant-loop-l : goal.invariant-loop-l
-invariant-loop-l l =
-    Writing l.labels.text.now l.out l.at l.count l.address (put (end start (program l.labels.text.now)) start (program l.labels.text.now) l.initial.out) × (length l.out ≡ length l.initial.out)
-
-abbrev pub decreases-loop-l : goal.decreases-loop-l
-decreases-loop-l l = length l.labels.text.now - l.at
+abbrev pub invariant-loop-place : goal.invariant-loop-place
+invariant-loop-place l =
+    let text = l.labels.text.now in
+    let result = put (end start (program text)) start (program text) l.initial.out in
+    (l.place-iterator.text.now ≡ text)
+    × Turn (λ at number. Writing text l.out at number l.count l.address result) (l.out ≡ result) l.place-iterator.next
+    × (length l.out ≡ length l.initial.out)
