@@ -32,6 +32,7 @@ fn answer_to(input: Record, mask: &[u8], machine: Machine) -> Answer
 
 // One record: the machine after it, and where the next one starts. A record that is cut off, has a wrong length or is of no known kind has
 // its number, and nothing moves; nor does it at the end of the script.
+#[tactic(auto, using(refusals::proofs::Numbers::not_zero), unfolding(crate::specs::Reports::stepped))]
 pub fn step_record(mask: &[u8], script: &[u8], at: usize, machine: Machine) -> Progress
     ensures { result ≡ stepped mask.now script.now at machine }
 {
@@ -58,6 +59,7 @@ pub fn step_record(mask: &[u8], script: &[u8], at: usize, machine: Machine) -> P
 }
 
 // What a kind's name makes of a machine whose parts are lent, where nothing is refused.
+#[tactic(auto, unfolding(machine::specs::Events::applied))]
 fn pass_named(
     named: Option<Event>,
     cpu: Cpu,
@@ -75,6 +77,7 @@ fn pass_named(
 }
 
 // What a record makes of it. No test is made again: an accepted script has none that a machine refuses.
+#[tactic(auto, unfolding(machine::specs::Power::power_on))]
 fn pass(input: Record, cpu: Cpu, mask: &[u8], memory: &mut [u8; MEMORY], gap: &mut u16) -> Cpu
     requires { (answer_to mask.now (input_of input) (machine_of (state cpu memory.old) (trace_of gap.old))).refusal ≡ 0 }
     ensures { machine_of (state result memory.new) (trace_of gap.new) ≡ next mask.now (input_of input) (machine_of (state cpu memory.old) (trace_of gap.old)) }
@@ -94,7 +97,8 @@ fn put_report(cpu: Cpu, memory: &[u8; MEMORY], out: &mut [u8], at: usize)
     write_report(cpu, memory, &mut out[at..end]);
 }
 
-// The reports of an accepted script. The machine goes through it in parts: so no record copies it.
+// The reports of an accepted script. The machine goes through it in parts: so no record copies it. `done` is counted by hand: the prover's borrow
+// checker does not cover records, a struct with an invariant, zipped with `chunks_exact_mut`, whose items are `&mut`.
 fn put_reports(mask: &[u8], script: &[u8], out: &mut [u8])
     requires { (checked mask.now script.now (length out.old)).number ≡ 0 }
     ensures { out.new ≡ fronted (reports_of mask.now script.now) out.old }
@@ -112,6 +116,7 @@ fn put_reports(mask: &[u8], script: &[u8], out: &mut [u8])
 }
 
 // A whole script under a mask: a report for each record, or the refusal, which writes nothing.
+#[tactic(auto, using(refusals::proofs::Numbers::not_zero), unfolding(crate::specs::Reports::applied))]
 pub fn apply_script(mask: &[u8], script: &[u8], out: &mut [u8]) -> Result<(), Refused>
     ensures { leaving (told result) out.new ≡ applied mask.now script.now out.old }
 {

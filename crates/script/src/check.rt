@@ -24,6 +24,7 @@ fn values(input: Record) -> Result<(), Refusal>
 }
 
 // Only a power-on has options.
+#[tactic(auto, unfolding(crate::specs::Check::choice_of))]
 fn choices(input: Record) -> Result<(), Refusal>
     ensures { refusal_of result ≡ choice_of (input_of input) }
 {

@@ -26,6 +26,7 @@ fn options_of(raw: &RawRecord) -> Options
     }
 }
 
+#[tactic(auto, unfolding(crate::specs::Format::input_at))]
 pub(crate) fn read(raw: &RawRecord) -> Record
     ensures { input_of result ≡ input_at raw.now.bytes.now raw.now.at }
 {
@@ -54,6 +55,7 @@ fn event_size(event: Event) -> u16
 }
 
 // The payload length that a kind has, whatever stands in the payload; none of an unknown kind.
+#[tactic(auto, unfolding(machine::specs::Events::event_of, crate::specs::Format::input_at))]
 fn size_of(kind: u16) -> Option<u16>
     ensures { (s : List ℕ) (at : ℕ) → kind ≡ kind_at s at → result ≡ size_of (input_at s at) }
 {
@@ -64,6 +66,7 @@ fn size_of(kind: u16) -> Option<u16>
 }
 
 // Whether a record's bytes are there, and as many as its kind has.
+#[tactic(auto, unfolding(crate::specs::Check::format_at))]
 pub(crate) fn format(raw: &RawRecord) -> Result<(), Refusal>
     ensures { refusal_of result ≡ format_at raw.now.bytes.now raw.now.at }
 {

@@ -16,6 +16,7 @@ fn digit(d: u8) -> u8
 }
 
 // Character `i` of the line.
+#[tactic(auto, using(crate::proofs::Hexes::newline, crate::proofs::Hexes::character))]
 fn line_byte(report: &[u8], i: usize) -> u8
     requires { (length report.now ≡ 48) × (i < 97) }
     ensures { result ≡ get_or (hex_line report.now) i 0 }

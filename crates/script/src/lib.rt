@@ -1,6 +1,9 @@
 // The panel script: the record format, the whole check before anything runs, applying records, reports into a lent buffer.
 #![tactic(auto)]
 
+ghost use Rattle.std.specs.Prelude.{Some};
+ghost use Rattle.script.specs.Text.{refused_text};
+
 pub mod apply;
 pub mod check;
 mod format;
@@ -28,6 +31,8 @@ pub struct Refused {
 
 // As the programs print it.
 impl fmt::Display for Refused {
+    ghost output = { λ r. Some (refused_text r) };
+
     fn fmt<W: fmt::Write>(&self, f: &mut fmt::Formatter<W>) -> fmt::Result {
         write!(f, "{} at {}", self.refusal, self.offset)
     }
