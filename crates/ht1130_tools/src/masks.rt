@@ -23,6 +23,13 @@ pub(crate) fn refused(refusal: Refusal) -> u64
     u64::from(u8::from(refusal))
 }
 
+// Byte 0, and 4 to 7: where a script or a text is refused.
+pub(crate) fn refused_at(refusal: Refusal, place: u32) -> u64
+    ensures { result ≡ number_of refusal + place * 2 ^ 32 }
+{
+    refused(refusal) + u64::from(place) * 0x100000000
+}
+
 fn packed(answer: Result<Verdict, Refusal>) -> u64
     ensures { result ≡ verdict_number answer }
 {

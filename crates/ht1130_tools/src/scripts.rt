@@ -4,6 +4,7 @@ ghost use Rattle.script.specs.Check.{checked, told};
 ghost use Rattle.script.specs.Reports.{applied};
 ghost use Rattle.ht1130_tools.specs.Numbers.{Ran, script_number};
 
+use crate::masks::refused_at;
 use script::Refused;
 use script::apply::apply_script;
 use script::check::check_script;
@@ -14,7 +15,7 @@ fn packed(answer: Result<(), Refused>) -> u64
 {
     match answer {
         Ok(()) => 0,
-        Err(refused) => u8::from(refused.refusal) as u64 + refused.offset as u64 * 0x100000000,
+        Err(refused) => refused_at(refused.refusal, refused.offset as u32),
     }
 }
 

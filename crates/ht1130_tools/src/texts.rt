@@ -3,15 +3,17 @@ ghost use Rattle.std.specs.Prelude.{◌≡◌, ◌+◌, ◌*◌, ◌^◌};
 ghost use Rattle.assembler.specs.Program.{answered, line_of, number_given};
 ghost use Rattle.ht1130_tools.specs.Numbers.{Assembled};
 
+use crate::masks::refused_at;
 use assembler::assemble::assemble;
 use assembler::refused::Refused;
 
+// The script's twin has an offset for the line: neither crate of the two stands on the other, and each `Refused` prints in its own words.
 fn packed(answer: Result<(), Refused>) -> u64
     ensures { result ≡ number_given answer + line_of answer * 2 ^ 32 }
 {
     match answer {
         Ok(()) => 0,
-        Err(refused) => u8::from(refused.refusal) as u64 + refused.line as u64 * 0x100000000,
+        Err(refused) => refused_at(refused.refusal, refused.line),
     }
 }
 
