@@ -1,8 +1,7 @@
--- The list of all bounds, address by address: what is remembered is true of every address, so one walk after the other goes on with it. Then the largest entry
--- and the CALLs' targets, place by place. Assumes nothing.
+-- The list of all bounds, address by address: what is remembered is true of every address, so one walk after the other goes on with it. Then the CALLs'
+-- targets, place by place. Assumes nothing.
 use Prim.Native.Nat.{ℕ, ◌+◌, ◌*◌, ◌/◌, ◌%◌, ◌^◌, ◌<◌, ◌≤◌}
 use native.Mathlib.Omega.{arith}
-use native.Mathlib.Decide.{ℕ_discrete}
 use mathlib.Core.Path.{◌≡◌, refl, sym, ap, subst, ◌∙◌}
 use mathlib.Core.Bool.{Bool, true, false, ◌&&◌, false≢true}
 use mathlib.Core.List.{List}
@@ -23,7 +22,7 @@ use Rattle.checker.specs.declared.flow.Flow.{Flow}
 use Rattle.checker.specs.declared.flow.Flow.TheVariants.{Unread, Sub}
 use Rattle.bound.specs.Paths.{Endless}
 use Rattle.bound.specs.Bounds.{BoundAnswers}
-use Rattle.bound.specs.Lists.{bound_at, bounds_size, place_of, entry_of, Entries, Largest, Called, CallTargets}
+use Rattle.bound.specs.Lists.{bound_at, bounds_size, place_of, entry_of, Entries, Called, CallTargets}
 use Rattle.bound.specs.Paths.{Leads}
 use Rattle.bound.specs.Lists.{endless}
 use Rattle.bound.specs.Walk.{next_addresses, HaltsAt, RemembersOf, target_of}
@@ -94,51 +93,6 @@ module _ (mask marks : List ℕ) (bytes : Bytes mask) (size : sized mask ≡ tru
   pub filling-end : (list found : List ℕ) (a : ℕ) → Filling list found a → addresses ≤ a → (length list ≡ bounds_size) × Entries mask list
   filling-end list found a f h =
       (f.room, λ b l i z k. subst (λ (n : ℕ). BoundAnswers mask (pair b l) (Ok (bound_at n))) (sym (entry_at list b l f.room i z k)) (f.done b l (omega arith) z k))
-
--- ---- the largest entry
-pub record Best (list : List ℕ) (best place : ℕ) : Type 0 where
-  pub within : place ≤ length list
-  pub before : 0 < place → best < place
-  pub most : (k : ℕ) → k < place → get_or list k 0 ≤ get_or list best 0
-  pub first : (k : ℕ) → k < best → get_or list k 0 < get_or list best 0
-  pub start : best ≤ place
-
-pub best-start : (list : List ℕ) → Best list 0 0
-best-start list =
-    record { within = omega arith; before = λ h. h; most = λ k h. absurd (omega arith); first = λ k h. absurd (omega arith); start = omega arith }
-
-module _ (list : List ℕ) (best place : ℕ) (b : Best list best place) where
-  pub best-new : place < length list → get_or list best 0 < get_or list place 0 → Best list place (place + 1)
-  best-new h l =
-      record {
-        within = omega arith;
-        before = λ z. omega arith;
-        most = λ k z. up_to k z (λ i. let m = b.most k i in omega arith);
-        first = λ k z. let m = b.most k z in omega arith;
-        start = omega arith;
-      }
-    where
-      up_to : (k : ℕ) → k < place + 1 → (k < place → get_or list k 0 ≤ get_or list place 0) → get_or list k 0 ≤ get_or list place 0
-      up_to k z f = go (ℕ_discrete k place)
-        where
-          go : Dec (k ≡ place) → get_or list k 0 ≤ get_or list place 0
-          go (yes e) = subst (λ (k : ℕ). get_or list k 0 ≤ get_or list place 0) (sym e) (omega arith)
-          go (no n) = f (omega (arith, n))
-
-  pub best-old : place < length list → get_or list place 0 ≤ get_or list best 0 → Best list best (place + 1)
-  best-old h l =
-      record { within = omega arith; before = λ z. omega (arith, b.start); most = up_to; first = b.first; start = omega (arith, b.start) }
-    where
-      up_to : (k : ℕ) → k < place + 1 → get_or list k 0 ≤ get_or list best 0
-      up_to k z = go (ℕ_discrete k place)
-        where
-          go : Dec (k ≡ place) → get_or list k 0 ≤ get_or list best 0
-          go (yes e) = subst (λ (k : ℕ). get_or list k 0 ≤ get_or list best 0) (sym e) l
-          go (no n) = b.most k (omega (arith, n))
-
-  pub best-end : length list ≤ place → Largest list best
-  best-end h =
-      record { below = λ z. let k = b.before (omega arith) in omega (arith, b.within); most = λ k z. b.most k (omega arith); first = b.first }
 
 -- ---- the CALLs' targets
 -- a target is a marked CALL's

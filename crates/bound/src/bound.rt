@@ -1,9 +1,10 @@
 // The bound of a pair.
-ghost use Rattle.std.specs.Prelude.{◌≡◌, true};
+ghost use Rattle.std.specs.Prelude.{◌≡◌, true, Some};
 ghost use Rattle.rom.specs.Fetching.{sized};
 ghost use Rattle.checker.specs.Marks.{pair};
 ghost use Rattle.bound.specs.Bounds.{BoundAnswers};
 ghost use Rattle.bound.specs.Lists.{bound_of};
+ghost use Rattle.bound.specs.Text.{bound_text};
 ghost use Rattle.bound.specs.Walk.{Passing};
 
 use crate::longest::{ENDLESS, longest};
@@ -25,6 +26,8 @@ pub enum Bound {
 
 // As `checkmask` prints it.
 impl fmt::Display for Bound {
+    ghost output = { λ b. Some (bound_text b) };
+
     fn fmt<W: fmt::Write>(&self, f: &mut fmt::Formatter<W>) -> fmt::Result {
         match self {
             Bound::NotReached => write!(f, "not reached"),
@@ -55,7 +58,7 @@ pub(crate) fn mark_passed(mask: &[u8], marks: &mut [u8; MARKS]) -> Result<(), Re
     }
 }
 
-// The most cycles from a pair above main to a return.
+// The most cycles from a pair above main to a return. `level` stays the C interface's number, which is judged here.
 pub fn bound_of(mask: &[u8], address: u16, level: u8) -> Result<Bound, Refusal>
     ensures { BoundAnswers mask.now (pair address level) result }
 {

@@ -34,6 +34,7 @@ fn fill(mask: &[u8], marks: &[u8; MARKS], list: &mut [u16])
     let mut found = [0u16; PLACES];
     for address in 0..ADDRESSES {
         let number = longest(mask, &mut found, address, ADDRESSES);
+        // By index: once `chunks_exact_mut` is over, no entry is known.
         let at = address as usize * 2;
         list[at] = entry(marks, address, 1, number);
         list[at + 1] = entry(marks, address, 2, number);
@@ -54,7 +55,7 @@ pub fn bounds_of(mask: &[u8], list: &mut [u16]) -> Result<(), Refusal>
     Ok(())
 }
 
-// The entry of a pair above main; 0 for any other pair, and for a list of another length.
+// The entry of a pair above main; 0 for any other pair, and for a list of another length. `level` is a host's number, here and below, and any byte.
 fn number_at(list: &[u16], address: u16, level: u8) -> u16
     ensures { result ≡ entry_of list.now address level }
 {
@@ -78,11 +79,6 @@ pub fn entry_of(list: &[u16], address: u16, level: u8) -> Bound
 pub fn largest(list: &[u16]) -> usize
     ensures { Largest list.now result }
 {
-    let mut best: usize = 0;
-    for place in 0..list.len() {
-        if list[best] < list[place] {
-            best = place;
-        }
-    }
-    best
+    let most = list.iter().copied().max().unwrap_or(0);
+    list.iter().position(|entry| *entry == most).unwrap_or(0)
 }

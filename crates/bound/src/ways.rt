@@ -19,6 +19,7 @@ pub enum Ways {
 
 // The addresses that two bytes at an address hand the program on to. The tests go as those of the entry do, so that the compiler can make one chain
 // of both.
+#[tactic(auto, using(checker::proofs::Flows::by_runs, crate::proofs::Runs::halt, crate::proofs::Runs::halts))]
 pub(crate) fn ways_by(address: u16, first: u8, second: u8, length: u8) -> Ways
     ensures { HandedOn (decoded first second) (moved_by length address) result }
 {

@@ -1,5 +1,5 @@
 -- The flags of each address in its part of three. Assumes nothing.
-use Prim.Native.Nat.{ℕ, zero, suc, ◌+◌, ◌-◌, ◌*◌, ◌/◌, ◌<◌}
+use Prim.Native.Nat.{ℕ, zero, suc, ◌+◌, ◌-◌, ◌*◌, ◌/◌, ◌<◌, ◌≤◌}
 use native.Mathlib.Omega.{arith}
 use mathlib.Core.Path.{◌≡◌, refl, ap, ◌∙◌}
 use mathlib.Core.List.{List, []}
@@ -25,3 +25,9 @@ flags-at parts seen e l a h = (flag 0 (a * 3) (omega arith) (omega arith), flag 
     flag : (j i : ℕ) → j < 3 → i ≡ a * 3 + j → get_or (get_or parts a []) j 0 ≡ get_or seen i 0
     flag j i g f =
         ap (λ (ps : List (List ℕ)). get_or (get_or ps a []) j 0) e ∙ chunk-at (length seen / 3) seen a j i (omega arith) g f
+
+-- and so each is 0 or 1
+pub bits_at : (parts : List (List ℕ)) (seen : List ℕ) → parts ≡ first_chunks 3 (length seen / 3) seen → length parts ≡ length seen / 3 → ((k : ℕ) → get_or seen k 0 ≤ 1)
+    → (a : ℕ) → a < length parts → (get_or (get_or parts a []) 0 0 ≤ 1) × (get_or (get_or parts a []) 1 0 ≤ 1) × (get_or (get_or parts a []) 2 0 ≤ 1)
+bits_at parts seen e l b a h =
+    let f = flags-at parts seen e l a h in (omega (arith, f.0, b (a * 3)), omega (arith, f.1, b (a * 3 + 1)), omega (arith, f.2, b (a * 3 + 2)))

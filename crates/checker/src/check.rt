@@ -20,6 +20,7 @@ pub enum Verdict {
 }
 
 // The mark byte of each address: the flags of its three codes, as bits.
+#[tactic(auto, using(crate::proofs::Chunks::bits_at))]
 fn pack(seen: &[u8; PAIRS], marks: &mut [u8])
     requires marks_len { length marks.old ≡ marks_size }
     requires by_index { (k : ℕ) → get_or seen.now k 0 ≤ 1 }
@@ -59,7 +60,7 @@ pub fn check(mask: &[u8], marks: &mut [u8]) -> Result<Verdict, Refusal>
     Ok(judge(named))
 }
 
-// Whether a pair is marked: its level's bit in the mark byte of its address. A pair out of range is not.
+// Whether a pair is marked: its level's bit in the mark byte of its address. A pair out of range is not: `level` is a host's number, as in `bound_of`.
 pub fn is_marked(marks: &[u8; MARKS], address: u16, level: u8) -> bool
     ensures { result ≡ is_marked marks.now address level }
 {

@@ -27,6 +27,7 @@ pub enum Flow {
 
 // The flow of two bytes. No helper that returns an enum: its copy would go through memory. The tests go as those of the length do, so that the
 // compiler can make one chain of both.
+#[tactic(auto, using(crate::proofs::Flows::by_runs))]
 pub(crate) fn flow_by(first: u8, second: u8) -> Flow
     ensures { result ≡ flow_read (decoded first second) }
 {

@@ -9,30 +9,6 @@ use Rattle.std.proofs.Common.{below_more}
 use Rattle.checker.proofs.Chunks.{flags-at}
 use Rattle.checker.proofs.check.pack.Goals as goal
 
-pub overflow_mul-marks : goal.overflow_mul-marks
-overflow_mul-marks c =
-    let at = c.loop-address.address in
-    let f = flags-at _ c.args.seen.now c.as_chunks.ensures.front c.as_chunks.ensures.front_len at c.loop-address-test.true in
-    omega (arith, f.1, c.requires.by_index (at * 3 + 1))
-
-pub overflow_add-marks : goal.overflow_add-marks
-overflow_add-marks c =
-    let at = c.loop-address.address in
-    let f = flags-at _ c.args.seen.now c.as_chunks.ensures.front c.as_chunks.ensures.front_len at c.loop-address-test.true in
-    omega (arith, f.0, f.1, c.requires.by_index (at * 3), c.requires.by_index (at * 3 + 1))
-
-pub overflow_mul-marks-in-loop-address : goal.overflow_mul-marks-in-loop-address
-overflow_mul-marks-in-loop-address c =
-    let at = c.loop-address.address in
-    let f = flags-at _ c.args.seen.now c.as_chunks.ensures.front c.as_chunks.ensures.front_len at c.loop-address-test.true in
-    omega (arith, f.2, c.requires.by_index (at * 3 + 2))
-
-pub overflow_add-marks-in-loop-address : goal.overflow_add-marks-in-loop-address
-overflow_add-marks-in-loop-address c =
-    let at = c.loop-address.address in
-    let f = flags-at _ c.args.seen.now c.as_chunks.ensures.front c.as_chunks.ensures.front_len at c.loop-address-test.true in
-    omega (arith, f.0, f.1, f.2, c.requires.by_index (at * 3), c.requires.by_index (at * 3 + 1), c.requires.by_index (at * 3 + 2))
-
 pub loop-address-preserved : goal.loop-address-preserved
 loop-address-preserved c =
     let at = c.loop-address.address in
