@@ -22,16 +22,19 @@ use text::{put_bytes, put_reading, put_seen};
 // What a picture holds before a reading is drawn on it: no nibble.
 const KEPT: u8 = 255;
 
+// The next bytes of a file; past its end all is 0. `machine_main` has its own: each function of `files` has a promise, and this one has none.
+fn bytes<const N: usize, R: Read>(file: &mut R) -> [u8; N] {
+    let mut bytes = [0u8; N];
+    read_full(file, &mut bytes);
+    bytes
+}
+
 fn byte<R: Read>(file: &mut R) -> u8 {
-    let mut one = [0u8; 1];
-    read_full(file, &mut one);
-    one[0]
+    u8::from_le_bytes(bytes(file))
 }
 
 fn word<R: Read>(file: &mut R) -> u16 {
-    let mut two = [0u8; 2];
-    read_full(file, &mut two);
-    u16::from_le_bytes(two)
+    u16::from_le_bytes(bytes(file))
 }
 
 fn value(sort: u8, size: u16) -> i32 {
@@ -75,8 +78,7 @@ fn put_draw<W: Write>(out: &mut W, reading: Reading, picture: &mut [u8]) -> io::
 }
 
 fn picture_case<R: Read, W: Write>(file: &mut R, out: &mut W, length: u8) -> io::Result<()> {
-    let mut picture = [0u8; 9];
-    read_full(file, &mut picture);
+    let picture: [u8; 9] = bytes(file);
     let n = (length as usize).min(9);
     put_read(out, &picture[..n])
 }

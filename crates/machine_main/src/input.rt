@@ -4,22 +4,23 @@ use files::read_full;
 use isa::ProgramAddress;
 use std::io::Read;
 
+// The next bytes of a file. `glass_main` has its own: each function of `files` has a promise, and this one has none.
+pub fn bytes<const N: usize, R: Read>(file: &mut R) -> [u8; N] {
+    let mut bytes = [0u8; N];
+    read_full(file, &mut bytes);
+    bytes
+}
+
 pub fn byte<R: Read>(file: &mut R) -> u8 {
-    let mut one = [0u8; 1];
-    read_full(file, &mut one);
-    one[0]
+    u8::from_le_bytes(bytes(file))
 }
 
 pub fn word<R: Read>(file: &mut R) -> u16 {
-    let mut two = [0u8; 2];
-    read_full(file, &mut two);
-    u16::from_le_bytes(two)
+    u16::from_le_bytes(bytes(file))
 }
 
 fn long<R: Read>(file: &mut R) -> u32 {
-    let mut four = [0u8; 4];
-    read_full(file, &mut four);
-    u32::from_le_bytes(four)
+    u32::from_le_bytes(bytes(file))
 }
 
 fn address<R: Read>(file: &mut R) -> ProgramAddress {

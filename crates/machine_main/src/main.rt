@@ -13,8 +13,7 @@ mod input;
 mod text;
 
 use datapath::memory::MEMORY;
-use files::read_full;
-use input::{byte, options, word};
+use input::{byte, bytes, options, word};
 use machine::events::Event;
 use machine::{Answer, Machine};
 use rom::reader::MASK;
@@ -27,8 +26,7 @@ use text::{put_answer, put_count};
 fn power_on<R: Read>(file: &mut R, machine: Machine) -> Answer {
     let length = byte(file);
     let options = options(file);
-    let mut image = [0u8; 168];
-    read_full(file, &mut image);
+    let image: [u8; 168] = bytes(file);
     let n = (length as usize).min(168);
     machine.power_on(options, &image[..n])
 }
@@ -122,8 +120,7 @@ fn commands<R: Read, W: Write>(
 }
 
 fn case<R: Read, W: Write>(file: &mut R, out: &mut W) -> io::Result<()> {
-    let mut mask = [0u8; MASK];
-    read_full(file, &mut mask);
+    let mask: [u8; MASK] = bytes(file);
     let count = word(file);
     commands(file, out, count, &mask)
 }
