@@ -3,8 +3,11 @@
 // are written.
 #![tactic(auto)]
 
-ghost use Rattle.std.specs.Prelude.{◌≡◌, IfOk};
+ghost use Rattle.std.specs.Prelude.{◌≡◌, ℕ, List, IfOk, OnOk};
+ghost use Rattle.std.specs.Io.KnownBytes.{Appends};
+ghost use Rattle.machine.specs.declared.Machine.{Machine};
 ghost use Rattle.script.specs.Check.{checked, told};
+ghost use Rattle.player.specs.Shown.{SightLine, report_line};
 
 use glass::Unseen;
 use machine::Machine;
@@ -21,13 +24,19 @@ const ROOM: usize = 3145728;
 
 // What is printed of a machine after each record. No checked script leaves one out of range.
 pub trait Show {
-    fn show<W: Write>(&self, out: &mut W, machine: Machine) -> io::Result<()>;
+    // The lines that may be printed of a machine.
+    ghost shows: { Self → Machine → List ℕ → Type 0 };
+
+    fn show<W: Write>(&self, out: &mut W, machine: Machine) -> io::Result<()>
+        ensures { OnOk result ((line : List ℕ) × shows self.now machine line × Appends (W.contents out.old) (W.contents out.new) line) };
 }
 
 #[derive(Clone, Copy)]
 pub struct Reports;
 
 impl Show for Reports {
+    ghost shows = { λ _ m line. line ≡ report_line m };
+
     fn show<W: Write>(&self, out: &mut W, machine: Machine) -> io::Result<()> {
         let mut report = [0u8; 48];
         let _ = machine.report(&mut report);
@@ -40,6 +49,8 @@ impl Show for Reports {
 pub struct Readings;
 
 impl Show for Readings {
+    ghost shows = { λ _ m line. SightLine m line };
+
     fn show<W: Write>(&self, out: &mut W, machine: Machine) -> io::Result<()> {
         match sight_of(machine) {
             Ok(Ok(reading)) => writeln!(out, "{reading}"),
@@ -71,8 +82,8 @@ fn put_records<W: Write, S: Show>(
     Ok(())
 }
 
-// Runs a script that is not refused, and shows the machine after each record. What is printed no contract can say; the answer is the check's. An
-// error comes of a write alone, and leaves lines unwritten.
+// Runs a script that is not refused, and shows the machine after each record. What is printed of a machine is the
+// trait's to say; the answer is the check's. An error comes of a write alone, and leaves lines unwritten.
 pub fn play<W: Write, S: Show>(
     out: &mut W,
     mask: &[u8],
