@@ -5,12 +5,12 @@ use mathlib.Core.Path.{◌≡◌, refl, sym, ap, subst, ◌∙◌}
 use mathlib.Core.Bool.{Bool, true, false, ◌&&◌, ◌||◌, not}
 use mathlib.Core.List.{List, [], ◌∷◌, ◌++◌, append_assoc, append-nil}
 use mathlib.Core.Option.{Option, none, some}
-use native.Mathlib.Numerals.{add-one}
 use native.Mathlib.Omega.{arith}
 use borrow.Author.Tests.{eqb-false, eqb-true, le-leb, le-ltb, leb-false, leb-true, lt-ltb, ltb-false, ltb-true, ne_eqb}
 use lib.Dec.{eqb, leb, ltb}
-use lib.ListN.{get_or, length, set, take, length-append, length-set}
-use lib.Seq.{get_or-set_other, get_or-set_same, get_or-take, sets, take-append_seam, take-take}
+use lib.ListN.{drop, get_or, length, replicate, set, take, length-append, length-set}
+use lib.Seq.{drop-cons, get_or-set_other, get_or-set_same, get_or-take, sets, take-append_seam, take-take}
+use Rattle.std.specs.List.{list_all}
 use Rattle.isa.specs.Choice.{pick}
 use Rattle.operand.specs.Words.{among, place}
 use Rattle.operand.specs.Operand.{Part, Term, label, minus, number, plus, value_of}
@@ -19,9 +19,8 @@ use Rattle.assembler.specs.Forms.{field, size, rom_size}
 use Rattle.assembler.specs.Statement.{Statement}
 use Rattle.assembler.specs.Program.{Above, address_of, bytes, end, fitting, if_labelled, is_in, label_of, meets, misfit, misplaced, named}
 use Rattle.assembler.specs.Program.{next, size_of, span, within}
-use Rattle.assembler.specs.Shapes.{bytes_in, digits_in, firsts, form_at, is_free, is_misfit, listed, low_bytes, shapes, size_in}
+use Rattle.assembler.specs.Shapes.{bytes_in, digits_in, firsts, form_at, is_free, is_misfit, low_bytes, shapes, size_in}
 use Rattle.assembler.specs.Read.{Parts, Shows, broken, coded, empty, origin}
-use Rattle.assembler.specs.declared.forms.Bytes.{Bytes}
 use Rattle.assembler.proofs.Shaping.{shape_at}
 
 -- ---- values
@@ -86,28 +85,23 @@ field-most s = case (ltb s 3)
 abbrev pub Flags : List ℕ → List ℕ → Type 0
 Flags written used = (a : ℕ) → a < rom_size → is_in written a ≡ not (eqb (get_or used a 0) 0)
 
-free-size : (written used : List ℕ) → Flags written used → (at n : ℕ) → n ≤ 2 → (ltb rom_size (at + n) || meets written (span at n)) ≡ not
-    (is_free used at n)
-free-size written used f at zero h = case (leb (at + 0) rom_size)
-    (λ e. rw (e, le-ltb rom_size (at + 0) (leb-true (at + 0) rom_size e)) refl) (λ e. rw (e, lt-ltb rom_size (at + 0) (leb-false (at + 0) rom_size e)) refl)
-free-size written used f at (suc zero) h = case (leb (at + 1) rom_size)
-    (λ e. let u = leb-true (at + 1) rom_size e in rw (e, le-ltb rom_size (at + 1) u, f at (omega arith)) (one (eqb (get_or used at 0) 0)))
-    (λ e. rw (e, lt-ltb rom_size (at + 1) (leb-false (at + 1) rom_size e)) refl)
+-- what is clear in a row is not written
+clear-span : (written used : List ℕ) → Flags written used → length used ≡ rom_size → (n at : ℕ) → at + n ≤ rom_size
+    → meets written (span at n) ≡ not (list_all (λ (u : ℕ). eqb u 0) (take n (drop at used)))
+clear-span written used f l zero at h = refl
+clear-span written used f l (suc n) at h =
+    rw (drop-cons used at 0 (omega (arith, l)), f at (omega arith), clear-span written used f l n (suc at) (omega arith))
+    (either (eqb (get_or used at 0) 0) (list_all (λ (u : ℕ). eqb u 0) (take n (drop (suc at) used))))
   where
-    one : (b : Bool) → (not b || false) ≡ not (not (not b) && true)
-    one true = refl
-    one false = refl
-free-size written used f at (suc (suc zero)) h = case (leb (at + 2) rom_size)
-    (λ e. let u = leb-true (at + 2) rom_size e in
-    rw (e, le-ltb rom_size (at + 2) u, f at (omega arith), sym (add-one at), f (at + 1) (omega arith))
-    (two (eqb (get_or used at 0) 0) (eqb (get_or used (at + 1) 0) 0)))
-    (λ e. rw (e, lt-ltb rom_size (at + 2) (leb-false (at + 2) rom_size e)) refl)
-  where
-    two : (a b : Bool) → (not a || (not b || false)) ≡ not (not (not a) && not (not b))
-    two true true = refl
-    two true false = refl
-    two false b = refl
-free-size written used f at (suc (suc (suc n))) h = absurd (omega arith)
+    either : (a b : Bool) → (not a || not b) ≡ not (a && b)
+    either true b = refl
+    either false b = refl
+
+free-size : (written used : List ℕ) → Flags written used → length used ≡ rom_size → (at n : ℕ)
+    → (ltb rom_size (at + n) || meets written (span at n)) ≡ not (is_free used at n)
+free-size written used f l at n = case (leb (at + n) rom_size)
+    (λ e. let u = leb-true (at + n) rom_size e in rw (e, le-ltb rom_size (at + n) u) (clear-span written used f l n at u))
+    (λ e. rw (e, lt-ltb rom_size (at + n) (leb-false (at + n) rom_size e)) refl)
 
 -- ---- a line that is read
 module _ {text : List ℕ} {above all : List (List ℕ)} {addresses : List ℕ} {st : Statement} {r : Parts} (x : Shows text above all addresses st r)
@@ -148,10 +142,10 @@ module _ {text : List ℕ} {above all : List (List ℕ)} {addresses : List ℕ} 
         by (coded ts e b f g v p) = absurd (differ (sym (rw (ne_eqb r.form 0 (λ q. omega arith)) refl) ∙ h))
 
     -- where no ORG strays, a line has its place exactly when its bytes are free
-    pub shows-place-free : (used : List ℕ) → Flags s.written used → s.at ≤ rom_size → (eqb r.form 0 && not (within rom_size r.plus r.minus))
+    pub shows-place-free : (used : List ℕ) → Flags s.written used → length used ≡ rom_size → s.at ≤ rom_size → (eqb r.form 0 && not (within rom_size r.plus r.minus))
         ≡ false
         → misplaced s st ≡ not (is_free used (pick (eqb r.form 0) (r.plus - r.minus) s.at) (size_in (get_or shapes r.form 0)))
-    shows-place-free used flags most h = by x
+    shows-place-free used flags long most h = by x
       where
         by : Shows text above all addresses st r
             → misplaced s st ≡ not (is_free used (pick (eqb r.form 0) (r.plus - r.minus) s.at) (size_in (get_or shapes r.form 0)))
@@ -175,7 +169,7 @@ module _ {text : List ℕ} {above all : List (List ℕ)} {addresses : List ℕ} 
             yes false q = absurd (differ (sym q))
         by (coded ts e b f g v p) =
             rw (e, ne_eqb r.form 0 (λ q. omega arith), (shape_at r.form f g).sized)
-            (free-size s.written used flags s.at (size_in (get_or shapes r.form 0)) (size-most (get_or shapes r.form 0)))
+            (free-size s.written used flags long s.at (size_in (get_or shapes r.form 0)))
 
     -- a line that has its place: its address, and its end
     pub shows-placed : misplaced s st ≡ false → s.at ≤ rom_size → (address_of s st + size_of st ≤ rom_size) × (address_of s st ≤ rom_size)
@@ -300,31 +294,10 @@ flag_one written used at f h a l = in-append written (at ∷ []) a ∙ case (eqb
     or-false true = refl
     or-false false = refl
 
--- up to two places from an address on are flagged
-pub flag-span : (written used one two : List ℕ) (at n : ℕ) → Flags written used → length used ≡ rom_size → n ≤ 2 → at + n ≤ rom_size
-    → one ≡ pick (ltb 0 n) (set used at 1) used → two ≡ pick (ltb 1 n) (set one (at + 1) 1) one
-    → Flags (written ++ span at n) two × (length two ≡ rom_size)
-flag-span written used one two at zero f l h u e g = rw (g, e, append-nil written) (f, l)
-flag-span written used one two at (suc zero) f l h u e g =
-    rw (g, e) (flag_one written used at f (omega arith), length-set used at 1 ∙ l)
-flag-span written used one two at (suc (suc zero)) f l h u e g =
-    let p : length (set used at 1) ≡ rom_size = length-set used at 1 ∙ l in
-    rw (g, e, add-one, sym (append_assoc written (at ∷ []) (suc at ∷ []))) (
-      flag_one (written ++ (at ∷ [])) (set used at 1) (suc at) (flag_one written used at f (omega arith)) (omega arith),
-      length-set (set used at 1)
-          (suc at) 1 ∙ p,
-    )
-flag-span written used one two at (suc (suc (suc n))) f l h u e g = absurd (omega arith)
-
--- up to two bytes are stored
-pub store-listed : (b : Bytes) (out one two : List ℕ) (at : ℕ) → b.size ≤ 2 → one ≡ pick (ltb 0 b.size) (set out at b.first) out
-    → two ≡ pick (ltb 1 b.size) (set one (at + 1) b.second) one → two ≡ sets out at (listed b)
-store-listed b out one two at h e g = by b.size h e g
-  where
-    by : (n : ℕ) → n ≤ 2 → one ≡ pick (ltb 0 n) (set out at b.first) out → two ≡ pick (ltb 1 n) (set one (at + 1) b.second) one
-        → two ≡ sets out at (take n (b.first ∷ b.second ∷ []))
-    by zero h e g = g ∙ e
-    by (suc zero) h e g = g ∙ e
-    by (suc (suc zero)) h e g = g ∙ ap (λ (o : List ℕ). set o (at + 1) b.second) e ∙ ap (λ (k : ℕ). set (set out at b.first) k b.second)
-        (add-one at)
-    by (suc (suc (suc n))) h e g = absurd (omega arith)
+-- places from an address on are flagged
+pub flag-span : (n : ℕ) (written used : List ℕ) (at : ℕ) → Flags written used → length used ≡ rom_size → at + n ≤ rom_size
+    → Flags (written ++ span at n) (sets used at (replicate n 1))
+flag-span zero written used at f l u = rw (append-nil written) f
+flag-span (suc n) written used at f l u =
+    rw (sym (append_assoc written (at ∷ []) (span (suc at) n)))
+    (flag-span n (written ++ (at ∷ [])) (set used at 1) (suc at) (flag_one written used at f (omega (arith, l))) (length-set used at 1 ∙ l) (omega arith))

@@ -9,7 +9,7 @@ use native.Mathlib.Omega.{arith}
 use borrow.Author.Tests.{leb-true, ltb-true}
 use lib.Dec.{eqb, leb, ltb}
 use lib.ListN.{get_or, get_or-replicate, length, length-replicate, length-set, replicate, set, take}
-use lib.Seq.{take-suc-set}
+use lib.Seq.{length-sets, sets, take-suc-set}
 use Rattle.assembler.specs.Forms.{rom_size}
 use Rattle.isa.specs.Choice.{pick}
 use Rattle.operand.specs.Read.{names_at, tokens_at}
@@ -77,7 +77,7 @@ module _ {text starts addresses used : List ℕ} {all at number count address : 
     here-at = here-is ∙ ap (λ (a : ℕ). pick (eqb r.form 0) (r.plus - r.minus) a) g.at-is
 
     free-is : misplaced g.s st ≡ not (is_free used here size)
-    free-is = shows-place-free x readable g.s names stored_here used g.flags (omega (arith, g.at-is, g.most)) inside
+    free-is = shows-place-free x readable g.s names stored_here used g.flags g.flag-count (omega (arith, g.at-is, g.most)) inside
         ∙ rw (sym here-at, sym size_is) refl
 
     pub here-most : (here ≤ rom_size) × (size ≤ 2)
@@ -118,9 +118,8 @@ module _ {text starts addresses used : List ℕ} {all at number count address : 
           let m : count + 1 ≤ all = rw l at n in
           (omega (arith, g.settled.room), omega (arith, here-most.0))
 
-      module _ (addresses' one two : List ℕ) (count' : ℕ) (noted : addresses' ≡ pick r.labelled (set addresses count here) addresses)
-          (counts : count' ≡ pick r.labelled (count + 1) count) (one-is : one ≡ pick (ltb 0 size) (set used here 1) used)
-          (two_is : two ≡ pick (ltb 1 size) (set one (here + 1) 1) one) where
+      module _ (addresses' two : List ℕ) (count' : ℕ) (noted : addresses' ≡ pick r.labelled (set addresses count here) addresses)
+          (counts : count' ≡ pick r.labelled (count + 1) count) (marked : two ≡ sets used here (replicate size 1)) where
         pub same-room : length addresses' ≡ length addresses
         same-room = case r.labelled
             (λ l. let a : addresses' ≡ set addresses count here = noted ∙ rw l refl in ap length a ∙ length-set addresses count here)
@@ -174,7 +173,6 @@ module _ {text starts addresses used : List ℕ} {all at number count address : 
         pub place-on : line_end text at < length text
             → Placing text starts addresses' two all (line_end text at + 1) (number + 1) count' (here + size)
         place-on h =
-            let f = flag-span g.s.written used one two here size g.flags g.flag-count here-most.1 end-most one-is two_is in
             record {
               s = next g.s st;
               walk = walk-on g.walk x count' counts h;
@@ -182,7 +180,7 @@ module _ {text starts addresses used : List ℕ} {all at number count address : 
               found = walk-past g.walk misplaced g.found good-place h;
               at-is = next-at;
               most = end-most;
-              flags = next-flags f.0;
-              flag-count = f.1;
+              flags = next-flags (rw marked (flag-span size g.s.written used here g.flags g.flag-count end-most));
+              flag-count = ap length marked ∙ length-sets used here (replicate size 1) ∙ g.flag-count;
               stored = next-stored;
             }

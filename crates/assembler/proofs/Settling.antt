@@ -4,8 +4,8 @@ use mathlib.Core.Path.{◌≡◌, refl, sym, ap, ◌∙◌}
 use mathlib.Core.Bool.{true, false}
 use mathlib.Core.List.{List, [], ◌∷◌}
 use native.Mathlib.Omega.{arith}
-use lib.Dec.{eqb, ltb}
-use lib.ListN.{get_or, length, set, take}
+use lib.Dec.{eqb}
+use lib.ListN.{get_or, length, take}
 use lib.Seq.{sets}
 use Rattle.assembler.specs.Forms.{rom_size}
 use Rattle.isa.specs.Choice.{pick}
@@ -18,7 +18,7 @@ use Rattle.assembler.specs.Read.{Parts, Shows}
 use Rattle.assembler.specs.Passing.{Placed, line_end}
 use Rattle.assembler.specs.declared.forms.Bytes.{Bytes}
 use Rattle.assembler.proofs.Addresses.{first-addresses, next-paired, shows-address, shows-bytes, shows-misfit, shows-placed, shows-put}
-use Rattle.assembler.proofs.Addresses.{shows-size, size-most, store-listed}
+use Rattle.assembler.proofs.Addresses.{shows-size, size-most}
 use Rattle.assembler.proofs.Splitting.{last_line, next-line, program_at}
 use Rattle.assembler.proofs.Walking.{Walk, walk-begin, walk-few, walk-names, walk_none, walk-on, walk-past}
 use Rattle.assembler.proofs.Walking.{walk-readable}
@@ -100,17 +100,14 @@ module _ {text starts addresses : List ℕ} {all : ℕ} (p : Placed text starts 
 
     -- the bytes that are stored
     module _ (fits : misfit whole s st ≡ false) (b : Bytes) (shape first value : ℕ) (Shape-is : shape ≡ get_or shapes r.form 0)
-        (first-is : first ≡ get_or firsts r.form 0)
-        (value-is : value ≡ (r.plus - r.minus) % 65536) (bytes-are : listed b ≡ low_bytes (bytes_in shape first value)) (sized : b.size ≡ size)
-        (out one two : List ℕ) (one-is : one ≡ pick (ltb 0 b.size) (set out here b.first) out)
-        (two_is : two ≡ pick (ltb 1 b.size) (set one (here + 1) b.second) one) where
+        (first-is : first ≡ get_or firsts r.form 0) (value-is : value ≡ (r.plus - r.minus) % 65536)
+        (bytes-are : listed b ≡ low_bytes (bytes_in shape first value)) (out two : List ℕ) (stored-are : two ≡ sets out here (listed b)) where
       line-bytes : bytes whole st ≡ listed b
       line-bytes = shows-bytes x readable s names stored whole p.settled.names whole-stored fits ∙ sym
           (bytes-are ∙ rw (Shape-is, first-is, value-is) refl)
 
       stores : two ≡ sets out s.at (bytes whole st)
-      stores = store-listed b out one two here (omega (arith, sized, going-most.1)) one-is two_is
-          ∙ ap (sets out here) (sym line-bytes) ∙ ap (λ (a : ℕ). sets out a (bytes whole st)) here-at
+      stores = stored-are ∙ ap (sets out here) (sym line-bytes) ∙ ap (λ (a : ℕ). sets out a (bytes whole st)) here-at
           ∙ shows-put x readable s names stored whole p.settled.names whole-stored out
 
       put-line : (rest : List Statement) → program_at text at ≡ st ∷ rest → put whole s (program_at text at) out ≡ put whole (next s st) rest two

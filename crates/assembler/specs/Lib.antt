@@ -5,3 +5,4 @@ pub mod Program
 pub mod Read
 pub mod Shapes
 pub mod Statement
+pub mod Text

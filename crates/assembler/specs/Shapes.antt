@@ -1,7 +1,8 @@
 -- The forms by number, as the code has them: what tells a form, and how its bytes hold its operand. proofs/ shows that each form is so. For contracts
 -- inside this crate. Assumes nothing.
-use Rattle.std.specs.Prelude.{ℕ, ◌+◌, ◌-◌, ◌/◌, ◌%◌, ◌^◌, Bool, true, ◌&&◌, ◌||◌, not, List, [], ◌∷◌, map, reverse, eqb, leb, ltb, get_or, take}
+use Rattle.std.specs.Prelude.{ℕ, ◌+◌, ◌-◌, ◌/◌, ◌%◌, ◌^◌, Bool, true, ◌&&◌, ◌||◌, not, List, [], ◌∷◌, map, reverse, eqb, leb, ltb, get_or, take, drop}
 use Rattle.std.specs.Prelude.{Option, Some, None}
+use Rattle.std.specs.List.{list_all}
 use Rattle.isa.specs.Choice.{pick}
 use Rattle.isa.specs.declared.Instruction.{Instruction}
 use Rattle.isa.specs.declared.Instruction.TheVariants as I
@@ -12,6 +13,7 @@ use Rattle.operand.specs.declared.tokens.Kind.TheVariants.{End, Label, Number, F
 use Rattle.rom.specs.Fetching.{moved_by}
 use Rattle.assembler.specs.Forms.{always, forms, lead, rom_size}
 use Rattle.assembler.specs.declared.forms.Bytes.{Bytes}
+use Rattle.assembler.specs.declared.forms.Bytes.TheVariants.{Nothing, One, Two}
 use Rattle.assembler.specs.declared.forms.Shape.{Shape}
 use Rattle.assembler.specs.declared.forms.Shape.TheVariants.{Empty, Plain, Halt, Within, Nibble, Pair, Byte, Branch, Address}
 
@@ -96,7 +98,9 @@ abbrev pub reaches_in : ℕ → ℕ → ℕ → Bool
 reaches_in s moved v = pick (eqb s 7) (eqb (v / 2048) (moved / 2048)) true
 
 abbrev pub listed : Bytes → List ℕ
-listed b = take b.size (b.first ∷ b.second ∷ [])
+listed Nothing = []
+listed (One a) = a ∷ []
+listed (Two a b) = a ∷ b ∷ []
 
 -- the number of a fixed word, a comma or a bracket
 abbrev pub leading : Kind → Option ℕ
@@ -107,11 +111,8 @@ leading (Fixed k) = Some (128 + k)
 leading (Sign c) = pick (eqb c 44 || eqb c 91 || eqb c 93) (Some c) None
 
 -- bytes at an address that are not past the end and not written; flags of 1 say which are
-abbrev pub is_taken : List ℕ → ℕ → Bool → Bool
-is_taken used at wanted = wanted && not (eqb (get_or used at 0) 0)
-
 abbrev pub is_free : List ℕ → ℕ → ℕ → Bool
-is_free used at size = leb (at + size) rom_size && (not (is_taken used at (ltb 0 size)) && not (is_taken used (at + 1) (ltb 1 size)))
+is_free used at size = leb (at + size) rom_size && list_all (λ u. eqb u 0) (take size (drop at used))
 
 -- a value outside a field, or a branch that does not fit, by shape
 abbrev pub is_misfit : ℕ → ℕ → ℕ → ℕ → ℕ → Bool

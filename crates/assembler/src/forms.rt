@@ -1,10 +1,11 @@
 // The forms of a line, by the fixed words and signs before its operand: 0 is ORG, then come the lines of document 001's summary in its order. A
 // blank line has none.
-ghost use Rattle.std.specs.Prelude.{◌≡◌, ◌<◌, ◌^◌, ◌%◌, eqb, get_or, unwrap_or, IfSome};
+ghost use Rattle.std.specs.Prelude.{◌≡◌, ◌<◌, ◌^◌, ◌%◌, eqb, get_or, length, unwrap_or, IfSome};
 ghost use Rattle.std.specs.List.{position_from};
 ghost use Rattle.operand.specs.Read.{place_of};
 ghost use Rattle.assembler.specs.Shapes.{bytes_in, digits_in, firsts, form_keys, form_number, listed, low_bytes, shape_number, shapes, size_in};
 
+// No enum beside the other forms: one search over one list finds any of them, and their definition (`form_at`) counts ORG as 0.
 pub const ORG: usize = 0;
 
 // How a form's bytes hold its operand.
@@ -221,12 +222,12 @@ pub(crate) fn values_of(digits: u8) -> u64
     }
 }
 
-// The bytes of a line: so many of the two. No slice or Option: the size is what the address moves on by, also where the bytes have no place.
+// The bytes of a line.
 #[derive(Clone, Copy)]
-pub struct Bytes {
-    pub size: usize,
-    pub first: u8,
-    pub second: u8,
+pub enum Bytes {
+    Nothing,
+    One(u8),
+    Two(u8, u8),
 }
 
 // The low byte of a number.
@@ -236,44 +237,20 @@ fn byte(x: u32) -> u8
     (x % 256) as u8
 }
 
-fn one(byte: u8) -> Bytes
-    ensures { result ≡ record { size = 1; first = byte; second = 0 } }
-{
-    Bytes {
-        size: 1,
-        first: byte,
-        second: 0,
-    }
-}
-
-fn two(first: u8, second: u8) -> Bytes
-    ensures { result ≡ record { size = 2; first = first; second = second } }
-{
-    Bytes {
-        size: 2,
-        first,
-        second,
-    }
-}
-
 // The bytes of a form and its operand's value, by the form's shape and first byte.
 pub(crate) fn bytes_of(shape: Shape, first: u8, value: u16) -> Bytes
-    ensures { (listed result ≡ low_bytes (bytes_in (shape_number shape) first value)) × (result.size ≡ size_in (shape_number shape)) }
+    ensures { (listed result ≡ low_bytes (bytes_in (shape_number shape) first value)) × (length (listed result) ≡ size_in (shape_number shape)) }
 {
     let a = first as u32;
     let v = value as u32;
     match shape {
-        Shape::Empty => Bytes {
-            size: 0,
-            first: 0,
-            second: 0,
-        },
-        Shape::Plain => one(first),
-        Shape::Halt => two(first, 0x3e),
-        Shape::Within => one(byte(a + v)),
-        Shape::Nibble | Shape::Byte => two(first, byte(v)),
-        Shape::Pair => two(byte(a + v % 16), byte(v / 16)),
-        Shape::Branch => two(byte(a + v % 2048 / 256), byte(v % 2048 % 256)),
-        Shape::Address => two(byte(a + v / 256), byte(v % 256)),
+        Shape::Empty => Bytes::Nothing,
+        Shape::Plain => Bytes::One(first),
+        Shape::Halt => Bytes::Two(first, 0x3e),
+        Shape::Within => Bytes::One(byte(a + v)),
+        Shape::Nibble | Shape::Byte => Bytes::Two(first, byte(v)),
+        Shape::Pair => Bytes::Two(byte(a + v % 16), byte(v / 16)),
+        Shape::Branch => Bytes::Two(byte(a + v % 2048 / 256), byte(v % 2048 % 256)),
+        Shape::Address => Bytes::Two(byte(a + v / 256), byte(v % 256)),
     }
 }

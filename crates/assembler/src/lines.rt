@@ -153,7 +153,8 @@ fn body(
     })
 }
 
-// The line that starts here. An ORG's labels are looked up among those above.
+// The line that starts here. An ORG's labels are looked up among those above. Its readers ask each that `at` is in the text: a struct of text and
+// place would be made anew where each token ends, with as many facts to prove.
 pub(crate) fn read_line(labels: Labels, above: &[u16], at: usize) -> Option<Line>
     requires { (at ≤ length labels.text.now) × (length labels.text.now ≤ 65535) }
     ensures { Shows labels.entry.text.now (names_of labels.entry.text.now above.now)

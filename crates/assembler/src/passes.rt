@@ -5,11 +5,15 @@ ghost use Rattle.operand.specs.Words.{among};
 ghost use Rattle.operand.specs.Read.{names_of, word_at};
 ghost use Rattle.assembler.specs.Forms.{rom_size};
 ghost use Rattle.assembler.specs.Program.{end, first, line_of, mislabelled, misfit, misplaced, program, put, start, within};
-ghost use Rattle.assembler.specs.Shapes.{form_number, is_free, is_misfit, shape_number};
+ghost use Rattle.assembler.specs.Shapes.{form_number, is_free, is_misfit, listed, shape_number};
+ghost use Rattle.std.specs.List.{list_all};
+ghost use Rattle.std.proofs.lemmas.List.Edits.{sets};
 ghost use Rattle.assembler.specs.Passing.{Collected, Placed, Refuses, Settled};
 ghost use Rattle.refusals.specs.declared.Refusal.TheVariants as R;
 
-use crate::forms::{ORG, Shape, bytes_of, digits_of, first_of, shape_of, size_of, values_of};
+use crate::forms::{
+    Bytes, ORG, Shape, bytes_of, digits_of, first_of, shape_of, size_of, values_of,
+};
 use crate::lines::{Line, read_line};
 use crate::places::Places;
 use crate::refused::Refused;
@@ -35,13 +39,17 @@ fn note(list: &mut [u16], count: usize, value: Option<usize>) -> usize
     }
 }
 
-// Stores a byte if it is wanted and there is a place for it.
-fn store(list: &mut [u8], at: usize, value: u8, wanted: bool)
-    ensures { list.new ≡ pick wanted (set list.old at value) list.old }
+// Stores a line's bytes from its address on.
+fn store(out: &mut [u8], at: usize, bytes: Bytes)
+    requires { at + length (listed bytes) ≤ length out.old }
+    ensures { out.new ≡ sets out.old at (listed bytes) }
 {
-    if wanted {
-        if at < list.len() {
-            list[at] = value;
+    match bytes {
+        Bytes::Nothing => {}
+        Bytes::One(byte) => out[at] = byte,
+        Bytes::Two(first, second) => {
+            out[at] = first;
+            out[at + 1] = second;
         }
     }
 }
@@ -113,10 +121,7 @@ pub(crate) fn check_labels(labels: Labels) -> Result<(), Refused>
 fn is_org(form: Option<usize>) -> bool
     ensures { result ≡ eqb (form_number form) 0 }
 {
-    match form {
-        Some(form) => form == ORG,
-        None => false,
-    }
+    form == Some(ORG)
 }
 
 // Whether a line is an ORG outside 0 to 4,095.
@@ -143,30 +148,29 @@ fn address_of(form: Option<usize>, value: Value, address: usize) -> usize
     }
 }
 
-// Whether an address that is wanted is written already.
-fn taken(used: &[u8], at: usize, wanted: bool) -> bool
-    ensures { result ≡ (wanted && not (eqb (get_or used.now at 0) 0)) }
+fn is_clear(places: &[u8]) -> bool
+    ensures { result ≡ list_all (λ p. eqb p 0) places.now }
 {
-    if wanted {
-        if at < used.len() {
-            return used[at] != 0;
-        }
-    }
-    false
+    places.iter().all(|p| *p == 0)
 }
 
 // Whether a line's bytes have a place.
 fn free(used: &[u8], at: usize, size: usize) -> bool
-    requires { (at ≤ rom_size) × (size ≤ 2) }
+    requires { (length used.now ≡ rom_size) × (at ≤ rom_size) × (size ≤ 2) }
     ensures { result ≡ is_free used.now at size }
 {
-    if at + size > MASK {
-        return false;
+    match used.get(at..at + size) {
+        Some(places) => is_clear(places),
+        None => false, // a byte past the end
     }
-    if taken(used, at, size > 0) {
-        return false;
-    }
-    !taken(used, at + 1, size > 1)
+}
+
+// Notes that the bytes of a line are written.
+fn mark(used: &mut [u8], at: usize, size: usize)
+    requires { at + size ≤ length used.old }
+    ensures { used.new ≡ sets used.old at (replicate size 1) }
+{
+    used[at..at + size].fill(1);
 }
 
 // Gives each line its place, and each label its address.
@@ -211,8 +215,7 @@ pub(crate) fn place_lines(
             });
         }
         count = note(addresses, count, l.label.and(Some(here)));
-        store(used, here, 1, size > 0);
-        store(used, here + 1, 1, size > 1);
+        mark(used, here, size);
         address = here + size;
     }
     Ok(())
@@ -277,6 +280,7 @@ fn value_of(value: Value) -> u16
 // Puts each line's bytes at its address.
 pub(crate) fn write_lines(labels: Labels, out: &mut [u8])
     requires placed { Placed labels.text.now labels.starts.now labels.addresses.now (length labels.starts.now) }
+    requires sized { length out.old ≡ rom_size }
     requires fits { first (misfit (end start (program labels.text.now))) start 1 (program labels.text.now) ≡ 0 }
     ensures { out.new ≡ put (end start (program labels.entry.text.now)) start (program labels.entry.text.now) out.old }
 {
@@ -288,10 +292,13 @@ pub(crate) fn write_lines(labels: Labels, out: &mut [u8])
             unreachable!()
         };
         let here = address_of(l.form, l.value, address);
-        let bytes = bytes_of(shape_of(l.form), first_of(l.form), value_of(l.value));
-        let size = bytes.size;
-        store(out, here, bytes.first, size > 0);
-        store(out, here + 1, bytes.second, size > 1);
+        let shape = shape_of(l.form);
+        let size = size_of(shape);
+        store(
+            out,
+            here,
+            bytes_of(shape, first_of(l.form), value_of(l.value)),
+        );
         count += usize::from(l.label.is_some());
         address = here + size;
     }

@@ -39,8 +39,8 @@ returns-then-strays-clause-refusal c = let g = c.loop-place.invariant.1.here c.i
 
 pub free-requires : goal.free-requires
 free-requires c = let g = c.loop-place.invariant.1.here c.in-Some.ensures.steps.0 in
-    here-most g c.in-Some-read_line.ensures (sym c.strays.ensures ∙ c.if-strays.false) c.address_of-here.result c.size_of-size.result
-    c.address_of-here.ensures (c.size_of-size.ensures ∙ ap size_in c.shape_of.ensures)
+    let m = here-most g c.in-Some-read_line.ensures (sym c.strays.ensures ∙ c.if-strays.false) c.address_of-here.result c.size_of-size.result
+    c.address_of-here.ensures (c.size_of-size.ensures ∙ ap size_in c.shape_of.ensures) in (g.flag-count, m.0, m.1)
 
 pub returns-then-not-free-clause-line : goal.returns-then-not-free-clause-line
 returns-then-not-free-clause-line c = let g = c.loop-place.invariant.1.here c.in-Some.ensures.steps.0 in
@@ -60,10 +60,11 @@ note-count-requires c = let g = c.loop-place.invariant.1.here c.in-Some.ensures.
     (label-room g c.in-Some-read_line.ensures (sym c.strays.ensures ∙ c.if-strays.false) c.address_of-here.result c.size_of-size.result
     c.address_of-here.ensures (c.size_of-size.ensures ∙ ap size_in c.shape_of.ensures) (sym c.free.ensures ∙ c.if-not-free.false))
 
-pub overflow_add-here : goal.overflow_add-here
-overflow_add-here c = let g = c.loop-place.invariant.1.here c.in-Some.ensures.steps.0 in
+pub mark-requires : goal.mark-requires
+mark-requires c = let g = c.loop-place.invariant.1.here c.in-Some.ensures.steps.0 in
     omega (
       arith,
+      g.flag-count,
       end-most g c.in-Some-read_line.ensures (sym c.strays.ensures ∙ c.if-strays.false) c.address_of-here.result c.size_of-size.result
           c.address_of-here.ensures (c.size_of-size.ensures ∙ ap size_in c.shape_of.ensures) (sym c.free.ensures ∙ c.if-not-free.false),
     )
@@ -89,8 +90,8 @@ loop-place-preserved c =
     let counts = c.note-count.ensures.1 ∙ ap (λ (b : Bool). pick b (c.loop-place.count + 1) c.loop-place.count) (same_some _ label c.and.ensures) in (
       t.1 ∙ c.loop-place.invariant.0,
       on c.loop-place.invariant.0 t.0 t.2 g.walk.within
-          (λ e. let p = placed g x inside _ _ c.address_of-here.ensures size free _ _ _ _ noted counts c.store.ensures c.store-in-loop-place.ensures e in (p.0, p.1 refl))
-          (place-on g x inside _ _ c.address_of-here.ensures size free _ _ _ _ noted counts c.store.ensures c.store-in-loop-place.ensures),
-      same-room g x inside _ _ c.address_of-here.ensures size free _ _ _ _ noted counts c.store.ensures c.store-in-loop-place.ensures
+          (λ e. let p = placed g x inside _ _ c.address_of-here.ensures size free _ _ _ noted counts c.mark.ensures e in (p.0, p.1 refl))
+          (place-on g x inside _ _ c.address_of-here.ensures size free _ _ _ noted counts c.mark.ensures),
+      same-room g x inside _ _ c.address_of-here.ensures size free _ _ _ noted counts c.mark.ensures
           ∙ c.loop-place.invariant.2,
     )

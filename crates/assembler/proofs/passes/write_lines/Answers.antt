@@ -25,12 +25,16 @@ pub unreachable-requires : goal.unreachable-requires
 unreachable-requires c = let g = c.loop-place.invariant.1.here c.in-Some.ensures.steps.0 in
     differ (walk-readable g.going.walk (shown-all c.args.labels.starts.now c.in_default.ensures))
 
-pub overflow_add-here : goal.overflow_add-here
-overflow_add-here c = let g = c.loop-place.invariant.1.here c.in-Some.ensures.steps.0 in
+pub store-requires : goal.store-requires
+store-requires c = let g = c.loop-place.invariant.1.here c.in-Some.ensures.steps.0 in
     omega (
       arith,
+      c.requires.sized,
+      c.loop-place.invariant.2,
+      c.bytes_of.ensures.1,
+      c.size_of-size.ensures,
       (going-most c.requires.placed g.going (shown-all c.args.labels.starts.now c.in-Some-read_line.ensures) c.address_of-here.result
-          c.bytes_of-bytes.result.size c.address_of-here.ensures (c.bytes_of-bytes.ensures.1 ∙ ap size_in c.shape_of.ensures)).0,
+          c.size_of-size.result c.address_of-here.ensures (c.size_of-size.ensures ∙ ap size_in c.shape_of-shape.ensures)).2,
     )
 
 pub overflow_add-count : goal.overflow_add-count
@@ -43,7 +47,7 @@ overflow_add-address c = let g = c.loop-place.invariant.1.here c.in-Some.ensures
     omega (
       arith,
       (going-most c.requires.placed g.going (shown-all c.args.labels.starts.now c.in-Some-read_line.ensures) c.address_of-here.result
-          c.bytes_of-bytes.result.size c.address_of-here.ensures (c.bytes_of-bytes.ensures.1 ∙ ap size_in c.shape_of.ensures)).2,
+          c.size_of-size.result c.address_of-here.ensures (c.size_of-size.ensures ∙ ap size_in c.shape_of-shape.ensures)).2,
     )
 
 pub loop-place-preserved : goal.loop-place-preserved
@@ -51,19 +55,19 @@ loop-place-preserved c =
     let t = c.in-Some.ensures.steps in
     let g = c.loop-place.invariant.1.here t.0 in
     let x = shown-all c.args.labels.starts.now c.in-Some-read_line.ensures in
-    let size = c.bytes_of-bytes.ensures.1 ∙ ap size_in c.shape_of.ensures in
+    let size = c.size_of-size.ensures ∙ ap size_in c.shape_of-shape.ensures in
     let bad = misfit (end start (program c.args.labels.text.now)) in
     let fits = walk_none g.going.walk bad g.found c.requires.fits in (
       t.1 ∙ c.loop-place.invariant.0,
       on c.loop-place.invariant.0 t.0 t.2 g.going.walk.within
-          (λ e. sym (g.whole ∙ put_last c.requires.placed g.going x _ _ c.address_of-here.ensures size fits c.bytes_of-bytes.result
-          (shape_number c.shape_of.result) c.first_of.result c.value_of.result c.shape_of.ensures c.first_of.ensures c.value_of.ensures c.bytes_of-bytes.ensures.0 refl _ _ _ c.store.ensures c.store-in-loop-place.ensures e))
+          (λ e. sym (g.whole ∙ put_last c.requires.placed g.going x _ _ c.address_of-here.ensures size fits c.bytes_of.result
+          (shape_number c.shape_of-shape.result) c.first_of.result c.value_of.result c.shape_of-shape.ensures c.first_of.ensures c.value_of.ensures c.bytes_of.ensures.0 _ _ c.store.ensures e))
           (λ h. record {
             s = _;
             going = going_on c.requires.placed g.going x _ _ c.address_of-here.ensures size _ (counted c.loop-place.count c.from-count.ensures c.is_some.ensures) h;
             found = walk-past g.going.walk bad g.found fits h;
-            whole = g.whole ∙ put_on c.requires.placed g.going x _ _ c.address_of-here.ensures size fits c.bytes_of-bytes.result
-                (shape_number c.shape_of.result) c.first_of.result c.value_of.result c.shape_of.ensures c.first_of.ensures c.value_of.ensures c.bytes_of-bytes.ensures.0 refl _ _ _ c.store.ensures c.store-in-loop-place.ensures h;
+            whole = g.whole ∙ put_on c.requires.placed g.going x _ _ c.address_of-here.ensures size fits c.bytes_of.result
+                (shape_number c.shape_of-shape.result) c.first_of.result c.value_of.result c.shape_of-shape.ensures c.first_of.ensures c.value_of.ensures c.bytes_of.ensures.0 _ _ c.store.ensures h;
           }),
-      c.store-in-loop-place.auto.list ∙ c.store.auto.list ∙ c.loop-place.invariant.2,
+      c.store.auto.out ∙ c.loop-place.invariant.2,
     )
