@@ -25,9 +25,9 @@ run-is (c ∷ s) = take_while-cons in_word c s ∙ case (in_word c) (λ e. rw e 
 pub take_run : (s : List ℕ) → take (length (take_while in_word s)) s ≡ run s
 take_run s = rw (run-is s) (run_take s)
 
-pub spaces-are : (s : List ℕ) → length (take_while (λ (c : ℕ). eqb c 32) s) ≡ spaces s
-spaces-are [] = refl
-spaces-are (c ∷ s) = ap length (take_while-cons (λ (d : ℕ). eqb d 32) c s) ∙ case (eqb c 32) (λ e. rw e (ap suc (spaces-are s))) (λ e. rw e refl)
+pub spaces_are : (s : List ℕ) → length (take_while (λ (c : ℕ). eqb c 32) s) ≡ spaces s
+spaces_are [] = refl
+spaces_are (c ∷ s) = ap length (take_while-cons (λ (d : ℕ). eqb d 32) c s) ∙ case (eqb c 32) (λ e. rw e (ap suc (spaces_are s))) (λ e. rw e refl)
 
 -- a word found among others stands at its place
 ltb-suc : (m n : ℕ) → ltb (suc m) (suc n) ≡ ltb m n

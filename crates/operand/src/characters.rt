@@ -4,6 +4,7 @@ ghost use Rattle.std.specs.List.{take_while};
 ghost use Rattle.operand.specs.Text.{in_word};
 ghost use Rattle.operand.specs.Read.{past_spaces, word_at};
 
+#[tactic(auto, unfolding(crate::specs::Text::in_word))]
 // Letters and digits.
 pub(crate) fn in_word(c: u8) -> bool
     ensures { result ≡ in_word c }
@@ -25,6 +26,7 @@ fn word_length(text: &[u8]) -> usize
     text.iter().take_while(|c| in_word(**c)).count()
 }
 
+#[tactic(auto, using(crate::proofs::Scans::take_run))]
 // The word that starts here.
 pub fn word(text: &[u8], at: usize) -> &[u8]
     ensures { result.now ≡ word_at text.now at }
@@ -40,6 +42,7 @@ fn spaces(text: &[u8]) -> usize
     text.iter().take_while(|c| **c == b' ').count()
 }
 
+#[tactic(auto, using(crate::proofs::Scans::spaces_are))]
 // Past the spaces that stand here.
 pub(crate) fn skip(text: &[u8], at: usize) -> usize
     ensures { result ≡ past_spaces text.now at }
