@@ -82,22 +82,22 @@ field-most s = case (ltb s 3)
     (λ a. rw a (case (ltb s 5) (λ b. rw b (omega arith)) (λ b. rw b (case (ltb s 7) (λ d. rw d (omega arith)) (λ d. rw d (omega arith))))))
 
 -- ---- flags say what is written
-abbrev pub Flags : List ℕ → List ℕ → Type 0
-Flags written used = (a : ℕ) → a < rom_size → is_in written a ≡ not (eqb (get_or used a 0) 0)
+abbrev pub Flags : List ℕ → List Bool → Type 0
+Flags written used = (a : ℕ) → a < rom_size → is_in written a ≡ get_or used a false
 
 -- what is clear in a row is not written
-clear-span : (written used : List ℕ) → Flags written used → length used ≡ rom_size → (n at : ℕ) → at + n ≤ rom_size
-    → meets written (span at n) ≡ not (list_all (λ (u : ℕ). eqb u 0) (take n (drop at used)))
+clear-span : (written : List ℕ) (used : List Bool) → Flags written used → length used ≡ rom_size → (n at : ℕ) → at + n ≤ rom_size
+    → meets written (span at n) ≡ not (list_all (λ (u : Bool). not u) (take n (drop at used)))
 clear-span written used f l zero at h = refl
 clear-span written used f l (suc n) at h =
-    rw (drop-cons used at 0 (omega (arith, l)), f at (omega arith), clear-span written used f l n (suc at) (omega arith))
-    (either (eqb (get_or used at 0) 0) (list_all (λ (u : ℕ). eqb u 0) (take n (drop (suc at) used))))
+    rw (drop-cons used at false (omega (arith, l)), f at (omega arith), clear-span written used f l n (suc at) (omega arith))
+    (either (get_or used at false) (list_all (λ (u : Bool). not u) (take n (drop (suc at) used))))
   where
-    either : (a b : Bool) → (not a || not b) ≡ not (a && b)
+    either : (a b : Bool) → (a || not b) ≡ not (not a && b)
     either true b = refl
     either false b = refl
 
-free-size : (written used : List ℕ) → Flags written used → length used ≡ rom_size → (at n : ℕ)
+free-size : (written : List ℕ) (used : List Bool) → Flags written used → length used ≡ rom_size → (at n : ℕ)
     → (ltb rom_size (at + n) || meets written (span at n)) ≡ not (is_free used at n)
 free-size written used f l at n = case (leb (at + n) rom_size)
     (λ e. let u = leb-true (at + n) rom_size e in rw (e, le-ltb rom_size (at + n) u) (clear-span written used f l n at u))
@@ -142,7 +142,7 @@ module _ {text : List ℕ} {above all : List (List ℕ)} {addresses : List ℕ} 
         by (coded ts e b f g v p) = absurd (differ (sym (rw (ne_eqb r.form 0 (λ q. omega arith)) refl) ∙ h))
 
     -- where no ORG strays, a line has its place exactly when its bytes are free
-    pub shows-place-free : (used : List ℕ) → Flags s.written used → length used ≡ rom_size → s.at ≤ rom_size → (eqb r.form 0 && not (within rom_size r.plus r.minus))
+    pub shows-place-free : (used : List Bool) → Flags s.written used → length used ≡ rom_size → s.at ≤ rom_size → (eqb r.form 0 && not (within rom_size r.plus r.minus))
         ≡ false
         → misplaced s st ≡ not (is_free used (pick (eqb r.form 0) (r.plus - r.minus) s.at) (size_in (get_or shapes r.form 0)))
     shows-place-free used flags long most h = by x
@@ -281,10 +281,10 @@ in-append (b ∷ w) v a = rw (in-append w v a) (or_assoc (eqb b a) (is_in w a) (
     or_assoc true y z = refl
     or_assoc false y z = refl
 
-flag_one : (written used : List ℕ) (at : ℕ) → Flags written used → at < length used → Flags (written ++ (at ∷ [])) (set used at 1)
+flag_one : (written : List ℕ) (used : List Bool) (at : ℕ) → Flags written used → at < length used → Flags (written ++ (at ∷ [])) (set used at true)
 flag_one written used at f h a l = in-append written (at ∷ []) a ∙ case (eqb at a)
-    (λ e. rw (e, sym (eqb-true at a e), get_or-set_same used at 1 0 h) (or-true (is_in written at)))
-    (λ e. rw (e, get_or-set_other used at a 1 0 (λ q. eqb-false at a e (sym q)), f a l) (or-false (not (eqb (get_or used a 0) 0))))
+    (λ e. rw (e, sym (eqb-true at a e), get_or-set_same used at true false h) (or-true (is_in written at)))
+    (λ e. rw (e, get_or-set_other used at a true false (λ q. eqb-false at a e (sym q)), f a l) (or-false (get_or used a false)))
   where
     or-true : (b : Bool) → (b || true) ≡ true
     or-true true = refl
@@ -295,9 +295,9 @@ flag_one written used at f h a l = in-append written (at ∷ []) a ∙ case (eqb
     or-false false = refl
 
 -- places from an address on are flagged
-pub flag-span : (n : ℕ) (written used : List ℕ) (at : ℕ) → Flags written used → length used ≡ rom_size → at + n ≤ rom_size
-    → Flags (written ++ span at n) (sets used at (replicate n 1))
+pub flag-span : (n : ℕ) (written : List ℕ) (used : List Bool) (at : ℕ) → Flags written used → length used ≡ rom_size → at + n ≤ rom_size
+    → Flags (written ++ span at n) (sets used at (replicate n true))
 flag-span zero written used at f l u = rw (append-nil written) f
 flag-span (suc n) written used at f l u =
     rw (sym (append_assoc written (at ∷ []) (span (suc at) n)))
-    (flag-span n (written ++ (at ∷ [])) (set used at 1) (suc at) (flag_one written used at f (omega (arith, l))) (length-set used at 1 ∙ l) (omega arith))
+    (flag-span n (written ++ (at ∷ [])) (set used at true) (suc at) (flag_one written used at f (omega (arith, l))) (length-set used at true ∙ l) (omega arith))

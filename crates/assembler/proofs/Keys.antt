@@ -267,10 +267,6 @@ long-none (f ∷ fs) h e l =
 pub too_long : (h : List Token) → 6 < length h → (equals org_lead h ≡ false) × (form_in forms h ≡ none)
 too_long h l = (unequal org_lead h (λ q. omega arith), long-none forms h forms-short l)
 
-pub zero-none : place_of form_keys 0 ≡ 97
-unfolding form_keys forms line_of word_kind sign_kind is_fixed fixed_words
-zero-none = refl
-
 -- the number found is the key's place
 place-from : (x i : ℕ) (l : List ℕ) → unwrap_or (position_from (λ (y : ℕ). eqb y x) i l) (i + length l) ≡ i + place_of l x
 place-from x i [] = refl

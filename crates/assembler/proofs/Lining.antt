@@ -10,7 +10,7 @@ use native.Mathlib.Omega.{arith}
 use borrow.Author.Tests.{eq-eqb, eqb-false, eqb-true, lt-ltb, ltb-true, ne_eqb}
 use lib.Dec.{eqb, ltb}
 use lib.ListN.{get_or, length}
-use Rattle.std.specs.Prelude.{None, Option, Some, is_some, unwrap_or}
+use Rattle.std.specs.Prelude.{IfSome, MatchOption, None, Option, Some, is_some, unwrap_or}
 use Rattle.isa.specs.Choice.{pick}
 use Rattle.mnemonic.specs.Spelling.{Token, letters, mark, operand}
 use Rattle.operand.specs.Text.{is_digit, is_letter}
@@ -35,7 +35,7 @@ use Rattle.assembler.specs.Read as L
 use Rattle.assembler.specs.declared.lines.Head.{Head}
 use Rattle.assembler.specs.declared.lines.Label.{Label}
 use Rattle.assembler.proofs.Keys.{before-leads, fixed-kind, form-found, form-none, keys-most, kind-range, not-org, org-found, sign-leads}
-use Rattle.assembler.proofs.Keys.{too_long, zero-none}
+use Rattle.assembler.proofs.Keys.{too_long}
 use Rattle.assembler.proofs.Shaping.{shape_at}
 
 -- ---- leading tokens, by their kind
@@ -143,13 +143,13 @@ module _ {text : List ℕ} {at key count i : ℕ} where
   key-small g h = rw g.number (packed-small g.done g.bytes (omega (arith, g.counted)))
 
   module _ {r : Lexeme} (g : Heading text at key count i) (x : Lexed text i r) where
-    pub headed : leading r.kind ≡ None → Headed text (tokens_at text at) (record { key = key; next = i })
+    pub headed : leading r.kind ≡ None → Headed text (tokens_at text at) (record { key = Some key; next = i })
     headed h =
         let t = as-tail x.next h in
-        whole (g.number ∙ ap packed (sym (g.row ∙ ap (λ (us : List Token). reverse_aux (map kind_of us) g.done) t.0))) (sym (g.rest ∙ t.1))
+        whole (ap Some (g.number ∙ ap packed (sym (g.row ∙ ap (λ (us : List Token). reverse_aux (map kind_of us) g.done) t.0)))) (sym (g.rest ∙ t.1))
         g.within
 
-    pub head-long : {n : ℕ} → leading r.kind ≡ Some n → count ≡ 6 → Headed text (tokens_at text at) (record { key = 0; next = i })
+    pub head-long : {n : ℕ} → leading r.kind ≡ Some n → count ≡ 6 → Headed text (tokens_at text at) (record { key = None; next = i })
     head-long {n} h c =
         let t = as-lead x.next n h in
         let on = lead-on t.is t.leads in
@@ -344,24 +344,35 @@ body-form l ts =
     let high : n < 97 = omega (arith, eqb-false n 97 e) in
     rw (e, f, not-org (before ts) b low, form-found (before ts) b low high) refl))
 
-body-long : (l : Math.Option (List ℕ)) (ts us : List Token) → 6 < length (before ts) → body l ts ≡ bodied (place_of form_keys 0) l us
+body-long : (l : Math.Option (List ℕ)) (ts us : List Token) → 6 < length (before ts) → body l ts ≡ bodied 97 l us
 unfolding body
-body-long l ts us h = let p = too_long (before ts) h in rw (p.0, p.1, zero-none) refl
+body-long l ts us h = let p = too_long (before ts) h in rw (p.0, p.1) refl
+
+-- the number of a key's form, where there is a key
+abbrev pub number_at : Option ℕ → ℕ
+number_at None = 97
+number_at (Some key) = place_of form_keys key
+
+pub number-is : (form key : Option ℕ)
+    → MatchOption key (form ≡ None) (λ k. (unwrap_or form 97 ≡ place_of form_keys k) × IfSome form (λ (n : ℕ). n < 97))
+    → unwrap_or form 97 ≡ number_at key
+number-is form None e = rw e refl
+number-is form (Some key) e = e.0
 
 -- a line that is not blank is what follows its label, by the number of its form
 pub line-body : (text : List ℕ) (ts : List Token) (name : Label) (r : Head) → nothing ts ≡ none → Labelling text ts name
     → Headed text (tokens_at text name.next) r
-    → statement ts ≡ bodied (place_of form_keys r.key) (label_at text name.start) (tokens_at text r.next)
+    → statement ts ≡ bodied (number_at r.key) (label_at text name.start) (tokens_at text r.next)
 line-body text ts name r e n (whole k a w) =
     statement-body ts e ∙ rw
-    (sym n.label, sym n.rest, body-form (label_at text name.start) (tokens_at text name.next), sym k, sym a) refl
+    (sym n.label, sym n.rest, body-form (label_at text name.start) (tokens_at text name.next), k, sym a) refl
 line-body text ts name r e n (long k a w) =
     statement-body ts e ∙ rw (
       sym n.label,
       sym n.rest,
       body-long (label_at text name.start) (tokens_at text name.next)
           (tokens_at text r.next) a,
-      sym k,
+      k,
     ) refl
 
 pub headed-within : {text : List ℕ} {ts : List Token} {r : Head} → Headed text ts r → r.next ≤ length text

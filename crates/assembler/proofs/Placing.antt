@@ -25,7 +25,7 @@ use Rattle.assembler.proofs.Splitting.{last_line, program_at}
 use Rattle.assembler.proofs.Walking.{Walk, shows-labelled, walk-begin, next-count, walk-clear, walk-found, walk-held, walk-names, walk-next-few}
 use Rattle.assembler.proofs.Walking.{walk-on, walk-past, walk-readable}
 
-pub record Placing (text starts addresses used : List ℕ) (all at number count address : ℕ) : Type 0 where
+pub record Placing (text starts addresses : List ℕ) (used : List Bool) (all at number count address : ℕ) : Type 0 where
   pub s : Above
   pub walk : Walk text at number count s
   pub settled : Settled text starts addresses all
@@ -36,7 +36,7 @@ pub record Placing (text starts addresses used : List ℕ) (all at number count 
   pub flag-count : length used ≡ rom_size
   pub stored : s.addresses ≡ take count addresses
 
-pub places : (text starts addresses used : List ℕ) (all : ℕ) → Settled text starts addresses all → used ≡ replicate rom_size 0
+pub places : (text starts addresses : List ℕ) (used : List Bool) (all : ℕ) → Settled text starts addresses all → used ≡ replicate rom_size false
     → Placing text starts addresses used all 0 1 0 0
 places text starts addresses used all settled u = record {
   s = start;
@@ -45,12 +45,12 @@ places text starts addresses used all settled u = record {
   found = refl;
   at-is = refl;
   most = omega arith;
-  flags = λ a h. rw (u, get_or-replicate {A = ℕ} rom_size a 0 0 h) refl;
-  flag-count = ap length u ∙ length-replicate {A = ℕ} rom_size 0;
+  flags = λ a h. rw (u, get_or-replicate {A = Bool} rom_size a false false h) refl;
+  flag-count = ap length u ∙ length-replicate {A = Bool} rom_size false;
   stored = refl;
 }
 
-module _ {text starts addresses used : List ℕ} {all at number count address : ℕ} (g : Placing text starts addresses used all at number count address)
+module _ {text starts addresses : List ℕ} {used : List Bool} {all at number count address : ℕ} (g : Placing text starts addresses used all at number count address)
     {r : Parts}
     (x : Shows text (names_at text starts count) (names_at text starts 0) addresses (statement (tokens_at text at)) r) where
   abbrev st : Statement
@@ -118,8 +118,8 @@ module _ {text starts addresses used : List ℕ} {all at number count address : 
           let m : count + 1 ≤ all = rw l at n in
           (omega (arith, g.settled.room), omega (arith, here-most.0))
 
-      module _ (addresses' two : List ℕ) (count' : ℕ) (noted : addresses' ≡ pick r.labelled (set addresses count here) addresses)
-          (counts : count' ≡ pick r.labelled (count + 1) count) (marked : two ≡ sets used here (replicate size 1)) where
+      module _ (addresses' : List ℕ) (two : List Bool) (count' : ℕ) (noted : addresses' ≡ pick r.labelled (set addresses count here) addresses)
+          (counts : count' ≡ pick r.labelled (count + 1) count) (marked : two ≡ sets used here (replicate size true)) where
         pub same-room : length addresses' ≡ length addresses
         same-room = case r.labelled
             (λ l. let a : addresses' ≡ set addresses count here = noted ∙ rw l refl in ap length a ∙ length-set addresses count here)
@@ -181,6 +181,6 @@ module _ {text starts addresses used : List ℕ} {all at number count address : 
               at-is = next-at;
               most = end-most;
               flags = next-flags (rw marked (flag-span size g.s.written used here g.flags g.flag-count end-most));
-              flag-count = ap length marked ∙ length-sets used here (replicate size 1) ∙ g.flag-count;
+              flag-count = ap length marked ∙ length-sets used here (replicate size true) ∙ g.flag-count;
               stored = next-stored;
             }

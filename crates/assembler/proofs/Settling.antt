@@ -3,10 +3,12 @@ use Prim.Native.Nat.{ℕ, ◌+◌, ◌-◌, ◌%◌, ◌<◌, ◌≤◌}
 use mathlib.Core.Path.{◌≡◌, refl, sym, ap, ◌∙◌}
 use mathlib.Core.Bool.{true, false}
 use mathlib.Core.List.{List, [], ◌∷◌}
+use Rattle.std.specs.Prelude.{Option}
 use native.Mathlib.Omega.{arith}
 use lib.Dec.{eqb}
 use lib.ListN.{get_or, length, take}
 use lib.Seq.{sets}
+use Rattle.rom.specs.declared.encoder.Written.{Written}
 use Rattle.assembler.specs.Forms.{rom_size}
 use Rattle.isa.specs.Choice.{pick}
 use Rattle.operand.specs.Read.{names_at, tokens_at}
@@ -16,7 +18,6 @@ use Rattle.assembler.specs.Program.{Above, address_of, bytes, end, first, misfit
 use Rattle.assembler.specs.Shapes.{bytes_in, firsts, is_misfit, listed, low_bytes, shapes, size_in}
 use Rattle.assembler.specs.Read.{Parts, Shows}
 use Rattle.assembler.specs.Passing.{Placed, line_end}
-use Rattle.assembler.specs.declared.forms.Bytes.{Bytes}
 use Rattle.assembler.proofs.Addresses.{first-addresses, next-paired, shows-address, shows-bytes, shows-misfit, shows-placed, shows-put}
 use Rattle.assembler.proofs.Addresses.{shows-size, size-most}
 use Rattle.assembler.proofs.Splitting.{last_line, next-line, program_at}
@@ -99,7 +100,7 @@ module _ {text starts addresses : List ℕ} {all : ℕ} (p : Placed text starts 
     }
 
     -- the bytes that are stored
-    module _ (fits : misfit whole s st ≡ false) (b : Bytes) (shape first value : ℕ) (Shape-is : shape ≡ get_or shapes r.form 0)
+    module _ (fits : misfit whole s st ≡ false) (b : Option Written) (shape first value : ℕ) (Shape-is : shape ≡ get_or shapes r.form 0)
         (first-is : first ≡ get_or firsts r.form 0) (value-is : value ≡ (r.plus - r.minus) % 65536)
         (bytes-are : listed b ≡ low_bytes (bytes_in shape first value)) (out two : List ℕ) (stored-are : two ≡ sets out here (listed b)) where
       line-bytes : bytes whole st ≡ listed b

@@ -54,8 +54,8 @@ pub record Labelling (text : List ℕ) (ts : List Token) (r : Label) : Type 0 wh
 
 -- the tokens before an operand, if they are few enough for a form
 pub data Headed (text : List ℕ) (ts : List Token) (r : Head) : Type 0 where
-  whole : r.key ≡ key_of (before ts) → tokens_at text r.next ≡ after ts → r.next ≤ length text → Headed text ts r
-  long : r.key ≡ 0 → 6 < length (before ts) → r.next ≤ length text → Headed text ts r
+  whole : r.key ≡ Some (key_of (before ts)) → tokens_at text r.next ≡ after ts → r.next ≤ length text → Headed text ts r
+  long : r.key ≡ None → 6 < length (before ts) → r.next ≤ length text → Headed text ts r
 
 pub record Valued (names : List (List ℕ)) (addresses : List ℕ) (terms : List Term) (r : Parts) : Type 0 where
   pub added : r.plus ≡ plus names addresses terms

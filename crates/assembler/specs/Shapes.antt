@@ -11,9 +11,9 @@ use Rattle.operand.specs.Read.{kind_of, packed}
 use Rattle.operand.specs.declared.tokens.Kind.{Kind}
 use Rattle.operand.specs.declared.tokens.Kind.TheVariants.{End, Label, Number, Fixed, Sign}
 use Rattle.rom.specs.Fetching.{moved_by}
+use Rattle.rom.specs.declared.encoder.Written.{Written}
+use Rattle.rom.specs.declared.encoder.Written.TheVariants.{One, Two}
 use Rattle.assembler.specs.Forms.{always, forms, lead, rom_size}
-use Rattle.assembler.specs.declared.forms.Bytes.{Bytes}
-use Rattle.assembler.specs.declared.forms.Bytes.TheVariants.{Nothing, One, Two}
 use Rattle.assembler.specs.declared.forms.Shape.{Shape}
 use Rattle.assembler.specs.declared.forms.Shape.TheVariants.{Empty, Plain, Halt, Within, Nibble, Pair, Byte, Branch, Address}
 
@@ -97,10 +97,10 @@ low_bytes (b ∷ bs) = (b % 256) ∷ low_bytes bs
 abbrev pub reaches_in : ℕ → ℕ → ℕ → Bool
 reaches_in s moved v = pick (eqb s 7) (eqb (v / 2048) (moved / 2048)) true
 
-abbrev pub listed : Bytes → List ℕ
-listed Nothing = []
-listed (One a) = a ∷ []
-listed (Two a b) = a ∷ b ∷ []
+abbrev pub listed : Option Written → List ℕ
+listed None = []
+listed (Some (One a)) = a ∷ []
+listed (Some (Two a b)) = a ∷ b ∷ []
 
 -- the number of a fixed word, a comma or a bracket
 abbrev pub leading : Kind → Option ℕ
@@ -110,9 +110,9 @@ leading Number = None
 leading (Fixed k) = Some (128 + k)
 leading (Sign c) = pick (eqb c 44 || eqb c 91 || eqb c 93) (Some c) None
 
--- bytes at an address that are not past the end and not written; flags of 1 say which are
-abbrev pub is_free : List ℕ → ℕ → ℕ → Bool
-is_free used at size = leb (at + size) rom_size && list_all (λ u. eqb u 0) (take size (drop at used))
+-- bytes at an address that are not past the end and not written; flags say which are
+abbrev pub is_free : List Bool → ℕ → ℕ → Bool
+is_free used at size = leb (at + size) rom_size && list_all (λ u. not u) (take size (drop at used))
 
 -- a value outside a field, or a branch that does not fit, by shape
 abbrev pub is_misfit : ℕ → ℕ → ℕ → ℕ → ℕ → Bool

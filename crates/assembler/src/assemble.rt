@@ -1,5 +1,5 @@
 // The whole of it: text to the 4,096 bytes of a mask.
-ghost use Rattle.std.specs.Prelude.{◌≡◌, ◌≤◌, length, replicate};
+ghost use Rattle.std.specs.Prelude.{◌≡◌, false, ◌≤◌, length, replicate};
 ghost use Rattle.assembler.specs.Forms.{rom_size};
 ghost use Rattle.assembler.specs.Program.{Answered, answer_to, answered, end, first, line_of, mislabelled, program, start};
 ghost use Rattle.assembler.specs.Passing.{Placed, Resolved, Settled};
@@ -11,15 +11,16 @@ use operand::labels::Labels;
 use refusals::Refusal;
 use rom::reader::MASK;
 
-// The labels are checked, and given their addresses.
+// The labels are checked, and given their addresses. No struct has what is settled, and then placed, for its invariant: the tables are
+// lent, and a pass between both still writes the addresses.
 fn resolved(
     text: &[u8],
     starts: &[u16],
     addresses: &mut [u16],
-    used: &mut [u8],
+    used: &mut [bool],
 ) -> Result<(), Refused>
     requires settled { Settled text.now starts.now addresses.old (length starts.now) }
-    requires unused { used.old ≡ replicate rom_size 0 }
+    requires unused { used.old ≡ replicate rom_size false }
     ensures found { Resolved (program text.now) result }
     ensures placed { line_of result ≡ 0 → Placed text.now starts.now addresses.new (length starts.now) }
 {
@@ -50,11 +51,11 @@ fn judged(
     text: &[u8],
     starts: &mut [u16],
     addresses: &mut [u16],
-    used: &mut [u8],
+    used: &mut [bool],
     out: &mut [u8],
 ) -> Result<(), Refused>
     requires sizes { (length text.now ≤ 65535) × (length out.old ≡ rom_size) }
-    requires tables { (length starts.old ≡ 32768) × (length addresses.old ≡ 32768) × (used.old ≡ replicate rom_size 0) }
+    requires tables { (length starts.old ≡ 32768) × (length addresses.old ≡ 32768) × (used.old ≡ replicate rom_size false) }
     ensures { Answered (answer_to (program text.now)) out.old result out.new }
 {
     let count = read_lines(text, starts)?;
@@ -86,6 +87,6 @@ pub fn assemble(text: &[u8], out: &mut [u8]) -> Result<(), Refused>
     // a label and its colon take two characters at least, so a text has no more than these
     let mut starts = [0u16; 32768];
     let mut addresses = [0u16; 32768];
-    let mut used = [0u8; PLACES];
+    let mut used = [false; PLACES];
     judged(text, &mut starts, &mut addresses, &mut used, out)
 }

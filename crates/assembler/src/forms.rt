@@ -5,6 +5,8 @@ ghost use Rattle.std.specs.List.{position_from};
 ghost use Rattle.operand.specs.Read.{place_of};
 ghost use Rattle.assembler.specs.Shapes.{bytes_in, digits_in, firsts, form_keys, form_number, listed, low_bytes, shape_number, shapes, size_in};
 
+use rom::encoder::Written;
+
 // No enum beside the other forms: one search over one list finds any of them, and their definition (`form_at`) counts ORG as 0.
 pub const ORG: usize = 0;
 
@@ -31,7 +33,8 @@ pub enum Shape {
     Address,
 }
 
-// What tells a form, the kinds of its words and signs in a row; its first byte where its operand is 0; and how its bytes hold that operand.
+// What tells a form, the kinds of its words and signs in a row; its first byte where its operand is 0; and how its bytes hold that operand. The kinds
+// are the bytes of a number and no slice: a line's make one as they are read, without a table for them, and one comparison tells a form.
 #[derive(Clone, Copy)]
 struct Form {
     key: u64,
@@ -214,20 +217,7 @@ pub(crate) fn values_of(digits: u8) -> u64
     requires { digits < 4 }
     ensures { result ≡ 16 ^ digits }
 {
-    match digits {
-        0 => 1,
-        1 => 16,
-        2 => 256,
-        _ => 4096,
-    }
-}
-
-// The bytes of a line.
-#[derive(Clone, Copy)]
-pub enum Bytes {
-    Nothing,
-    One(u8),
-    Two(u8, u8),
+    16u64.pow(u32::from(digits))
 }
 
 // The low byte of a number.
@@ -238,19 +228,19 @@ fn byte(x: u32) -> u8
 }
 
 // The bytes of a form and its operand's value, by the form's shape and first byte.
-pub(crate) fn bytes_of(shape: Shape, first: u8, value: u16) -> Bytes
+pub(crate) fn bytes_of(shape: Shape, first: u8, value: u16) -> Option<Written>
     ensures { (listed result ≡ low_bytes (bytes_in (shape_number shape) first value)) × (length (listed result) ≡ size_in (shape_number shape)) }
 {
     let a = first as u32;
     let v = value as u32;
     match shape {
-        Shape::Empty => Bytes::Nothing,
-        Shape::Plain => Bytes::One(first),
-        Shape::Halt => Bytes::Two(first, 0x3e),
-        Shape::Within => Bytes::One(byte(a + v)),
-        Shape::Nibble | Shape::Byte => Bytes::Two(first, byte(v)),
-        Shape::Pair => Bytes::Two(byte(a + v % 16), byte(v / 16)),
-        Shape::Branch => Bytes::Two(byte(a + v % 2048 / 256), byte(v % 2048 % 256)),
-        Shape::Address => Bytes::Two(byte(a + v / 256), byte(v % 256)),
+        Shape::Empty => None,
+        Shape::Plain => Some(Written::One(first)),
+        Shape::Halt => Some(Written::Two(first, 0x3e)),
+        Shape::Within => Some(Written::One(byte(a + v))),
+        Shape::Nibble | Shape::Byte => Some(Written::Two(first, byte(v))),
+        Shape::Pair => Some(Written::Two(byte(a + v % 16), byte(v / 16))),
+        Shape::Branch => Some(Written::Two(byte(a + v % 2048 / 256), byte(v % 2048 % 256))),
+        Shape::Address => Some(Written::Two(byte(a + v / 256), byte(v % 256))),
     }
 }

@@ -74,10 +74,10 @@ fn leading(kind: Kind) -> Option<u64>
     }
 }
 
-// The tokens before an operand as one number, and what follows them.
+// The tokens before an operand as one number, if they are few enough for a form, and what follows them.
 #[derive(Clone, Copy)]
 struct Head {
-    key: u64,
+    key: Option<u64>,
     next: usize,
 }
 
@@ -92,10 +92,13 @@ fn heading(text: &[u8], at: usize) -> Head
     loop {
         let t = token(text, i);
         let Some(number) = leading(t.kind) else {
-            return Head { key, next: i };
+            return Head {
+                key: Some(key),
+                next: i,
+            };
         };
         if count == LONGEST {
-            return Head { key: 0, next: i };
+            return Head { key: None, next: i };
         }
         key = number + 256 * key;
         count += 1;
@@ -170,5 +173,6 @@ pub(crate) fn read_line(labels: Labels, above: &[u16], at: usize) -> Option<Line
     }
     let name = labelling(labels.text, at);
     let head = heading(labels.text, name.next);
-    body(labels, above, name.start, form_of(head.key), head.next)
+    let form = head.key.and_then(form_of);
+    body(labels, above, name.start, form, head.next)
 }

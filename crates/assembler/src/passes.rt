@@ -11,9 +11,7 @@ ghost use Rattle.std.proofs.lemmas.List.Edits.{sets};
 ghost use Rattle.assembler.specs.Passing.{Collected, Placed, Refuses, Settled};
 ghost use Rattle.refusals.specs.declared.Refusal.TheVariants as R;
 
-use crate::forms::{
-    Bytes, ORG, Shape, bytes_of, digits_of, first_of, shape_of, size_of, values_of,
-};
+use crate::forms::{ORG, Shape, bytes_of, digits_of, first_of, shape_of, size_of, values_of};
 use crate::lines::{Line, read_line};
 use crate::places::Places;
 use crate::refused::Refused;
@@ -21,6 +19,7 @@ use operand::characters::word;
 use operand::labels::{Labels, find};
 use operand::operands::Value;
 use refusals::Refusal;
+use rom::encoder::Written;
 use rom::reader::{MASK, moved_by};
 
 const LAST_ADDRESS: u64 = MASK as u64 - 1;
@@ -40,14 +39,14 @@ fn note(list: &mut [u16], count: usize, value: Option<usize>) -> usize
 }
 
 // Stores a line's bytes from its address on.
-fn store(out: &mut [u8], at: usize, bytes: Bytes)
+fn store(out: &mut [u8], at: usize, bytes: Option<Written>)
     requires { at + length (listed bytes) ≤ length out.old }
     ensures { out.new ≡ sets out.old at (listed bytes) }
 {
     match bytes {
-        Bytes::Nothing => {}
-        Bytes::One(byte) => out[at] = byte,
-        Bytes::Two(first, second) => {
+        None => {}
+        Some(Written::One(byte)) => out[at] = byte,
+        Some(Written::Two(first, second)) => {
             out[at] = first;
             out[at + 1] = second;
         }
@@ -95,7 +94,8 @@ fn mislabels(text: &[u8], above: &[u16], l: Line) -> bool
     l.value.missing || defined(text, above, l.label)
 }
 
-// No label is missing, not above its ORG or defined again. No address is known yet: only what is missing is looked at.
+// No label is missing, not above its ORG or defined again. No address is known yet: only what is missing is looked at. An iterator of read lines, for
+// this pass and the last two, is no plainer: it must count the labels above with each line, of which `defined` and the proofs' `Walk` speak.
 pub(crate) fn check_labels(labels: Labels) -> Result<(), Refused>
     requires { Settled labels.text.now labels.starts.now labels.addresses.now (length labels.starts.now) }
     ensures line { line_of result ≡ first (mislabelled (end start (program labels.entry.text.now)).names) start 1 (program labels.entry.text.now) }
@@ -148,14 +148,14 @@ fn address_of(form: Option<usize>, value: Value, address: usize) -> usize
     }
 }
 
-fn is_clear(places: &[u8]) -> bool
-    ensures { result ≡ list_all (λ p. eqb p 0) places.now }
+fn is_clear(places: &[bool]) -> bool
+    ensures { result ≡ list_all (λ p. not p) places.now }
 {
-    places.iter().all(|p| *p == 0)
+    places.iter().all(|p| !*p)
 }
 
 // Whether a line's bytes have a place.
-fn free(used: &[u8], at: usize, size: usize) -> bool
+fn free(used: &[bool], at: usize, size: usize) -> bool
     requires { (length used.now ≡ rom_size) × (at ≤ rom_size) × (size ≤ 2) }
     ensures { result ≡ is_free used.now at size }
 {
@@ -166,11 +166,11 @@ fn free(used: &[u8], at: usize, size: usize) -> bool
 }
 
 // Notes that the bytes of a line are written.
-fn mark(used: &mut [u8], at: usize, size: usize)
+fn mark(used: &mut [bool], at: usize, size: usize)
     requires { at + size ≤ length used.old }
-    ensures { used.new ≡ sets used.old at (replicate size 1) }
+    ensures { used.new ≡ sets used.old at (replicate size true) }
 {
-    used[at..at + size].fill(1);
+    used[at..at + size].fill(true);
 }
 
 // Gives each line its place, and each label its address.
@@ -179,10 +179,10 @@ pub(crate) fn place_lines(
     text: &[u8],
     starts: &[u16],
     addresses: &mut [u16],
-    used: &mut [u8],
+    used: &mut [bool],
 ) -> Result<(), Refused>
     requires settled { Settled text.now starts.now addresses.old (length starts.now) }
-    requires unused { used.old ≡ replicate rom_size 0 }
+    requires unused { used.old ≡ replicate rom_size false }
     ensures line { line_of result ≡ first misplaced start 1 (program text.now) }
     ensures placed { line_of result ≡ 0 → Placed text.now starts.now addresses.new (length starts.now) }
     ensures refusal { Refuses R.Operand result }

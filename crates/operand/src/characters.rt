@@ -4,8 +4,8 @@ ghost use Rattle.std.specs.List.{take_while};
 ghost use Rattle.operand.specs.Text.{in_word};
 ghost use Rattle.operand.specs.Read.{past_spaces, word_at};
 
-#[tactic(auto, unfolding(crate::specs::Text::in_word))]
 // Letters and digits.
+#[tactic(auto, unfolding(crate::specs::Text::in_word))]
 pub(crate) fn in_word(c: u8) -> bool
     ensures { result ≡ in_word c }
 {
@@ -26,8 +26,8 @@ fn word_length(text: &[u8]) -> usize
     text.iter().take_while(|c| in_word(**c)).count()
 }
 
-#[tactic(auto, using(crate::proofs::Scans::take_run))]
 // The word that starts here.
+#[tactic(auto, using(crate::proofs::Scans::take_run))]
 pub fn word(text: &[u8], at: usize) -> &[u8]
     ensures { result.now ≡ word_at text.now at }
 {
@@ -42,8 +42,8 @@ fn spaces(text: &[u8]) -> usize
     text.iter().take_while(|c| **c == b' ').count()
 }
 
-#[tactic(auto, using(crate::proofs::Scans::spaces_are))]
 // Past the spaces that stand here.
+#[tactic(auto, using(crate::proofs::Scans::spaces_are))]
 pub(crate) fn skip(text: &[u8], at: usize) -> usize
     ensures { result ≡ past_spaces text.now at }
 {

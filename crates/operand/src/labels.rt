@@ -6,8 +6,8 @@ ghost use Rattle.operand.specs.Read.{address_in, names_of, word_at};
 
 use crate::characters::word;
 
-// Labels that may be looked up; one past the end of `addresses` has 0. No invariant bounds the text: `operand`, which docs/DECISIONS.md names, takes
-// any, and gives None for one that is too long.
+// Labels that may be looked up; one past the end of `addresses` has 0. No slice of pairs: a pass writes the addresses while it reads the
+// starts. No invariant bounds the text: `operand`, which docs/DECISIONS.md names, takes any, and gives None for one that is too long.
 #[derive(Clone, Copy)]
 pub struct Labels<'a> {
     pub text: &'a [u8],

@@ -35,8 +35,8 @@ fn digits(word: &[u8], base: u16) -> Option<u16>
     Some(value)
 }
 
-#[tactic(auto, using(crate::proofs::Digits::ends_in, crate::proofs::Digits::hexadecimal, crate::proofs::Digits::decimal))]
 // The value of a word that starts with a digit.
+#[tactic(auto, using(crate::proofs::Digits::ends_in, crate::proofs::Digits::hexadecimal, crate::proofs::Digits::decimal))]
 pub(crate) fn number(word: &[u8]) -> Option<u16>
     requires { is_digit (first word.now) ≡ true }
     ensures { result ≡ given (number_of word.now) }

@@ -15,7 +15,8 @@ const DEEPEST: u8 = 16;
 // The bytes of the longest text that is assembled: what an operand counts in one is far below a u64's end.
 const LONGEST: usize = 65535;
 
-// What an operand counts: what is added and what is taken away, and whether one of its labels is missing.
+// What an operand counts: what is added and what is taken away, and whether one of its labels is missing. A flag and no Option of the numbers:
+// `operand` promises them (`valued`) also where a label is missing, which counts 0.
 #[derive(Clone, Copy)]
 pub struct Value {
     pub missing: bool,

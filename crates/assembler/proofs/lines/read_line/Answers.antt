@@ -5,7 +5,7 @@ use Rattle.operand.specs.declared.tokens.Kind.TheVariants.{End}
 use Rattle.operand.proofs.Lexing.{lexed}
 use Rattle.assembler.specs.Statement.{Statement}
 use Rattle.assembler.specs.Read.{Shows, bodied, empty, label_at, parts}
-use Rattle.assembler.proofs.Lining.{blank-line, line-body, not-nothing}
+use Rattle.assembler.proofs.Lining.{blank-line, line-body, not-nothing, number-is}
 use Rattle.assembler.proofs.lines.read_line.Goals as goal
 
 pub returns-in-End : goal.returns-in-End
@@ -18,6 +18,6 @@ returns c =
     let e = line-body c.args.labels.text.now (tokens_at c.args.labels.text.now c.args.at) c.labelling-name.result c.heading-head.result
     (not-nothing (lexed c.args.labels.text.now _ c.requires.0 c.token.ensures).next other) c.labelling-name.ensures c.heading-head.ensures
     ∙ ap (λ (n : ℕ). bodied n (label_at c.args.labels.text.now c.labelling-name.result.start)
-    (tokens_at c.args.labels.text.now c.heading-head.result.next)) (sym c.form_of.ensures.number) in
+    (tokens_at c.args.labels.text.now c.heading-head.result.next)) (sym (number-is c.and_then-form.result c.heading-head.result.key c.and_then-form.ensures)) in
     subst (λ (st : Statement). Shows c.args.labels.text.now (names_of c.args.labels.text.now c.args.above.now)
     (names_of c.args.labels.text.now c.args.labels.starts.now) c.args.labels.addresses.now st (parts c.body.result)) (sym e) c.body.ensures

@@ -1,6 +1,7 @@
 -- `assembler::passes::mark` meets its contract. Assumes nothing.
 use Prim.Native.Nat.{ℕ, ◌+◌, ◌-◌}
 use mathlib.Core.Path.{◌≡◌, sym, ap, ap₂, ◌∙◌}
+use mathlib.Core.Bool.{Bool, true}
 use mathlib.Core.List.{List, ◌++◌, append_assoc}
 use native.Mathlib.Omega.{arith}
 use borrow.Rule.Slice.PartMut.{Post-is, mid_len, mid_of}
@@ -13,8 +14,8 @@ returns c =
     let used = c.args.used.now in
     let at = c.args.at in
     let end = at + c.args.size in
-    let n = length-replicate {A = ℕ} c.args.size 1 in
+    let n = length-replicate {A = Bool} c.args.size true in
     let m : length (mid_of at (end - at) used) ≡ c.args.size = mid_len at end used c.requires ∙ omega arith in
-    let f = c.fill.ensures.after (λ y h. h) ∙ ap (λ (k : ℕ). replicate k 1) m in
-    ap₂ (λ (ys rest : List ℕ). take at used ++ (ys ++ rest)) f (Post-is at end used (omega arith) ∙ ap (λ (k : ℕ). drop (at + k) used) (sym n))
-    ∙ sym (append_assoc (take at used) _ _) ∙ sym (sets-eq (replicate c.args.size 1) used at (omega (arith, n, c.requires)))
+    let f = c.fill.ensures.after (λ y h. h) ∙ ap (λ (k : ℕ). replicate k true) m in
+    ap₂ (λ (ys rest : List Bool). take at used ++ (ys ++ rest)) f (Post-is at end used (omega arith) ∙ ap (λ (k : ℕ). drop (at + k) used) (sym n))
+    ∙ sym (append_assoc (take at used) _ _) ∙ sym (sets-eq (replicate c.args.size true) used at (omega (arith, n, c.requires)))
