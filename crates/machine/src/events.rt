@@ -7,13 +7,13 @@ ghost use Rattle.machine.specs.declared.Trace.{Trace};
 ghost use Rattle.machine.specs.Events.{applied, clocked, counting, event_of, fallen, happened, interrupted, mask_ok, named_answer, pinned, refusal_of, stepping, values_ok, wakes, woken};
 
 use crate::power::reset_cpu;
-use crate::ranges::sound;
+use crate::ranges::{check_sound, sound};
 use crate::{Answer, Machine};
 use cpu::Cpu;
 use datapath::memory::MEMORY;
 use datapath::timer::advance;
 use refusals::Refusal;
-use rom::reader::mask_ok;
+use rom::reader::check_mask;
 
 // Kinds 2 to 6 of document 01's records.
 #[derive(Clone, Copy)]
@@ -133,13 +133,8 @@ pub fn values_ok(event: Event) -> bool
 fn check_run(cpu: Cpu, memory: &[u8; MEMORY], mask: &[u8]) -> Result<(), Refusal>
     ensures { (n : ℕ) (trace : Trace) → number_given result ≡ refusal_of mask.now (Event.Run n) (machine_of (state cpu memory.now) trace) }
 {
-    if !mask_ok(mask) {
-        return Err(Refusal::Mask);
-    }
-    if !sound(cpu, memory) {
-        return Err(Refusal::Range);
-    }
-    Ok(())
+    check_mask(mask)?;
+    check_sound(cpu, memory)
 }
 
 // The refusal of an event whose mask is as it should be: Run alone has one.
@@ -150,10 +145,7 @@ fn check_event(cpu: Cpu, memory: &[u8; MEMORY], event: Event) -> Result<(), Refu
     if !values_ok(event) {
         return Err(Refusal::Value);
     }
-    if !sound(cpu, memory) {
-        return Err(Refusal::Range);
-    }
-    Ok(())
+    check_sound(cpu, memory)
 }
 
 // What pins, INT and TMCLK make of the processor, all that they change. An arm for RES here would cost each step of a Run two instructions
@@ -196,10 +188,7 @@ impl Machine {
         ensures { result ≡ applied mask.now (Event.Run n) self }
     {
         if let Err(judged) = check_run(self.cpu, &self.memory, mask) {
-            return Answer {
-                refusal: u8::from(judged),
-                machine: self,
-            };
+            return Answer::refused(self, judged);
         }
         let mut trace = self.trace;
         let cpu = self.cpu.run(mask, &mut self.memory, n, &mut trace.gap);
@@ -215,17 +204,11 @@ impl Machine {
         ensures { (mask : List ℕ) → ((n : ℕ) → event ≡ Event.Run n → ⊥) → (event ≡ Event.Res → ⊥) → result ≡ applied mask event self }
     {
         if let Err(refusal) = check_event(self.cpu, &self.memory, event) {
-            return Answer {
-                refusal: u8::from(refusal),
-                machine: self,
-            };
+            return Answer::refused(self, refusal);
         }
         let next = changed(self.cpu, event);
         self.cpu = next;
-        Answer {
-            refusal: 0,
-            machine: self,
-        }
+        Answer::done(self)
     }
 
     // An event. A refused one leaves the machine as it was.
@@ -245,15 +228,9 @@ impl Machine {
         ensures { result ≡ named_answer [] None self }
     {
         if sound(self.cpu, &self.memory) {
-            return Answer {
-                refusal: 7,
-                machine: self,
-            };
+            return Answer::refused(self, Refusal::Kind);
         }
-        Answer {
-            refusal: 5,
-            machine: self,
-        }
+        Answer::refused(self, Refusal::Range)
     }
 
     // What a kind names: its event, or the refusal of an unknown kind.
@@ -272,18 +249,12 @@ impl Machine {
         ensures { result ≡ stepping mask.now self }
     {
         if let Err(refusal) = check_run(self.cpu, &self.memory, mask) {
-            return Answer {
-                refusal: u8::from(refusal),
-                machine: self,
-            };
+            return Answer::refused(self, refusal);
         }
         let mut trace = self.trace;
         let next = self.cpu.step(mask, &mut self.memory, &mut trace.gap);
         self.cpu = next;
         self.trace = trace;
-        Answer {
-            refusal: 0,
-            machine: self,
-        }
+        Answer::done(self)
     }
 }

@@ -3,7 +3,7 @@ ghost use Rattle.std.specs.Prelude.{◌≡◌};
 ghost use Rattle.machine.specs.Gap.{gap_count};
 
 use crate::Machine;
-use crate::ranges::sound;
+use crate::ranges::check_sound;
 use refusals::Refusal;
 
 impl Machine {
@@ -11,9 +11,7 @@ impl Machine {
     pub fn gap_count(self) -> Result<u16, Refusal>
         ensures { result ≡ gap_count self }
     {
-        if sound(self.cpu, &self.memory) {
-            return Ok(self.trace.gap);
-        }
-        Err(Refusal::Range)
+        check_sound(self.cpu, &self.memory)?;
+        Ok(self.trace.gap)
     }
 }

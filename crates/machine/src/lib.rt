@@ -1,6 +1,9 @@
 // The machine: processor, data memory and trace by value, power-on, Run and the other events, display, report and the count's query.
 #![tactic(auto)]
 
+ghost use Rattle.std.specs.Prelude.{◌≡◌};
+ghost use Rattle.refusals.specs.Numbers.{number_of};
+
 pub mod events;
 pub mod gap;
 pub mod power;
@@ -9,6 +12,7 @@ pub mod report;
 
 use cpu::Cpu;
 use datapath::memory::MEMORY;
+use refusals::Refusal;
 
 // What running leaves behind, which decides nothing else. `gap` counts the accesses to 80h-DFh since the last power-on, and stops at 65,535.
 #[repr(C)]
@@ -33,4 +37,25 @@ pub struct Machine {
 pub struct Answer {
     pub machine: Machine,
     pub refusal: u8,
+}
+
+impl Answer {
+    // A refused machine is as it was.
+    pub(crate) fn refused(machine: Machine, refusal: Refusal) -> Answer
+        ensures { result ≡ record { machine = machine; refusal = number_of refusal } }
+    {
+        Answer {
+            machine,
+            refusal: u8::from(refusal),
+        }
+    }
+
+    pub(crate) fn done(machine: Machine) -> Answer
+        ensures { result ≡ record { machine = machine; refusal = 0 } }
+    {
+        Answer {
+            machine,
+            refusal: 0,
+        }
+    }
 }

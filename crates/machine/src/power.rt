@@ -163,18 +163,12 @@ impl Machine {
         ensures { result ≡ power_on options image.now self }
     {
         if let Err(refusal) = check_power(options, image) {
-            return Answer {
-                refusal: u8::from(refusal),
-                machine: self,
-            };
+            return Answer::refused(self, refusal);
         }
         let next = powered(options, image, &mut self.memory);
         self.cpu = next;
         self.trace = no_trace();
-        Answer {
-            refusal: 0,
-            machine: self,
-        }
+        Answer::done(self)
     }
 
     // RES. A refused one leaves the machine as it was.
@@ -185,14 +179,8 @@ impl Machine {
         if sound(self.cpu, &self.memory) {
             let next = reset_cpu(self.cpu);
             self.cpu = next;
-            return Answer {
-                refusal: 0,
-                machine: self,
-            };
+            return Answer::done(self);
         }
-        Answer {
-            refusal: 5,
-            machine: self,
-        }
+        Answer::refused(self, Refusal::Range)
     }
 }

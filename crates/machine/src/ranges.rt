@@ -1,12 +1,15 @@
 // Whether each field is in its range: refusals 3, 4 and 5.
-ghost use Rattle.std.specs.Prelude.{◌≡◌, not, ◌&&◌, ◌||◌, eqb, ltb};
+ghost use Rattle.std.specs.Prelude.{◌≡◌, Ok, Err, not, ◌&&◌, ◌||◌, eqb, ltb};
 ghost use Rattle.isa.specs.Code.{addresses};
 ghost use Rattle.cpu.specs.Range.{bit, cpu_ok, nibble, nibbles, options_ok, registers_ok, valid};
 ghost use Rattle.cpu.specs.State.{state};
+ghost use Rattle.isa.specs.Choice.{pick};
+ghost use Rattle.refusals.specs.declared.Refusal.TheVariants.{Range};
 
 use cpu::{Cpu, Options};
 use datapath::memory::MEMORY;
 use isa::ADDRESSES;
+use refusals::Refusal;
 
 // The larger of two numbers: a nibble where both are.
 fn larger(a: u8, b: u8) -> u8
@@ -126,9 +129,6 @@ fn others_ok(c: Cpu) -> bool
 fn cpu_ok(c: Cpu) -> bool
     ensures { result ≡ cpu_ok c }
 {
-    // read, so that they are known to be in the range of their types
-    let _count = c.timer.count;
-    let _cycles = c.cycles;
     nibbles_ok(c) && flags_ok(c) && addresses_ok(c.control.pc.0, c.stack.address.0) && others_ok(c)
 }
 
@@ -138,4 +138,14 @@ pub(crate) fn sound(cpu: Cpu, memory: &[u8; MEMORY]) -> bool
     ensures { result ≡ valid (state cpu memory.now) }
 {
     cpu_ok(cpu) && all_nibbles(memory)
+}
+
+// The same test as a refusal, for a function that refuses.
+pub(crate) fn check_sound(cpu: Cpu, memory: &[u8; MEMORY]) -> Result<(), Refusal>
+    ensures { result ≡ pick (valid (state cpu memory.now)) (Ok tt) (Err Range) }
+{
+    if sound(cpu, memory) {
+        return Ok(());
+    }
+    Err(Refusal::Range)
 }

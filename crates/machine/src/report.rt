@@ -9,7 +9,7 @@ ghost use Rattle.machine.specs.declared.Trace.{Trace};
 ghost use Rattle.machine.specs.Report.{heading, places, report, reported, reporting, shown};
 
 use crate::Machine;
-use crate::ranges::sound;
+use crate::ranges::check_sound;
 use cpu::Cpu;
 use datapath::memory::{MEMORY, load};
 use isa::DataAddress;
@@ -62,15 +62,14 @@ fn put_heading(cpu: Cpu, out: &mut [u8])
     out[..16].copy_from_slice(&heading(cpu));
 }
 
-// Writes the 32 display nibbles after them: nibble `s` is the one at E0h + s. What shows is the same bits of each, so the loop takes many at once.
+// Writes the 32 display nibbles after them: nibble `s` is the one at E0h + s. What shows is the same bits of each: no test in the loop.
 fn put_display(cpu: Cpu, memory: &[u8; MEMORY], out: &mut [u8])
     requires { length out.old ≡ 48 }
     ensures { out.new ≡ take 16 out.old ++ places 32 (shown cpu memory.now) 0 }
 {
     let lit = lit(cpu);
-    for k in 16..48u8 {
-        let x = load(memory, DataAddress(0xd0 + k));
-        out[k as usize] = x.nibble & lit;
+    for (s, byte) in out[16..].iter_mut().enumerate() {
+        *byte = load(memory, DataAddress(0xe0 + s as u8)).nibble & lit;
     }
 }
 
@@ -86,15 +85,14 @@ pub fn write_report(cpu: Cpu, memory: &[u8; MEMORY], out: &mut [u8])
 
 impl Machine {
     // Writes the report of the machine, or refuses the buffer's length or the machine: then nothing is written.
+    #[tactic(auto, unfolding(crate::specs::Report::report))]
     pub fn report(self, out: &mut [u8]) -> Result<(), Refusal>
         ensures { reporting (refusal_of result) out.new ≡ report self out.old }
     {
         if out.len() != 48 {
             return Err(Refusal::Buffer);
         }
-        if !sound(self.cpu, &self.memory) {
-            return Err(Refusal::Range);
-        }
+        check_sound(self.cpu, &self.memory)?;
         write_report(self.cpu, &self.memory, out);
         Ok(())
     }

@@ -12,6 +12,7 @@ ghost use Rattle.player.specs.Shown.{SightLine, report_line};
 use glass::Unseen;
 use machine::Machine;
 use machine_glass::sight_of;
+use records::Records;
 use script::Refused;
 use script::apply::step_record;
 use script::check::check_script;
@@ -61,22 +62,20 @@ impl Show for Readings {
     }
 }
 
-// Record by record, each as long as it says. A script that was checked has no record that is refused.
+// A script that was checked has no record that is refused.
 fn put_records<W: Write, S: Show>(
     out: &mut W,
     mask: &[u8],
     script: &[u8],
     shown: &S,
 ) -> io::Result<()> {
-    let mut at = 0;
     let mut machine = Machine::blank();
-    while at < script.len() {
-        let step = step_record(mask, script, at, machine);
+    for record in Records::new(script) {
+        let step = step_record(mask, script, record.at, machine);
         if step.refusal != 0 {
             return Ok(());
         }
         machine = step.machine;
-        at = step.at;
         shown.show(out, machine)?;
     }
     Ok(())

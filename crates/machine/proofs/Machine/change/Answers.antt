@@ -1,6 +1,6 @@
 -- `machine::Machine::change` meets its contract: the refusal and the processor are the definitions'. Assumes nothing.
 use Prim.Native.Nat.{ℕ}
-use mathlib.Core.Path.{◌≡◌, refl}
+use mathlib.Core.Path.{◌≡◌, refl, ◌∙◌}
 use mathlib.Core.Bool.{true}
 use mathlib.Core.List.{List}
 use Rattle.machine.specs.Events.{applied, happened, mask_ok, refusal_of}
@@ -21,9 +21,9 @@ unmasked mask Res quiet = refl
 pub returns-in-Err : goal.returns-in-Err
 unfolding applied
 returns-in-Err c mask no_run no-res =
-    refused c.in-Err.refusal {k = refusal_of mask c.args.event c.args.self} (happened mask c.args.event c.args.self) c.args.self c.from.ensures (c.in-Err.ensures mask c.args.self.trace (unmasked mask c.args.event no_run))
+    c.refused.ensures ∙ refused c.in-Err.refusal {k = refusal_of mask c.args.event c.args.self} (happened mask c.args.event c.args.self) c.args.self refl (c.in-Err.ensures mask c.args.self.trace (unmasked mask c.args.event no_run))
 
 pub returns : goal.returns
 unfolding applied
 returns c mask no_run no-res =
-    done {k = refusal_of mask c.args.event c.args.self} (happened mask c.args.event c.args.self) c.args.self (c.in_default.ensures mask c.args.self.trace (unmasked mask c.args.event no_run)) (c.changed-next.ensures mask c.args.self.memory c.args.self.trace no_run no-res)
+    c.done.ensures ∙ done {k = refusal_of mask c.args.event c.args.self} (happened mask c.args.event c.args.self) c.args.self (c.in_default.ensures mask c.args.self.trace (unmasked mask c.args.event no_run)) (c.changed-next.ensures mask c.args.self.memory c.args.self.trace no_run no-res)
