@@ -22,18 +22,24 @@ fn pack(fetched: Fetched) -> u64
     ensures { result ≡ packed_named (numbers_of fetched.instruction) fetched.length fetched.cycles }
 {
     let numbers = numbers_of(fetched.instruction);
-    0x1_0000 * numbers.form as u64
-        + 0x100_0000 * numbers.a as u64
-        + 0x1_0000_0000 * numbers.b as u64
-        + 0x1_0000_0000_0000 * fetched.length as u64
-        + 0x100_0000_0000_0000 * fetched.cycles as u64
+    let [low, high] = numbers.b.to_le_bytes();
+    u64::from_le_bytes([
+        0, // no refusal
+        0, // no fault
+        numbers.form,
+        numbers.a,
+        low,
+        high,
+        fetched.length,
+        fetched.cycles,
+    ])
 }
 
 // What was written, lowest byte first: no refusal, how many bytes, the first and the second.
 fn pack_bytes(count: u8, first: u8, second: u8) -> u64
     ensures { result ≡ packed_bytes 0 count first second }
 {
-    0x100 * count as u64 + 0x1_0000 * first as u64 + 0x100_0000 * second as u64
+    u64::from_le_bytes([0, count, first, second, 0, 0, 0, 0])
 }
 
 // The instruction at an address of a mask, as one number.

@@ -63,12 +63,8 @@ fn condition(a: u8) -> Option<Condition>
 fn mov_pair(a: u8, b: u16) -> Option<Instruction>
     ensures { result ≡ pair_named a b }
 {
-    if 255 < b {
-        return None;
-    }
-    let low = (b % 16) as u8;
-    let high = (b / 16) as u8;
-    Some(Instruction::MovPairXX(pointer(a)?, low, high))
+    let xx = u8::try_from(b).ok()?;
+    Some(Instruction::MovPairXX(pointer(a)?, xx % 16, xx / 16))
 }
 
 // The instruction that a form and its operands name, an operand that the form does not have not being looked at.

@@ -1,4 +1,5 @@
-// The bounds of all pairs above main, in one list by address, then level: 0 for not reached, 65,535 for no bound, else the cycles.
+// The bounds of all pairs above main, in one list by address, then level: 0 for not reached, 65,535 for no bound, else the cycles:
+// numbers, for the reason at `ENDLESS` in longest.rt.
 ghost use Rattle.std.specs.Prelude.{◌≡◌, true, length};
 ghost use Rattle.isa.specs.Choice.{pick};
 ghost use Rattle.rom.specs.Fetching.{sized};

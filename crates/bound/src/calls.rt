@@ -27,7 +27,7 @@ fn called_at(mask: &[u8], marks: &[u8; MARKS], address: u16) -> Option<u16>
     }
 }
 
-// A flag for each address, 1 where a CALL marked in main has it as its target.
+// A flag for each address, 1 where a CALL marked in main has it as its target: no `bool`, since `CallTargets` says 1.
 pub fn call_targets(mask: &[u8], marks: &[u8; MARKS]) -> [u8; PLACES]
     ensures { CallTargets mask.now marks.now result }
 {

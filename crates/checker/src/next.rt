@@ -21,7 +21,8 @@ pub enum Codes {
     Three(u16, u16, u16),
 }
 
-// The successors of a pair, or the fault of a forbidden one. Nothing stands between the tests of the length and those of the flow, which are the same.
+// The successors of a pair, or the fault of a forbidden one, a number for the reason at `Named`. Nothing stands between the tests of the length and
+// those of the flow, which are the same.
 pub(crate) fn next_codes(mask: &[u8], code: u16) -> Result<Codes, u8>
     ensures result_value { codes_in result ≡ next_codes mask.now code }
     ensures faults { Faults result (fault_at mask.now code) }

@@ -27,10 +27,10 @@ fn lower(named: Option<Named>, code: u16, fault: u8) -> Named
     }
 }
 
-// What the walk finds.
+// What the walk finds, in two arrays, since `Traced` speaks of two lists. How many are found is handed along: the way back does not need it.
 #[derive(Drop)]
 pub(crate) struct Walk {
-    // A flag for each code, 1 where chains from the start, code 0, reach its pair.
+    // A flag for each code, 1 where chains from the start, code 0, reach its pair: no `bool`, since `pack` adds flags up.
     pub(crate) seen: [u8; PAIRS],
     // The codes found, in the order in which they were found.
     pub(crate) queue: [u16; PAIRS],

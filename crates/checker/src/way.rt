@@ -19,7 +19,7 @@ fn put(list: &mut [u8], at: usize, code: u16)
     list[at..at + 3].copy_from_slice(&[low, high, (code % 3) as u8]);
 }
 
-// The way back, over the places of the queue.
+// The way back, over the places of the queue. `place < pairs`, or of `end`, keeps an index in its array; a type of places would be no plainer.
 impl Walk {
     // The first place of a code that stands in the queue.
     fn place_of(&self, code: u16) -> u16

@@ -84,8 +84,8 @@ fn put_bound<W: Write>(out: &mut W, list: &[u16], address: u16, level: u8) -> io
 }
 
 fn put_targets<W: Write>(out: &mut W, list: &[u16], targets: &[u8; PLACES]) -> io::Result<()> {
-    for address in 0..ADDRESSES {
-        if targets[address as usize] == 1 {
+    for (address, target) in (0..).zip(targets) {
+        if *target == 1 {
             put_bound(out, list, address, 1)?;
         }
     }

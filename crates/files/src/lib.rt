@@ -25,7 +25,7 @@ pub fn read_full<R: Read>(input: &mut R, buf: &mut [u8]) -> usize
 }
 
 // How many bytes of a file, at most as many as the buffer has. A missing file counts as empty, and so does a path
-// that is no text, since std opens none.
+// that is no text, since std opens none. A path stays bytes: callers may hand any, and no more may be asked of them.
 pub fn read_file<F: Files>(rt: &F, path: &[u8], buf: &mut [u8]) -> usize
     ensures { IsPrefixLen result buf.new }
 {

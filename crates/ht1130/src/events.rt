@@ -59,7 +59,10 @@ pub(crate) fn gap_number(machine: Machine) -> u64
     ensures { result ≡ gap_number (gap_count machine) }
 {
     match machine.gap_count() {
-        Ok(count) => count as u64 * 0x100000000,
+        Ok(count) => {
+            let [low, high] = count.to_le_bytes();
+            u64::from_le_bytes([0, 0, 0, 0, low, high, 0, 0])
+        }
         Err(refusal) => u64::from(u8::from(refusal)),
     }
 }

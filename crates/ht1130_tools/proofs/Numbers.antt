@@ -12,7 +12,7 @@ use Rattle.std.specs.Prelude.{Result, Ok, Err, cond, eqb}
 use Rattle.refusals.specs.Numbers.{number_of}
 use Rattle.refusals.specs.declared.Refusal.{Refusal}
 use Rattle.refusals.specs.declared.Refusal.TheVariants as R
-use Rattle.refusals.proofs.Numbers.{same_number, not_zero}
+use Rattle.refusals.proofs.Numbers.{not_zero}
 use Rattle.checker.proofs.Answer.{answers-determine}
 use Rattle.checker.proofs.Ways.{way-determines, never-too-short}
 use Rattle.bound.specs.Bounds.{BoundAnswers}

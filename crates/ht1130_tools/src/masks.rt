@@ -13,7 +13,8 @@ use refusals::Refusal;
 fn failed(fault: u8, address: u16, level: u8) -> u64
     ensures { result ≡ fault * 2 ^ 8 + level * 2 ^ 16 + address * 2 ^ 32 }
 {
-    fault as u64 * 0x100 + level as u64 * 0x10000 + address as u64 * 0x100000000
+    let [low, high] = address.to_le_bytes();
+    u64::from_le_bytes([0, fault, level, 0, low, high, 0, 0])
 }
 
 // Byte 0.
@@ -27,7 +28,8 @@ pub(crate) fn refused(refusal: Refusal) -> u64
 pub(crate) fn refused_at(refusal: Refusal, place: u32) -> u64
     ensures { result ≡ number_of refusal + place * 2 ^ 32 }
 {
-    refused(refusal) + u64::from(place) * 0x100000000
+    let [a, b, c, d] = place.to_le_bytes();
+    u64::from_le_bytes([u8::from(refusal), 0, 0, 0, a, b, c, d])
 }
 
 fn packed(answer: Result<Verdict, Refusal>) -> u64
@@ -56,7 +58,10 @@ fn counted(answer: Result<u16, Refusal>) -> u64
     ensures { result ≡ way_number answer }
 {
     match answer {
-        Ok(count) => count as u64 * 0x100000000,
+        Ok(count) => {
+            let [low, high] = count.to_le_bytes();
+            u64::from_le_bytes([0, 0, 0, 0, low, high, 0, 0])
+        }
         Err(refusal) => refused(refusal),
     }
 }
@@ -71,7 +76,8 @@ pub fn ht1130_way(mask: &[u8], list: &mut [u8]) -> u64
 fn bounded(cycles: u16) -> u64
     ensures { result ≡ 2 * 2 ^ 8 + cycles * 2 ^ 32 }
 {
-    0x200 + cycles as u64 * 0x100000000
+    let [low, high] = cycles.to_le_bytes();
+    u64::from_le_bytes([0, 2, 0, 0, low, high, 0, 0])
 }
 
 fn told(answer: Result<Bound, Refusal>) -> u64

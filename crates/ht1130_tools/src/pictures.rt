@@ -11,22 +11,12 @@ use machine::Machine;
 use machine_glass::sight_of;
 use refusals::Refusal;
 
-fn complement(value: i32) -> u64
-    ensures { result ≡ complement value }
-{
-    let size = u64::from(value.unsigned_abs());
-    if value.is_negative() {
-        0x100000000 - size
-    } else {
-        size
-    }
-}
-
 // Byte 3, and 4 to 7.
 fn number(value: i32, places: u8) -> u64
     ensures { result ≡ places * 2 ^ 24 + complement value * 2 ^ 32 }
 {
-    u64::from(places) * 0x1000000 + complement(value) * 0x100000000
+    let [a, b, c, d] = value.to_le_bytes();
+    u64::from_le_bytes([0, 0, 0, places, a, b, c, d])
 }
 
 fn reading_number(reading: Reading) -> u64

@@ -14,7 +14,7 @@ impl Text {
     }
 }
 
-// A front and what stands after it.
+// A front and what stands after it. That a line fits in 16 stands in four contracts, since each puts another count of letters behind its front.
 pub(crate) fn joined(front: &[u8], back: &[u8]) -> Text
     requires { length front.now + length back.now ≤ 16 }
     ensures { Holds result (front.now ++ back.now) }

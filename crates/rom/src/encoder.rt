@@ -22,7 +22,7 @@ fn check_field(fits: bool) -> Result<(), Refusal>
     if fits { Ok(()) } else { Err(Refusal::Value) }
 }
 
-// A register's number in bits 1 to 3.
+// A register's number in bits 1 to 3. `code < 128` stands here and twice below: each caller hands a constant, and a type would be no plainer.
 fn with_register(code: u8, n: u8) -> Result<Written, Refusal>
     requires { code < 128 }
     ensures { answer_of result ≡ fitting (ltb n 5) ((code + 2 * n) ∷ []) }
@@ -58,7 +58,7 @@ fn with_nibbles(code: u8, low: u8, high: u8) -> Result<Written, Refusal>
     Ok(Written::Two(code + low, high))
 }
 
-// An address below limit, its high part in the first byte.
+// An address below limit, its high part in the first byte: by `/` and `%`, since the high part is added to the code's bits.
 fn with_address(code: u8, limit: u16, target: ProgramAddress) -> Result<Written, Refusal>
     requires { (code < 241) × (limit ≤ addresses) }
     ensures { answer_of result ≡ fitting (ltb target.0 limit) ((code + target.0 / 256) ∷ (target.0 % 256) ∷ []) }

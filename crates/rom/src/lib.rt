@@ -1,5 +1,5 @@
-// The program ROM: an instruction written as its bytes, read at an address of a mask, and lengths and cycles by rule. It stands apart from the
-// decoder, whose proof is the longest to check.
+// The program ROM: an instruction written as its bytes, read at an address of a mask, and lengths and cycles by rule. It stands apart from isa,
+// which datapath and reach need alone.
 #![tactic(auto)]
 
 pub mod encoder;
