@@ -170,6 +170,7 @@ impl Cpu {
                 let x = rotate_right_through(self.registers.acc, self.control.cf);
                 self.take(x)
             }
+            // A port's arms stand here: as a method by its name every step takes three times the instructions (docs/PERFORMANCE.md).
             Instruction::InA(p) => match p { // IN A,PM, IN A,PS, IN A,PP
                 Port::Pm => {
                     let v = self.pins.pm;
@@ -197,6 +198,7 @@ impl Cpu {
                 self.control.pc.0 = x;
                 self
             }
+            // So do a condition's: the branch as a method costs every step as much (docs/PERFORMANCE.md).
             Instruction::Branch(t, k) => match k { // JC, JNC, JTMR, JAn, JZ A, JNZ A, JNZ Rn
                 Condition::Ja(n) => { // JAn addr
                     let pc = branch_to(bit_set(self.registers.acc, n), self.control.pc.0, t.0);

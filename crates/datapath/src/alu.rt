@@ -77,7 +77,7 @@ pub fn rotate_right_through(a: u8, carry: u8) -> Sum
     }
 }
 
-// INC.
+// INC. It and DEC are two by their names: each is one line.
 pub fn increment(a: u8) -> u8
     ensures { result ≡ incremented a }
 {

@@ -97,6 +97,7 @@ fn walk(picture: &[u8]) -> Result<Reading, Unseen>
     Ok(told(front))
 }
 
+// One line, as machine's `all_nibbles` says it of its own: neither crate stands on the other.
 fn in_range(picture: &[u8]) -> bool
     ensures { result ≡ all_nibbles picture.now }
 {

@@ -4,12 +4,11 @@ use Prim.Native.Nat.{ℕ, ◌+◌, ◌<◌, ◌≤◌}
 use native.Mathlib.Nat.{zero-add}
 use native.Mathlib.Omega.{arith}
 use mathlib.Core.Path.{◌≡◌, refl, sym, ap, ap₂, ◌∙◌}
-use mathlib.Core.Bool.{Bool, true, false}
+use mathlib.Core.Bool.{true}
 use mathlib.Core.List.{List, [], ◌++◌, map, append_assoc}
 use lib.ListN.{length, take, drop, length-append, length-drop, take-append-drop}
 use lib.Seq.{take_at, drop_at, drop-drop, length-take-le}
-use lib.Dec.{eqb}
-use borrow.Author.Tests.{eq-eqb, ne_eqb, eqb-true, eqb-false, lt-ltb, le-ltb}
+use borrow.Author.Tests.{eq-eqb, ne_eqb, lt-ltb, le-ltb}
 use Rattle.cpu.specs.Range.{valid}
 use Rattle.machine.specs.Machine.{state_of}
 use Rattle.machine.specs.Power.{blank}
@@ -19,7 +18,6 @@ use Rattle.records.specs.Records.{size_at, offsets_from}
 use Rattle.script.specs.Format.{input_at, inputs}
 use Rattle.script.specs.Check.{format_at}
 use Rattle.script.specs.Reports.{next, reports, reports_of, progress, passed, stepped}
-use Rattle.script.specs.declared.Progress.{Progress}
 use Rattle.records.proofs.Offsets.{from_end, from_next}
 
 -- the reports of the records from an offset on
@@ -51,14 +49,6 @@ module _ (mask s : List ℕ) (at : ℕ) (m : Machine) where
   pub stepped-end : length s ≤ at → stepped mask s at m ≡ progress 0 at m
   unfolding stepped
   stepped-end h = rw (le-ltb at (length s) h) refl
-
-  -- a record that is not refused is passed
-  pub stepped-on : at < length s → (stepped mask s at m).refusal ≡ 0 → (stepped mask s at m).at ≡ at + 4 + size_at s at
-  stepped-on h z = go (eqb (format_at s at) 0) (eqb-true (format_at s at) 0) (eqb-false (format_at s at) 0)
-    where
-      go : (t : Bool) → (t ≡ true → format_at s at ≡ 0) → (t ≡ false → format_at s at ≡ 0 → ⊥) → (stepped mask s at m).at ≡ at + 4 + size_at s at
-      go true f g = ap (λ (p : Progress). p.at) (stepped-in h (f refl))
-      go false f g = absurd (g refl (ap (λ (p : Progress). p.refusal) (sym (stepped-bad h (g refl))) ∙ z))
 
 -- what a query leaves where nothing is refused
 pub report-good : (m : Machine) (out : List ℕ) → length out ≡ 48 → valid (state_of m) ≡ true → report m out ≡ reporting 0 (reported m)

@@ -98,7 +98,8 @@ fn put_report(cpu: Cpu, memory: &[u8; MEMORY], out: &mut [u8], at: usize)
 }
 
 // The reports of an accepted script. The machine goes through it in parts: so no record copies it. `done` is counted by hand: the prover's borrow
-// checker does not cover records, a struct with an invariant, zipped with `chunks_exact_mut`, whose items are `&mut`.
+// checker does not cover records, a struct with an invariant, zipped with `chunks_exact_mut`, whose items are `&mut`; and
+// `enumerate` would have the loop carry a second invariant, that the records left do not overflow its count, which `done` has from the buffer.
 fn put_reports(mask: &[u8], script: &[u8], out: &mut [u8])
     requires { (checked mask.now script.now (length out.old)).number ≡ 0 }
     ensures { out.new ≡ fronted (reports_of mask.now script.now) out.old }

@@ -73,8 +73,8 @@ fn starts(script: &[u8]) -> bool
     }
 }
 
-#[tactic(auto, using(crate::proofs::Checks::stopped, crate::proofs::Checks::thens, records::proofs::Offsets::few), unfolding(crate::specs::Check::checked))]
 // The check: `room` is the length of the report buffer.
+#[tactic(auto, using(crate::proofs::Checks::stopped, crate::proofs::Checks::thens, records::proofs::Offsets::few), unfolding(crate::specs::Check::checked))]
 pub fn check_script(mask: &[u8], script: &[u8], room: usize) -> Result<(), Refused>
     ensures { told result ≡ checked mask.now script.now room }
 {
