@@ -19,7 +19,8 @@ pub enum Verdict {
     Failed { fault: u8, address: u16, level: u8 },
 }
 
-// The mark byte of each address: the flags of its three codes, as bits.
+// The mark byte of each address: the flags of its three codes, as bits. By index: behind `marks.iter_mut().zip(..)` the proof
+// knows only the marks' length.
 #[tactic(auto, using(crate::proofs::Chunks::bits_at))]
 fn pack(seen: &[u8; PAIRS], marks: &mut [u8])
     requires marks_len { length marks.old ≡ marks_size }
