@@ -34,12 +34,10 @@ impl Walk {
         requires { (0 < place) × (place < pairs) }
         ensures { Before self.now.starts result place }
     {
-        let mut at = place - 1;
-        // No `for`: it would need an answer behind its end, which is never reached.
-        while place < self.starts[at as usize] {
-            at -= 1;
-        }
-        at
+        let found = self.starts[..place as usize]
+            .iter()
+            .rposition(|start| *start <= place);
+        found.unwrap_or(0) as u16
     }
 
     // How many places there are from place 0 on to this one.
