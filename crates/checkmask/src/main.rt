@@ -14,6 +14,7 @@ use checker::way::way;
 use files::read_file;
 use isa::decoder::decode;
 use isa::{ADDRESSES, Instruction, PLACES};
+use mnemonic::letters::digit;
 use mnemonic::line::{placed, text_of};
 use rom::reader::{Code, MASK, code_at, moved_by};
 use std::io;
@@ -22,22 +23,34 @@ use std::io::{BufWriter, Write};
 // A list with room for a way through every pair: three bytes each, an address in three levels.
 const WAY: usize = PLACES * 3 * 3;
 
+// The lines of the way are written as bytes, their digits by `digit`: by `write!` a run that prints a long way took up to 1.69 times the instructions
+// (docs/DESIGN-PASS.md, "Speed").
+fn put_address<W: Write>(out: &mut W, at: u16) -> io::Result<()> {
+    out.write_all(&[digit(at / 256), digit(at / 16), digit(at)])
+}
+
+fn put_byte<W: Write>(out: &mut W, x: u8) -> io::Result<()> {
+    out.write_all(&[digit(x as u16 / 16), digit(x as u16)])
+}
+
 // Padded to the longest word.
 fn put_level<W: Write>(out: &mut W, level: u8) -> io::Result<()> {
     match level {
-        0 => write!(out, " main       "),
-        1 => write!(out, " subroutine "),
-        _ => write!(out, " interrupt  "),
+        0 => out.write_all(b" main       "),
+        1 => out.write_all(b" subroutine "),
+        _ => out.write_all(b" interrupt  "),
     }
 }
 
 // As many bytes as the list of lengths has for the first one; one where it has none.
 fn put_bytes<W: Write>(out: &mut W, code: Code, length: u8) -> io::Result<()> {
-    write!(out, "{:02X}", code.first)?;
+    put_byte(out, code.first)?;
     if length == 2 {
-        write!(out, " {:02X} ", code.second)
+        out.write_all(b" ")?;
+        put_byte(out, code.second)?;
+        out.write_all(b" ")
     } else {
-        write!(out, "    ")
+        out.write_all(b"    ")
     }
 }
 
@@ -48,16 +61,16 @@ fn put_instruction<W: Write>(out: &mut W, instruction: Instruction) -> io::Resul
 // A line of the way.
 fn put_pair<W: Write>(out: &mut W, mask: &[u8], at: u16, level: u8) -> io::Result<()> {
     let address = at % ADDRESSES;
-    write!(out, "{address:03X}")?;
+    put_address(out, address)?;
     put_level(out, level)?;
     let code = code_at(mask, address);
     let length = rom::timing::length(code.first);
     put_bytes(out, code, length)?;
     match decode(code.first, code.second) {
         Some(instruction) => put_instruction(out, placed(instruction, moved_by(address, length)))?,
-        None => write!(out, "cannot be read")?,
+        None => out.write_all(b"cannot be read")?,
     }
-    writeln!(out)
+    out.write_all(b"\n")
 }
 
 // Each pair's three bytes: its address, the low byte first, and its level.
