@@ -1,19 +1,20 @@
 -- What the library finds in a text, by the definitions' words: a word, spaces, and the place of a word. Assumes nothing.
 use Prim.Native.Nat.{ℕ, suc, ◌+◌}
 use mathlib.Core.Path.{◌≡◌, refl, sym, ap, ◌∙◌}
-use mathlib.Core.Bool.{Bool, true, false}
+use mathlib.Core.Bool.{Bool, true, false, ◌&&◌, not}
 use mathlib.Core.List.{List, [], ◌∷◌, map}
 use native.Mathlib.Nat.{add-suc, add-zero, suc-add, zero-add}
 use native.Mathlib.Numerals.{add-one}
 use native.Mathlib.Omega.{arith}
-use borrow.Author.Tests.{le-ltb, lt-ltb, ltb-false, ltb-true}
+use borrow.Author.Tests.{eqb-true, le-ltb, lt-ltb, ltb-false, ltb-true}
 use lib.Dec.{eqb, ltb}
-use lib.ListN.{length, take}
+use lib.ListN.{drop, length, take}
 use Rattle.std.specs.Prelude.{is_some, Option, Some, None, unwrap_or}
-use Rattle.std.specs.List.{position_from, take_while}
+use Rattle.std.specs.Cmp.Lexicographic.{pointwise}
+use Rattle.std.specs.List.{list_all, position_from, take_while}
 use Rattle.std.proofs.lemmas.List.Sums.{take_while-cons}
 use Rattle.isa.specs.Choice.{pick}
-use Rattle.operand.specs.Text.{in_word}
+use Rattle.operand.specs.Text.{begins, in_word}
 use Rattle.operand.specs.Words.{among, place, same}
 use Rattle.operand.specs.Read.{found_in, run, spaces}
 use Rattle.operand.proofs.Texts.{case, differ, run_take}
@@ -28,6 +29,22 @@ take_run s = rw (run-is s) (run_take s)
 pub spaces_are : (s : List ℕ) → length (take_while (λ (c : ℕ). eqb c 32) s) ≡ spaces s
 spaces_are [] = refl
 spaces_are (c ∷ s) = ap length (take_while-cons (λ (d : ℕ). eqb d 32) c s) ∙ case (eqb c 32) (λ e. rw e (ap suc (spaces_are s))) (λ e. rw e refl)
+
+-- the word that a text starts with is this one where it has this one's characters, all of them a word's, and none follows
+and-false : (b : Bool) → (b && false) ≡ false
+and-false true = refl
+and-false false = refl
+
+pub is-first : (s name : List ℕ)
+    → same (run s) name ≡ (pointwise eqb (take (length name) s) name && (not (begins (drop (length name) s)) && list_all in_word name))
+is-first [] [] = refl
+is-first (c ∷ s) [] = case (in_word c) (λ e. rw e refl) (λ e. rw e refl)
+is-first [] (d ∷ n) = refl
+is-first (c ∷ s) (d ∷ n) = case (eqb c d)
+    (λ e. let g : in_word c ≡ in_word d = ap in_word (eqb-true c d e) in
+    case (in_word d) (λ f. rw (g ∙ f, e, f) (is-first s n))
+    (λ f. rw (g ∙ f, e, f, and-false (not (begins (drop (length n) s))), and-false (pointwise eqb (take (length n) s) n)) refl))
+    (λ e. rw e (case (in_word c) (λ f. rw (f, e) refl) (λ f. rw f refl)))
 
 -- a word found among others stands at its place
 ltb-suc : (m n : ℕ) → ltb (suc m) (suc n) ≡ ltb m n

@@ -1,8 +1,9 @@
 // Characters, and the words that they make.
 ghost use Rattle.std.specs.Prelude.{◌≡◌, drop, eqb, length};
-ghost use Rattle.std.specs.List.{take_while};
-ghost use Rattle.operand.specs.Text.{in_word};
-ghost use Rattle.operand.specs.Read.{past_spaces, word_at};
+ghost use Rattle.std.specs.List.{list_all, take_while};
+ghost use Rattle.operand.specs.Text.{begins, in_word};
+ghost use Rattle.operand.specs.Words.{same};
+ghost use Rattle.operand.specs.Read.{past_spaces, run, word_at};
 
 // Letters and digits.
 #[tactic(auto, unfolding(crate::specs::Text::in_word))]
@@ -33,6 +34,46 @@ pub fn word(text: &[u8], at: usize) -> &[u8]
 {
     let rest = rest(text, at);
     &rest[..word_length(rest)]
+}
+
+// Whether a word goes on here.
+fn goes_on(text: &[u8]) -> bool
+    ensures { result ≡ begins text.now }
+{
+    text.first().is_some_and(|c| in_word(*c))
+}
+
+fn is_word(name: &[u8]) -> bool
+    ensures { result ≡ list_all in_word name.now }
+{
+    name.iter().all(|c| in_word(*c))
+}
+
+fn is_whole(text: &[u8], name: &[u8]) -> bool
+    ensures { result ≡ same (run text.now) name.now }
+{
+    match text.strip_prefix(name) {
+        Some(after) => !goes_on(after) && is_word(name),
+        None => false,
+    }
+}
+
+// Whether the word that a text starts with is this one: characters are read up to the first that differs. Most labels differ in their first,
+// which is looked at by itself: the rest is a call.
+fn is_first(text: &[u8], name: &[u8]) -> bool
+    ensures { result ≡ same (run text.now) name.now }
+{
+    match (text.first(), name.first()) {
+        (Some(c), Some(d)) if *c != *d => false,
+        _ => is_whole(text, name),
+    }
+}
+
+// Whether the word that starts here is this one.
+pub(crate) fn begins_with(text: &[u8], at: usize, name: &[u8]) -> bool
+    ensures { result ≡ same (word_at text.now at) name.now }
+{
+    is_first(rest(text, at), name)
 }
 
 // How many spaces a text starts with.

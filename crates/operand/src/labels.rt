@@ -4,7 +4,7 @@ ghost use Rattle.std.specs.List.{position_from};
 ghost use Rattle.operand.specs.Words.{same};
 ghost use Rattle.operand.specs.Read.{address_in, names_of, word_at};
 
-use crate::characters::word;
+use crate::characters::{begins_with, word};
 
 // Labels that may be looked up; one past the end of `addresses` has 0. No slice of pairs: a pass writes the addresses while it reads the
 // starts. No invariant bounds the text: `operand`, which docs/DECISIONS.md names, takes any, and gives None for one that is too long.
@@ -21,13 +21,13 @@ pub(crate) fn is_same(a: &[u8], b: &[u8]) -> bool
     a == b
 }
 
-// The place of a word among labels.
+// The place of a word among labels. Of a label no more is read than of the word: a long one costs no more than a short one.
 pub fn find(text: &[u8], starts: &[u16], name: &[u8]) -> Option<usize>
     ensures { result ≡ position_from (λ start. same (word_at text.now start) name.now) 0 starts.now }
 {
     starts
         .iter()
-        .position(|start| is_same(word(text, *start as usize), name))
+        .position(|start| begins_with(text, *start as usize, name))
 }
 
 // The address of the label whose word stands here.
