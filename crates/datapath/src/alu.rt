@@ -10,14 +10,21 @@ pub struct Sum {
     pub carry: u8,
 }
 
-// ADD and ADC: the sum modulo 16, and a carry when it is over 15.
+// ADD and ADC: the sum modulo 16, and a carry when it is over 15. Its two answers, and the two of `subtract`, stand apart: with the carry by
+// `u8::from` and `saturating_sub` every step of a Run takes six instructions more (docs/PERFORMANCE.md).
 pub fn add(a: u8, b: u8, c: u8) -> Sum
     ensures { result ≡ summed a b c }
 {
     let total = a as u16 + b as u16 + c as u16;
+    if 15 < total {
+        return Sum {
+            value: (total % 16) as u8,
+            carry: 1,
+        };
+    }
     Sum {
         value: (total % 16) as u8,
-        carry: u8::from(15 < total),
+        carry: 0,
     }
 }
 
@@ -25,7 +32,10 @@ pub fn add(a: u8, b: u8, c: u8) -> Sum
 pub fn subtract(a: u8, b: u8, c: u8) -> Sum
     ensures { result ≡ subtracted a b c }
 {
-    add(a, 15u8.saturating_sub(b), c)
+    if b < 16 {
+        return add(a, 15 - b, c);
+    }
+    add(a, 0, c)
 }
 
 // DAA.

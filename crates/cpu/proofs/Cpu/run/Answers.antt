@@ -83,7 +83,7 @@ returns-then-current-ne0-2 c =
     let e = stop mask left now went.new.gap (stopped-faulted went.result c.if-current-ne0.false c.if-current-ne0-2.true) in
     record { memory_after = e.0 ∙ onwards.0 ∙ c.loop.invariant.0; gap_after = e.1 ∙ onwards.1 ∙ c.loop.invariant.1 }
 
-pub returns-after-loop : goal.returns-after-loop
-returns-after-loop c =
+pub returns : goal.returns
+returns c =
     let e = none c.args.mask.now (c.args.steps - c.loop.counter) (state c.loop.current c.loop.memory) c.loop.gap (omega arith) in
     record { memory_after = e.0 ∙ c.loop.invariant.0; gap_after = e.1 ∙ c.loop.invariant.1 }
