@@ -7,5 +7,6 @@ pub mod Marks
 pub mod Pairs
 pub mod Rows
 pub mod Stops
+pub mod Texts
 pub mod Turns
 pub mod Walks

@@ -13,19 +13,15 @@ use Rattle.glass.specs.Laws.{TextTells}
 use Rattle.glass.specs.declared.Reading.{Reading}
 use Rattle.glass.specs.declared.Reading.TheVariants.{Dark, Number}
 use Rattle.glass.proofs.Laws.{numerals-of, drawn-size, drawn-count, signed-size}
-
--- each character is one byte, and none is 0
-abbrev Characters : List ℕ → Type 0
-Characters [] = Unit {0}
-Characters (x ∷ xs) = ((0 < x) × (x < 256)) × Characters xs
+use Rattle.glass.proofs.Texts.{Characters, written-characters}
 
 packed-tells : (xs ys : List ℕ) → Characters xs → Characters ys → packed xs ≡ packed ys → xs ≡ ys
 packed-tells [] [] h k e = refl
 packed-tells [] (y ∷ ys) h k e = absurd (let p = k.0.0 in omega (arith, e, p))
 packed-tells (x ∷ xs) [] h k e = absurd (let p = h.0.0 in omega (arith, e, p))
 packed-tells (x ∷ xs) (y ∷ ys) h k e =
-    let p = h.0.1 in
-    let q = k.0.1 in
+    let p : x < 256 = let l = h.0.1 in omega (arith, l) in
+    let q : y < 256 = let l = k.0.1 in omega (arith, l) in
     let same : x ≡ y = low x (packed xs) p ∙ ap (λ (n : ℕ). n % 256) e ∙ sym (low y (packed ys) q) in
     ap₂ {C = List ℕ} (λ (a : ℕ) (s : List ℕ). a ∷ s) same (packed-tells xs ys h.1 k.1 (omega (arith, e, same)))
   where
@@ -70,23 +66,6 @@ not-dark : (b : Bool) (ds : List Digit) (xs : List ℕ) → Numerals ds → cond
 not-dark true ds xs ns e = let k : ◌≡◌ {A = ℕ} 45 100 = cc in omega (arith, k)
 not-dark false [] xs ns e = cc
 not-dark false (d ∷ ds) xs ns e = let k : 48 + d.numeral ≡ 100 = cc in let h = ns.0 in omega (arith, k, h)
-
--- the characters
-digits-characters : (ds : List Digit) → Numerals ds → Characters (spelt ds)
-digits-characters [] ns = tt
-digits-characters (d ∷ ds) ns = let h = ns.0 in ((omega arith, omega (arith, h)), go d.pointed (digits-characters ds ns.1))
-  where
-    go : (b : Bool) → Characters (spelt ds) → Characters (cond b (46 ∷ []) [] ++ spelt ds)
-    go true k = ((omega arith, omega arith), k)
-    go false k = k
-
-written-characters : (r : Reading) → Characters (written r)
-written-characters Dark = ((omega arith, omega arith), ((omega arith, omega arith), ((omega arith, omega arith), ((omega arith, omega arith), tt))))
-written-characters (Number v c) = go (is_negative v) (digits-characters (digits_of (fewest (nat_abs v) c) (nat_abs v) c) (numerals-of (fewest (nat_abs v) c) (nat_abs v) c))
-  where
-    go : (b : Bool) → Characters (spelt (digits_of (fewest (nat_abs v) c) (nat_abs v) c)) → Characters (cond b (45 ∷ []) [] ++ spelt (digits_of (fewest (nat_abs v) c) (nat_abs v) c))
-    go true k = ((omega arith, omega arith), k)
-    go false k = k
 
 written-tells : (r t : Reading) → fitting r ≡ true → fitting t ≡ true → written r ≡ written t → r ≡ t
 written-tells Dark Dark f g e = refl

@@ -12,12 +12,22 @@ pub(crate) struct Figure {
     ghost few: { digits ≤ 4 },
 }
 
+const POWERS: [u32; 5] = [1, 10, 100, 1000, 10000];
+
+// A power of ten, by a table: `pow` multiplies for each digit that is drawn or written.
+fn power(n: u8) -> u32
+    requires { n ≤ 4 }
+    ensures { result ≡ 10 ^ n }
+{
+    POWERS[usize::from(n)]
+}
+
 // Whether `n` digits hold a number, with one before the point.
 fn enough(size: u32, places: u8, n: u8) -> bool
     requires { n ≤ 4 }
     ensures { result ≡ enough size places n }
 {
-    size < 10u32.pow(u32::from(n)) && places < n
+    size < power(n) && places < n
 }
 
 // The fewest digits; 5 where four are not enough, and no Option, since `fewest` of the definitions says so.
@@ -65,7 +75,7 @@ impl Figure {
         requires { after ≤ 3 }
         ensures { result ≡ self.size / 10 ^ after % 10 }
     {
-        (self.size / 10u32.pow(u32::from(after)) % 10) as u8
+        (self.size / power(after) % 10) as u8
     }
 
     // Whether the point is lit on it.

@@ -8,7 +8,7 @@ mod figure;
 pub mod read;
 mod shapes;
 mod signed;
-mod text;
+pub mod text;
 
 use refusals::Refusal;
 
