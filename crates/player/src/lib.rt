@@ -3,13 +3,15 @@
 // are written.
 #![tactic(auto)]
 
-ghost use Rattle.std.specs.Prelude.{◌≡◌, ℕ, List, IfOk, OnOk};
+ghost use Rattle.std.specs.Prelude.{◌≡◌, ℕ, List, [], ◌∷◌, ◌++◌, take, IfOk, OnOk};
 ghost use Rattle.std.specs.Io.KnownBytes.{Appends};
+ghost use Rattle.glass.specs.Walk.{place_in};
 ghost use Rattle.machine.specs.declared.Machine.{Machine};
 ghost use Rattle.script.specs.Check.{checked, told};
 ghost use Rattle.player.specs.Shown.{SightLine, report_line};
 
 use glass::Unseen;
+use glass::text::text;
 use machine::Machine;
 use machine_glass::sight_of;
 use records::Records;
@@ -45,6 +47,15 @@ impl Show for Reports {
     }
 }
 
+// The characters of a text's bytes, which end before the first 0, and the line's end. As bytes: a `str` would be checked each time.
+fn put_line<W: Write>(out: &mut W, text: &[u8; 8]) -> io::Result<()>
+    ensures { OnOk result (Appends (W.contents out.old) (W.contents out.new) (take (place_in text.now 0) text.now ++ (10 ∷ []))) }
+{
+    let end = text.iter().position(|byte| *byte == 0).unwrap_or(8);
+    out.write_all(&text[..end])?;
+    out.write_all(b"\n")
+}
+
 // What an operator sees.
 #[derive(Clone, Copy)]
 pub struct Readings;
@@ -54,7 +65,7 @@ impl Show for Readings {
 
     fn show<W: Write>(&self, out: &mut W, machine: Machine) -> io::Result<()> {
         match sight_of(machine) {
-            Ok(Ok(reading)) => writeln!(out, "{reading}"),
+            Ok(Ok(reading)) => put_line(out, &text(reading).to_le_bytes()),
             Ok(Err(Unseen::Unreadable(digit))) => writeln!(out, "unreadable at digit {digit}"),
             // A machine in range has eight nibbles, none over 15.
             _ => writeln!(out),
