@@ -5,6 +5,7 @@
 #![tactic(auto)]
 
 use isa::decoder::decode;
+use mnemonic::letters::digit;
 use mnemonic::line::{placed, text_of};
 use refusals::Refusal;
 use rom::encoder::{Written, encode};
@@ -12,29 +13,51 @@ use rom::timing::{cycles, length};
 use std::io;
 use std::io::{BufWriter, Write};
 
+// A byte's two digits. Bytes, lengths and cycles are put by hand, for speed: by a `write!` for each, a line takes three times the instructions.
+fn put_byte<W: Write>(out: &mut W, x: u8) -> io::Result<()> {
+    let x = u16::from(x);
+    out.write_all(&[digit(x / 16), digit(x)])
+}
+
 // What the encoder makes of an instruction.
 fn put_written<W: Write>(out: &mut W, written: Result<Written, Refusal>) -> io::Result<()> {
     match written {
-        Ok(Written::One(a)) => write!(out, "{a:02X}"),
-        Ok(Written::Two(a, b)) => write!(out, "{a:02X} {b:02X}"),
-        Err(_) => write!(out, "refused"),
+        Ok(Written::One(a)) => put_byte(out, a),
+        Ok(Written::Two(a, b)) => {
+            put_byte(out, a)?;
+            out.write_all(b" ")?;
+            put_byte(out, b)
+        }
+        Err(_) => out.write_all(b"refused"),
     }
 }
 
+// The length and cycles of a first byte.
+fn put_timing<W: Write>(out: &mut W, first: u8) -> io::Result<()> {
+    let size = digit(u16::from(length(first)));
+    let spent = digit(u16::from(cycles(first)));
+    out.write_all(&[b' ', size, b' ', spent, b' '])
+}
+
 fn put_line<W: Write>(out: &mut W, first: u8, second: u8) -> io::Result<()> {
-    let size = length(first);
-    let spent = cycles(first);
-    write!(out, "{first:02X} {second:02X} ")?;
+    put_byte(out, first)?;
+    out.write_all(b" ")?;
+    put_byte(out, second)?;
+    out.write_all(b" ")?;
     match decode(first, second) {
         Some(instruction) => {
             let shown = placed(instruction, 16 * (second as u16));
             out.write_all(text_of(shown).as_slice())?;
-            write!(out, " {size} {spent} ")?;
+            put_timing(out, first)?;
             put_written(out, encode(instruction))?;
         }
-        None => write!(out, "unreadable {size} {spent} -")?,
+        None => {
+            out.write_all(b"unreadable")?;
+            put_timing(out, first)?;
+            out.write_all(b"-")?;
+        }
     }
-    writeln!(out)
+    out.write_all(b"\n")
 }
 
 fn main(rt: HostRuntime) -> io::Result<()> {

@@ -9,74 +9,108 @@ use datapath::memory::MEMORY;
 use machine::Answer;
 use machine::ranges::all_nibbles;
 use refusals::Refusal;
+use std::io;
 use std::io::Write;
-use std::{fmt, io};
 
-// Numbers that are to be nibbles, one after the other.
-#[derive(Clone, Copy)]
-struct Nibbles<'a>(&'a [u8]);
-
-impl fmt::Display for Nibbles<'_> {
-    fn fmt<W: fmt::Write>(&self, f: &mut fmt::Formatter<W>) -> fmt::Result {
-        for x in self.0 {
-            if *x < 16 {
-                write!(f, "{x:X}")?;
-            } else {
-                write!(f, "({x:02X})")?;
-            }
-        }
-        Ok(())
-    }
+// The last digit of a number. Digits are put by hand, for speed: by a `write!` for each number, a line takes up to 14 times the instructions.
+fn digit(x: u8) -> u8 {
+    let d = x % 16;
+    if d < 10 { b'0' + d } else { b'A' + (d - 10) }
 }
 
-fn put_cpu<W: Write>(out: &mut W, cpu: Cpu) -> io::Result<()> {
+// Numbers that are to be nibbles, one after the other.
+fn put_nibbles<W: Write>(out: &mut W, numbers: &[u8]) -> io::Result<()> {
+    for x in numbers {
+        if *x < 16 {
+            out.write_all(&[digit(*x)])?;
+        } else {
+            out.write_all(&[b'(', digit(*x / 16), digit(*x), b')'])?;
+        }
+    }
+    Ok(())
+}
+
+// A number's bytes, the highest first.
+fn put_bytes<W: Write>(out: &mut W, bytes: &[u8]) -> io::Result<()> {
+    for x in bytes {
+        out.write_all(&[digit(*x / 16), digit(*x)])?;
+    }
+    Ok(())
+}
+
+fn put_space<W: Write>(out: &mut W) -> io::Result<()> {
+    out.write_all(b" ")
+}
+
+fn put_working<W: Write>(out: &mut W, cpu: Cpu) -> io::Result<()> {
     let r = cpu.registers;
-    write!(out, " {}", Nibbles(&[r.acc, r.r0, r.r1, r.r2, r.r3, r.r4]))?;
+    put_space(out)?;
+    put_nibbles(out, &[r.acc, r.r0, r.r1, r.r2, r.r3, r.r4])?;
     let c = cpu.control;
-    write!(out, " {:04X} {}", c.pc.0, Nibbles(&[c.cf, c.tf]))?;
+    put_space(out)?;
+    put_bytes(out, &c.pc.0.to_be_bytes())?;
+    put_space(out)?;
+    put_nibbles(out, &[c.cf, c.tf])?;
     let t = cpu.timer;
-    write!(out, " {:02X}{}", t.count, Nibbles(&[t.running]))?;
+    put_space(out)?;
+    put_bytes(out, &[t.count])?;
+    put_nibbles(out, &[t.running])?;
     let i = cpu.interrupts;
-    write!(out, " {}", Nibbles(&[i.enabled, i.held, i.level]))?;
+    put_space(out)?;
+    put_nibbles(out, &[i.enabled, i.held, i.level])?;
     let s = cpu.stack;
-    write!(out, " {:04X}{}", s.address.0, Nibbles(&[s.carry]))?;
+    put_space(out)?;
+    put_bytes(out, &s.address.0.to_be_bytes())?;
+    put_nibbles(out, &[s.carry])?;
     let s = cpu.status;
-    write!(out, " {}", Nibbles(&[s.halted, s.fault]))?;
+    put_space(out)?;
+    put_nibbles(out, &[s.halted, s.fault])
+}
+
+fn put_ports<W: Write>(out: &mut W, cpu: Cpu) -> io::Result<()> {
     let o = cpu.outputs;
-    write!(
-        out,
-        " {}{:02X}{}",
-        Nibbles(&[o.pa]),
-        o.channel,
-        Nibbles(&[o.mode])
-    )?;
+    put_space(out)?;
+    put_nibbles(out, &[o.pa])?;
+    put_bytes(out, &[o.channel])?;
+    put_nibbles(out, &[o.mode])?;
     let p = cpu.pins;
-    write!(out, " {}", Nibbles(&[p.pm, p.ps, p.pp, p.int]))?;
+    put_space(out)?;
+    put_nibbles(out, &[p.pm, p.ps, p.pp, p.int])?;
     let o = cpu.options;
-    write!(
-        out,
-        " {:02X}{}",
-        o.rate,
-        Nibbles(&[o.commons, o.pm, o.ps, o.pp])
-    )?;
-    write!(out, " {:08X}", cpu.cycles)
+    put_space(out)?;
+    put_bytes(out, &[o.rate])?;
+    put_nibbles(out, &[o.commons, o.pm, o.ps, o.pp])
+}
+
+// The last digit of each number, all of them in one write. They are turned in place, which takes many at once; a `map` takes one by one.
+fn put_digits<W: Write>(out: &mut W, memory: &[u8; MEMORY]) -> io::Result<()> {
+    let mut text = *memory;
+    for x in &mut text {
+        *x = digit(*x);
+    }
+    put_space(out)?;
+    out.write_all(&text)
 }
 
 fn put_memory<W: Write>(out: &mut W, memory: &[u8; MEMORY]) -> io::Result<()> {
-    write!(out, " {}", Nibbles(&memory.map(|x| x % 16)))?;
+    put_digits(out, memory)?;
     if !all_nibbles(memory) {
-        write!(out, " {}", Nibbles(&memory.map(|x| x / 16)))?;
+        put_digits(out, &memory.map(|x| x / 16))?;
     }
     Ok(())
 }
 
 pub fn put_answer<W: Write>(out: &mut W, answer: Answer) -> io::Result<()> {
     let machine = answer.machine;
-    write!(out, "{}", Nibbles(&[answer.refusal]))?;
-    put_cpu(out, machine.cpu)?;
-    write!(out, " {:04X}", machine.trace.gap)?;
+    put_nibbles(out, &[answer.refusal])?;
+    put_working(out, machine.cpu)?;
+    put_ports(out, machine.cpu)?;
+    put_space(out)?;
+    put_bytes(out, &machine.cpu.cycles.to_be_bytes())?;
+    put_space(out)?;
+    put_bytes(out, &machine.trace.gap.to_be_bytes())?;
     put_memory(out, &machine.memory)?;
-    writeln!(out)
+    out.write_all(b"\n")
 }
 
 pub fn put_count<W: Write>(out: &mut W, answer: Result<u16, Refusal>) -> io::Result<()> {
@@ -84,5 +118,8 @@ pub fn put_count<W: Write>(out: &mut W, answer: Result<u16, Refusal>) -> io::Res
         Ok(count) => (0, count),
         Err(refusal) => (u8::from(refusal), 0),
     };
-    writeln!(out, "{} {count:04X}", Nibbles(&[number]))
+    put_nibbles(out, &[number])?;
+    put_space(out)?;
+    put_bytes(out, &count.to_be_bytes())?;
+    out.write_all(b"\n")
 }
