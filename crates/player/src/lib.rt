@@ -10,17 +10,18 @@ ghost use Rattle.machine.specs.declared.Machine.{Machine};
 ghost use Rattle.script.specs.Check.{checked, told};
 ghost use Rattle.player.specs.Shown.{SightLine, report_line};
 
+mod steps;
+
 use glass::Unseen;
 use glass::text::text;
 use machine::Machine;
 use machine_glass::sight_of;
-use records::Records;
 use script::Refused;
-use script::apply::step_record;
 use script::check::check_script;
 use script::hex::hex_line;
 use std::io;
 use std::io::Write;
+use steps::Steps;
 
 // Room for more records than 65,535 bytes can hold: a program keeps no reports and never meets refusal 9.
 const ROOM: usize = 3145728;
@@ -73,20 +74,14 @@ impl Show for Readings {
     }
 }
 
-// A script that was checked has no record that is refused.
+// Record by record.
 fn put_records<W: Write, S: Show>(
     out: &mut W,
     mask: &[u8],
     script: &[u8],
     shown: &S,
 ) -> io::Result<()> {
-    let mut machine = Machine::blank();
-    for record in Records::new(script) {
-        let step = step_record(mask, script, record.at, machine);
-        if step.refusal != 0 {
-            return Ok(());
-        }
-        machine = step.machine;
+    for machine in Steps::new(mask, script) {
         shown.show(out, machine)?;
     }
     Ok(())
