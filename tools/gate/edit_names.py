@@ -13,10 +13,10 @@ START, WITHIN = r"(?<![\w'·«])[^\W\d]", r"[\w'·-]*"
 NAME = re.compile(rf"{START}{WITHIN}")
 LITERALS = re.compile(r"""b?"(?:\\.|[^"\\])*"|b'(?:\\.|[^'\\])'""")
 COMMENT = {".rt": re.compile(r"//[^\n]*|/\*.*?\*/", re.S), "antt": re.compile(r"(?<!\S)--[^\n]*")}
-# words of the two languages, antt's tactics among them, and what no file imports; `rev` of std, which edits call and no crate does
+# words of the two languages, antt's tactics among them, and what no file imports
 KNOWN = set(
     "λ in let where with record data abbrev use as of mod pub if else match return while loop for break continue fn mut true false"
-    " omega rw cc search absurd tt u8 u16 u32 u64 usize i8 i16 i32 i64 isize bool Some None Ok Err rev _".split()
+    " omega rw cc search absurd tt u8 u16 u32 u64 usize i8 i16 i32 i64 isize bool Some None Ok Err _".split()
 )
 
 
