@@ -1,14 +1,20 @@
 -- What the passes leave and need: for contracts inside this crate alone, `assemble` promises nothing of it. Assumes nothing.
-use Rattle.std.specs.Prelude.{ℕ, ◌+◌, ◌≤◌, ◌<◌, ◌≡◌, List, length, drop, take, Result, Ok, Err, IfErr}
+use Rattle.std.specs.Prelude.{ℕ, ◌+◌, ◌≤◌, ◌<◌, ◌≡◌, List, length, ltb, drop, take, Option, Some, None, Result, Ok, Err, IfErr}
+use Rattle.isa.specs.Choice.{pick}
 use Rattle.operand.specs.Read.{names_at, up_to_lf}
 use Rattle.refusals.specs.declared.Refusal.{Refusal}
 use Rattle.refusals.specs.declared.Refusal.TheVariants.{Label, Operand}
 use Rattle.assembler.specs.Statement.{Statement}
 use Rattle.assembler.specs.Program.{end, first, line_of, mislabelled, misplaced, program, start, unread}
+use Rattle.assembler.specs.declared.places.Place.{Place}
 use Rattle.assembler.specs.declared.refused.Refused.{Refused}
 
 abbrev pub line_end : List ℕ → ℕ → ℕ
 line_end text at = at + length (up_to_lf (drop at text))
+
+-- the line after one that ends in LF
+abbrev pub following : List ℕ → Place → Option Place
+following text p = pick (ltb (line_end text p.at) (length text)) (Some (record { at = line_end text p.at + 1; number = p.number + 1 })) None
 
 -- a pass refuses for this reason alone, at some line
 abbrev pub Refuses : {A : Type 0} → Refusal → Result A Refused → Type 0

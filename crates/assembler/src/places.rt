@@ -1,8 +1,8 @@
 // The lines of a text: where each starts, and its number.
-ghost use Rattle.std.specs.Prelude.{◌≡◌, not, ◌+◌, ◌<◌, ◌≤◌, eqb, length, Some};
+ghost use Rattle.std.specs.Prelude.{◌≡◌, not, ◌+◌, ◌*◌, ◌<◌, ◌≤◌, eqb, length, None};
 ghost use Rattle.std.specs.List.{take_while};
 ghost use Rattle.std.specs.Option.{ForSome};
-ghost use Rattle.assembler.specs.Passing.{line_end};
+ghost use Rattle.assembler.specs.Passing.{following, line_end};
 
 // Where a line starts, and its number, from 1.
 #[derive(Clone, Copy)]
@@ -26,48 +26,57 @@ fn line_end(text: &[u8], at: usize) -> usize
     at + line_length(&text[at..])
 }
 
-// The places of the lines that are left, of a text that is not too long: the next one's, and those of all that follow it.
+// The places of the lines that are left, of a text that is not too long. What is kept is the last one given, so that the end of a line is looked
+// for when the next one is wanted: a line that is refused is not read to its end.
 #[derive(Clone, Copy)]
 pub(crate) struct Places<'a> {
     text: &'a [u8],
-    next: Option<Place>,
+    last: Option<Place>,
     ghost short: { length text.now ≤ 65535 },
-    ghost inside: { ForSome next (λ p. (p.at ≤ length text.now) × (p.number ≤ p.at + 1)) },
+    ghost inside: { ForSome last (λ p. (p.at ≤ length text.now) × (p.number ≤ p.at + 1)) },
 }
 
 impl<'a> Places<'a> {
     pub(crate) fn new(text: &'a [u8]) -> Self
         requires { length text.now ≤ 65535 }
-        ensures { (result.text.now ≡ text.now) × (result.next ≡ Some (record { at = 0; number = 1 })) }
+        ensures { (result.text.now ≡ text.now) × (result.last ≡ None) }
     {
-        Places {
-            text,
-            next: Some(Place { at: 0, number: 1 }),
-        }
+        Places { text, last: None }
+    }
+}
+
+// The line after one that ends in LF.
+fn following(text: &[u8], last: Place) -> Option<Place>
+    requires { (length text.now ≤ 65535) × (last.at ≤ length text.now) × (last.number ≤ last.at + 1) }
+    ensures { result ≡ following text.now last }
+{
+    let end = line_end(text, last.at);
+    if end < text.len() {
+        Some(Place {
+            at: end + 1,
+            number: last.number + 1,
+        })
+    } else {
+        None
     }
 }
 
 impl<'a> Iterator for Places<'a> {
     ghost use Rattle.std.specs.Iterator.{at_most};
-    ghost use Rattle.assembler.specs.Places.{Steps, left};
+    ghost use Rattle.assembler.specs.Places.{Steps, coming, left};
 
     type Item = Place;
 
     ghost next_gives = { Steps };
 
-    ghost remaining = { λ places. at_most (left places.text.now places.next) };
+    ghost remaining = { λ places. at_most (left places.text.now (coming places.text.now places.last)) };
 
     fn next(&mut self) -> Option<Place> {
-        let place = self.next?;
-        let end = line_end(self.text, place.at);
-        self.next = if end < self.text.len() {
-            Some(Place {
-                at: end + 1,
-                number: place.number + 1,
-            })
-        } else {
-            None
+        let place = match self.last {
+            Some(last) => following(self.text, last)?,
+            None => Place { at: 0, number: 1 },
         };
+        self.last = Some(place);
         Some(place)
     }
 }

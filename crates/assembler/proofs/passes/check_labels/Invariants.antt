@@ -1,10 +1,11 @@
 use mathlib.Core.Path.{◌≡◌}
 use Rattle.assembler.specs.Program.{first, program, start}
 use Rattle.assembler.proofs.Checking.{Checking, faulty}
+use Rattle.assembler.specs.Places.{coming}
 use Rattle.assembler.proofs.Turning.{Turn}
 use Rattle.assembler.proofs.passes.check_labels.Given as goal
 
 abbrev pub invariant-loop-place : goal.invariant-loop-place
 invariant-loop-place l =
     (l.place-iterator.text.now ≡ l.labels.text.now)
-    × Turn (λ at number. Checking l.labels.text.now at number l.count) (0 ≡ first (faulty l.labels.text.now) start 1 (program l.labels.text.now)) l.place-iterator.next
+    × Turn (λ at number. Checking l.labels.text.now at number l.count) (0 ≡ first (faulty l.labels.text.now) start 1 (program l.labels.text.now)) (coming l.place-iterator.text.now l.place-iterator.last)
