@@ -36,21 +36,19 @@ fn place(list: &[&[u8]], word: &[u8]) -> Option<usize>
     list.iter().position(|known| is_same(*known, word))
 }
 
-// The fixed words, in the definition's order: a constant, since a list made at each use is most of what a word costs.
-const FIXED_WORDS: [&[u8]; 61] = [
-    b"ADD", b"A", b"R1R0", b"ADC", b"SUB", b"SBC", b"DAA", b"AND", b"OR", b"XOR", b"INC", b"R0",
-    b"R1", b"R2", b"R3", b"R4", b"R3R2", b"DEC", b"MOV", b"RL", b"RLC", b"RR", b"RRC", b"IN",
-    b"PM", b"PS", b"PP", b"OUT", b"PA", b"JMP", b"JC", b"JNC", b"JTMR", b"JA0", b"JA1", b"JA2",
-    b"JA3", b"JZ", b"JNZ", b"CALL", b"RET", b"RETI", b"CLC", b"STC", b"EI", b"DI", b"NOP",
-    b"TIMER", b"ON", b"OFF", b"TMRL", b"TMRH", b"READ", b"R4A", b"MR0A", b"READF", b"SOUND",
-    b"ONE", b"LOOP", b"HALT", b"ORG",
-];
-
 // The place of a word in the list of fixed words.
 fn fixed(word: &[u8]) -> Option<usize>
     ensures { result ≡ found_in fixed_words word.now }
 {
-    place(&FIXED_WORDS, word)
+    let list: [&[u8]; 61] = [
+        b"ADD", b"A", b"R1R0", b"ADC", b"SUB", b"SBC", b"DAA", b"AND", b"OR", b"XOR", b"INC",
+        b"R0", b"R1", b"R2", b"R3", b"R4", b"R3R2", b"DEC", b"MOV", b"RL", b"RLC", b"RR", b"RRC",
+        b"IN", b"PM", b"PS", b"PP", b"OUT", b"PA", b"JMP", b"JC", b"JNC", b"JTMR", b"JA0", b"JA1",
+        b"JA2", b"JA3", b"JZ", b"JNZ", b"CALL", b"RET", b"RETI", b"CLC", b"STC", b"EI", b"DI",
+        b"NOP", b"TIMER", b"ON", b"OFF", b"TMRL", b"TMRH", b"READ", b"R4A", b"MR0A", b"READF",
+        b"SOUND", b"ONE", b"LOOP", b"HALT", b"ORG",
+    ];
+    place(&list, word)
 }
 
 // The kind of a word.
