@@ -11,7 +11,7 @@ pub struct Sum {
 }
 
 // ADD and ADC: the sum modulo 16, and a carry when it is over 15. Its two answers, and the two of `subtract`, stand apart: with the carry by
-// `u8::from` and `saturating_sub` every step of a Run takes six instructions more (docs/PERFORMANCE.md).
+// `u8::from` and `saturating_sub` a step of a Run takes up to six instructions more (docs/PERFORMANCE.md).
 pub fn add(a: u8, b: u8, c: u8) -> Sum
     ensures { result ≡ summed a b c }
 {
