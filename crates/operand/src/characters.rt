@@ -60,7 +60,7 @@ fn is_whole(text: &[u8], name: &[u8]) -> bool
 
 // Whether the word that a text starts with is this one: characters are read up to the first that differs. Most labels differ in their first,
 // which is looked at by itself: the rest is a call.
-fn is_first(text: &[u8], name: &[u8]) -> bool
+pub(crate) fn is_first(text: &[u8], name: &[u8]) -> bool
     ensures { result ≡ same (run text.now) name.now }
 {
     match (text.first(), name.first()) {

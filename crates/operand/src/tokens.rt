@@ -3,10 +3,9 @@ ghost use Rattle.std.specs.Prelude.{◌≡◌};
 ghost use Rattle.std.specs.List.{position_from};
 ghost use Rattle.operand.specs.Text.{in_word};
 ghost use Rattle.operand.specs.Words.{fixed_words, same};
-ghost use Rattle.operand.specs.Read.{found_in, lexeme_at, word_kind};
+ghost use Rattle.operand.specs.Read.{found_in, lexeme_at, run, word_kind};
 
-use crate::characters::{in_word, skip, word};
-use crate::labels::is_same;
+use crate::characters::{in_word, is_first, skip, word};
 
 // What a token is.
 #[derive(Clone, Copy, Debug, PartialEq, Eq)]
@@ -29,26 +28,30 @@ pub struct Lexeme {
     pub next: usize,
 }
 
-// The place of a word in a list of words.
-fn place(list: &[&[u8]], word: &[u8]) -> Option<usize>
-    ensures { result ≡ position_from (λ known. same known.now word.now) 0 list.now }
+// The fixed words, with spaces behind the shorter ones. Slices would be a table of pointers, which an archive for C keeps where it can be written.
+const FIXED_WORDS: [[u8; 5]; 61] = [
+    *b"ADD  ", *b"A    ", *b"R1R0 ", *b"ADC  ", *b"SUB  ", *b"SBC  ", *b"DAA  ", *b"AND  ",
+    *b"OR   ", *b"XOR  ", *b"INC  ", *b"R0   ", *b"R1   ", *b"R2   ", *b"R3   ", *b"R4   ",
+    *b"R3R2 ", *b"DEC  ", *b"MOV  ", *b"RL   ", *b"RLC  ", *b"RR   ", *b"RRC  ", *b"IN   ",
+    *b"PM   ", *b"PS   ", *b"PP   ", *b"OUT  ", *b"PA   ", *b"JMP  ", *b"JC   ", *b"JNC  ",
+    *b"JTMR ", *b"JA0  ", *b"JA1  ", *b"JA2  ", *b"JA3  ", *b"JZ   ", *b"JNZ  ", *b"CALL ",
+    *b"RET  ", *b"RETI ", *b"CLC  ", *b"STC  ", *b"EI   ", *b"DI   ", *b"NOP  ", *b"TIMER",
+    *b"ON   ", *b"OFF  ", *b"TMRL ", *b"TMRH ", *b"READ ", *b"R4A  ", *b"MR0A ", *b"READF",
+    *b"SOUND", *b"ONE  ", *b"LOOP ", *b"HALT ", *b"ORG  ",
+];
+
+// The place of a word in a list of words of up to five characters.
+fn place(list: &[[u8; 5]], word: &[u8]) -> Option<usize>
+    ensures { result ≡ position_from (λ known. same (run known) word.now) 0 list.now }
 {
-    list.iter().position(|known| is_same(*known, word))
+    list.iter().position(|known| is_first(known, word))
 }
 
 // The place of a word in the list of fixed words.
 fn fixed(word: &[u8]) -> Option<usize>
     ensures { result ≡ found_in fixed_words word.now }
 {
-    let list: [&[u8]; 61] = [
-        b"ADD", b"A", b"R1R0", b"ADC", b"SUB", b"SBC", b"DAA", b"AND", b"OR", b"XOR", b"INC",
-        b"R0", b"R1", b"R2", b"R3", b"R4", b"R3R2", b"DEC", b"MOV", b"RL", b"RLC", b"RR", b"RRC",
-        b"IN", b"PM", b"PS", b"PP", b"OUT", b"PA", b"JMP", b"JC", b"JNC", b"JTMR", b"JA0", b"JA1",
-        b"JA2", b"JA3", b"JZ", b"JNZ", b"CALL", b"RET", b"RETI", b"CLC", b"STC", b"EI", b"DI",
-        b"NOP", b"TIMER", b"ON", b"OFF", b"TMRL", b"TMRH", b"READ", b"R4A", b"MR0A", b"READF",
-        b"SOUND", b"ONE", b"LOOP", b"HALT", b"ORG",
-    ];
-    place(&list, word)
+    place(&FIXED_WORDS, word)
 }
 
 // The kind of a word.

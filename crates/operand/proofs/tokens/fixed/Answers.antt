@@ -1,11 +1,12 @@
--- `operand::tokens::fixed` meets its contract: its list is the fixed words. Assumes nothing.
-use Rattle.std.proofs.Common.{ℕ, List, ◌≡◌, ◌∙◌}
-use Rattle.std.specs.List.{position_from}
-use Rattle.operand.specs.Words.{fixed_words, same}
+-- `operand::tokens::fixed` meets its contract: the words of its table are the fixed words. Assumes nothing.
+use Rattle.std.proofs.Common.{◌≡◌, ◌∙◌}
+use Rattle.operand.specs.Text.{in_word}
+use Rattle.operand.specs.Words.{fixed_words}
+use Rattle.operand.specs.Read.{run}
+use Rattle.operand.specs.declared.tokens.TheConstants.{FIXED_WORDS}
 use Rattle.operand.proofs.Scans.{found}
 use Rattle.operand.proofs.tokens.fixed.Goals as goal
 
 pub returns : goal.returns
-unfolding fixed_words
-returns c = let e : c.place.result ≡ position_from (λ (v : List ℕ). same v c.args.word.now) 0 fixed_words = c.place.ensures in
-    e ∙ found (λ (v : List ℕ). v) c.args.word.now fixed_words
+unfolding fixed_words in_word
+returns c = c.place.ensures ∙ found run c.args.word.now FIXED_WORDS
