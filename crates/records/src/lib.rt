@@ -36,12 +36,15 @@ impl<'a> RawRecord<'a> {
         self.bytes.get(i).copied().unwrap_or(0)
     }
 
-    // A little-endian number of two bytes.
+    // A little-endian number of two bytes, read at once where both are there.
     fn word(&self, i: usize) -> u16
         requires { i + 2 < 2 ^ 64 }
         ensures { result ≡ word_at self.now.bytes.now i }
     {
-        u16::from_le_bytes([self.byte(i), self.byte(i + 1)])
+        match self.bytes.get(i..i + 2) {
+            Some(both) => u16::from_le_bytes([both[0], both[1]]),
+            None => u16::from(self.byte(i)),
+        }
     }
 
     // The payload's length.

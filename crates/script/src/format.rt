@@ -26,6 +26,8 @@ fn options_of(raw: &RawRecord) -> Options
     }
 }
 
+// Inlined, since a record that is handed back in memory is stored in pieces and loaded in others, which costs more than reading it.
+#[inline(always)]
 #[tactic(auto, unfolding(crate::specs::Format::input_at))]
 pub(crate) fn read(raw: &RawRecord) -> Record
     ensures { input_of result ≡ input_at raw.now.bytes.now raw.now.at }
@@ -37,7 +39,7 @@ pub(crate) fn read(raw: &RawRecord) -> Record
     let a = raw.payload(0);
     let b = raw.payload(1);
     let c = raw.payload(2);
-    let count = u16::from_le_bytes([a, b]); // of the bytes at hand: read as a word a record takes 18 instructions more
+    let count = u16::from_le_bytes([a, b]); // of the bytes at hand
     Record::Other(event_of(kind, count, a, b, c))
 }
 
