@@ -12,16 +12,16 @@ ghost use Rattle.abi.specs.Forms.{numbers_of};
 
 use crate::names::instruction_of;
 use crate::numbers::numbers_of;
-use isa::ProgramAddress;
+use isa::{Instruction, ProgramAddress};
 use refusals::Refusal;
 use rom::encoder::{Written, encode};
-use rom::reader::{Fetched, read_at};
+use rom::reader::read_at;
 
 // What was read, as eight bytes, lowest first: a refusal and a fault, which are 0, the form, a, b in two, the length and the cycles.
-fn pack(fetched: Fetched) -> u64
-    ensures { result ≡ packed_named (numbers_of fetched.instruction) fetched.length fetched.cycles }
+fn pack(instruction: Instruction, length: u8, cycles: u8) -> u64
+    ensures { result ≡ packed_named (numbers_of instruction) length cycles }
 {
-    let numbers = numbers_of(fetched.instruction);
+    let numbers = numbers_of(instruction);
     let [low, high] = numbers.b.to_le_bytes();
     u64::from_le_bytes([
         0, // no refusal
@@ -30,8 +30,8 @@ fn pack(fetched: Fetched) -> u64
         numbers.a,
         low,
         high,
-        fetched.length,
-        fetched.cycles,
+        length,
+        cycles,
     ])
 }
 
@@ -47,7 +47,7 @@ pub fn read(mask: &[u8], address: u16) -> u64
     ensures { result ≡ read_number (fetching mask.now address) }
 {
     match read_at(mask, ProgramAddress(address)) {
-        Ok(Some(fetched)) => pack(fetched),
+        Ok(Some(fetched)) => pack(fetched.instruction, fetched.length, fetched.cycles),
         Ok(None) => 0x100, // fault 1
         Err(refusal) => u8::from(refusal) as u64,
     }
