@@ -15,7 +15,7 @@ pub struct Labels<'a> {
     pub addresses: &'a [u16],
 }
 
-// The place of a word among labels. Of a label no more is read than of the word: a long one costs no more than a short one.
+// The place of a word among labels. Of a label one character more is read than the word has, at most: a long one costs no more than a short one.
 pub fn find(text: &[u8], starts: &[u16], name: &[u8]) -> Option<usize>
     ensures { result ≡ position_from (λ start. same (word_at text.now start) name.now) 0 starts.now }
 {

@@ -1,5 +1,5 @@
 -- `operand::characters::is_whole` meets its contract. Assumes nothing.
-use Rattle.std.proofs.Common.{◌≡◌, ap, not, refl, sym, ◌∙◌}
+use Rattle.std.proofs.Common.{ap, not, refl, sym, ◌∙◌}
 use Rattle.operand.proofs.Scans.{is-first}
 use Rattle.operand.proofs.characters.is_whole.Goals as goal
 

@@ -1,5 +1,5 @@
 -- `operand::tokens::fixed` meets its contract: the words of its table are the fixed words. Assumes nothing.
-use Rattle.std.proofs.Common.{◌≡◌, ◌∙◌}
+use Rattle.std.proofs.Common.{◌∙◌}
 use Rattle.operand.specs.Text.{in_word}
 use Rattle.operand.specs.Words.{fixed_words}
 use Rattle.operand.specs.Read.{run}
